@@ -1,42 +1,51 @@
 -- Each tenant's parts of all nodes are those of the law of nodes.
-use Rattle.std.proofs.Common.{◌≡◌, ◌≢◌, ◌∙◌, ℕ, ◌*◌, ◌<◌, ◌≤◌, Bool, true, false, List, [], ◌∷◌, ◌++◌, length, map, cond, arith, refl, sym, ap, subst, inl, inr, append_assoc, append-nil, Some, None}
-use Rattle.std.specs.Prelude.{◌&&◌, not, nat_lt}
+use Rattle.std.proofs.Common.{◌≡◌, ◌≢◌, ◌∙◌, ℕ, ◌<◌, ◌≤◌, Bool, true, false, List, [], ◌∷◌, ◌++◌, length, map, cond, arith, refl, sym, ap, subst, inl, inr, append_assoc, append-nil, Some, None}
+use Rattle.std.specs.Prelude.{◌&&◌, ◌==◌, not, nat_lt, All, if◌then◌else◌}
 use Rattle.std.specs.Option.{option_to_list}
-use Rattle.std.proofs.lemmas.Bool.{cases_eq, and_parts, eq-eqb, ne_eqb, eqb-true, leb-true}
-use Rattle.std.proofs.lemmas.Nat.{div-mul-add, mod-mul-add}
-use Rattle.std.proofs.Math.Nat.{mod-lt, mul-le-mul_left, mul-le-mul_right}
+use Rattle.std.proofs.lemmas.Bool.{cases_Bool, cases_eq, eq-eqb, ne_eqb}
+use Rattle.std.proofs.lemmas.List.{length-take-le}
 use Rattle.gq_desk.specs.CheckedPlan.{CheckedPlan, row_at}
-use Rattle.gq_text.specs.Canonical.{IsPlan}
 use Rattle.gq_desk.specs.declared.plans.TenantRow.{TenantRow}
 use Rattle.gq_desk.specs.declared.volumes.VolumeRow.{VolumeRow}
+use Rattle.gq_cluster.specs.Facts.{OwnFact}
 use Rattle.gq_cluster.specs.Laws.{setting_of, StepsEnough}
+use Rattle.gq_facts.specs.Laws.{FitsFact}
 use Rattle.gq_replace.specs.Fleet.{new_fleet, all_node_steps}
-use Rattle.gq_replace.specs.Laws.{HomesStand, IsRight, Follows as FleetFollows}
-use Rattle.gq_replace.specs.Plans.{most_places, times, place_of, generation, node_at}
+use Rattle.gq_replace.specs.Laws.{IsRight, Follows as FleetFollows}
 use Rattle.gq_node.specs.declared.lost.TheConstants.{MOST_NUMBERS}
 use Rattle.gq_node.specs.Inputs.{Input, Asked, AskedPlan, Brought, Ticked, Looked, Joined as HeardJoined, Fetching, Fetched as WasFetched, does, after_all}
 use Rattle.gq_node.specs.Joining.{all_joined, tells_joined}
 use Rattle.gq_node.specs.Local.{Local, Doing}
-use Rattle.gq_node.specs.Nodes.{NodeWorld, Nodes, Event, Came, Started, site_in, site_at, new_nodes, takes_word, with_ready, after_word, after_doing, after_start, after_event, nodes_after, started, first_of as law_first, fact_list, all_steps, AllCanCome, AllOpen, SessionsStay}
-use Rattle.gq_node.specs.Resting.{recall_all, those_of, begun_local}
-use Rattle.gq_node.specs.Sites.{Here, Site, site_of, numbered, plan_in, session_state_place, session_generation, home_place, home_of, is_of_plan}
-use Rattle.gq_node.specs.Tables.{Agrees}
+use Rattle.gq_node.specs.Nodes.{NodeWorld, Nodes, Event, Came, Started, site_in, site_at, new_nodes, takes_word, with_ready, after_word, after_doing, after_start, after_event, nodes_after, first_of as law_first, fact_list, all_steps, AllCanCome, AllOpen}
+use Rattle.gq_node.specs.Resting.{IsAtRest, IsBare, recall_all, those_of, begun_local}
+use Rattle.gq_node.specs.Sites.{Here, Site, site_of, home_of, is_of_plan, home_place}
+use Rattle.gq_node.specs.Tables.{Tables, Agrees}
 use Rattle.gq_node.proofs.Events.{all_nodes_follow, all_nodes_serve}
+use Rattle.gq_node.proofs.Recalling.{all_behind}
+use Rattle.gq_node.proofs.Using.{recall_volumes}
 use Rattle.gq_node.proofs.Volumes.{all_volumes_open}
 use Rattle.gq_wire.specs.declared.incoming.Incoming.{Incoming}
 use Rattle.gq_wire.specs.declared.incoming.Incoming.TheVariants.{Request, Plan as AsksPlan, Bad, Letter, Joins, Joined, Fetch, Fetched, Tick, Nothing}
 use Rattle.gq_wire.specs.Incoming.{incoming_of}
+use Rattle.gq_parts.specs.Alike.{AreAlike}
+use Rattle.gq_parts.specs.AllNodes.{first_in, GridPlans, here_in, volumes_in, plans_of, world_with, world_at, HasNode, AreSound, AllNodes, Happening, Took, Starts, Renews, StartsBy, first_of, IsStarted, TakesStep, TakesStart, TakesNewJournal, Stays, Happens, AllHappen, came_events, events_of, events_from, all_events, nodes_at, InputsCanCome, IncomingCanCome, HappeningCanCome, LinesCanCome, start_in, HasAlike, TellsAt, TellsAll, fleet_steps, cluster_steps, row_for, IsOneRegister, FollowsLaw, AllByLaw, AllStepsHappen, AllStartsHappen, AllRenewalsHappen}
 use Rattle.gq_parts.specs.Inputs.{inputs_of, line_inputs}
-use Rattle.gq_parts.specs.Texts.{own_facts, facts_by}
 use Rattle.gq_parts.specs.Recalls.{facts_said}
 use Rattle.gq_parts.specs.Resting.{IsNodeOf}
-use Rattle.gq_parts.specs.Steps.{AllAgree}
-use Rattle.gq_parts.specs.AllNodes.{first_in, GridPlans, here_in, volumes_in, plans_of, world_with, world_at, AreSound, AllNodes, Happening, Took, Starts, StartsBy, first_of, TakesStep, TakesStart, Stays, Happens, AllHappen, came_events, events_of, events_from, all_events, nodes_at, InputsCanCome, IncomingCanCome, HappeningCanCome, LinesCanCome, AreNodes, TellsAt, TellsAll, fleet_steps, cluster_steps, row_for, IsOneRegister, FollowsLaw, AllByLaw}
-use Rattle.gq_parts.specs.Within.{taken}
-use Rattle.gq_parts.proofs.Within.{can_more, taken_can}
-use Rattle.gq_parts.proofs.Uncounted.{same_can, same_steps, same_node_steps, same_open}
+use Rattle.gq_parts.specs.Steps.{AllAgree, StepsTo, fact_lines}
+use Rattle.gq_parts.specs.Texts.{own_facts, facts_by, written_by, parts_after, line_text_of}
+use Rattle.gq_parts.specs.Within.{taken, after_taken}
+use Rattle.gq_parts.proofs.AlikeStarts.{AllThere, recalls_same, there_append, there_later}
+use Rattle.gq_parts.proofs.AlikeTexts.{AllAlike, facts_same, taken_same, behind_taken, all_written_same, node_text_same}
 use Rattle.gq_parts.proofs.Apart.{StepByParts, step_by_parts}
+use Rattle.gq_parts.proofs.Homes.{few_places, some_servers, homes_stand, sessions_stay}
+use Rattle.gq_parts.proofs.Knowing.{all_bare, all_idle, all_recalled_bare, all_rest, recall_more, rests_itself}
+use Rattle.gq_parts.proofs.LaterPlans.{limit_by, limits, there_still, later_alike, rest_alike, begun_alike}
 use Rattle.gq_parts.proofs.Reading.{those-append, said-append, said_back, those-by, same_node, all_recalled}
+use Rattle.gq_parts.proofs.Resting.{of_case, of_case_has}
+use Rattle.gq_parts.proofs.There.{none_there, own_facts_there, needed_there}
+use Rattle.gq_parts.proofs.Uncounted.{same_can, same_steps, same_node_steps, same_open}
+use Rattle.gq_parts.proofs.Within.{can_more, taken_can}
 
 -- ---- the nodes of the law
 
@@ -132,21 +141,6 @@ after_came g p n t nodes (Fetched from file copy) plan = after_inputs (world_at 
 after_came g p n t nodes Tick plan = after_inputs (world_at g t) p n nodes (all_taken g p n t nodes Tick) plan
 after_came g p n t nodes Nothing plan = after_inputs (world_at g t) p n nodes (all_taken g p n t nodes Nothing) plan
 
--- the node with plan p, as the law and as the node itself has it
-same_site : (g : GridPlans) (p n t : ℕ) → site_in (world_at g t) p n ≡ site_of g.plan (here_in g p n) t
-same_site g p n t = λ i. record {
-  grid = g.plan.grid;
-  here = n;
-  place = place_of n;
-  row = numbered (row_at g.plan t);
-  sessions = (row_at g.plan t).sessions;
-  is_of_plan = λ k. is_of_plan g.plan (here_in g p n) t k;
-  home = home_of g.plan t;
-  first_home = home_place g.plan t 0;
-  node_at = λ place. node_at (plan_in (g.lost p)) place;
-  losses = length (g.lost p);
-}
-
 -- ---- more happenings
 
 fold_more : (w : NodeWorld) (nodes : Nodes) (xs ys : List Event) → nodes_after w nodes (xs ++ ys) ≡ nodes_after w (nodes_after w nodes xs) ys
@@ -172,17 +166,59 @@ more_nodes g before h t =
 
 -- ---- what holds behind some happenings
 
+-- what a node has, and what the law has of it for the tenant: the plan that it was started with last, that with which its journal begins and that with
+-- which it was started first, its tables, the facts in its journal and all that it ever gave, and the law's part
+record AtNode : Type 0 where
+  last : ℕ
+  first : ℕ
+  first_ever : ℕ
+  tables : Tables
+  kept : List (List ℕ)
+  local : Local
+  facts : List OwnFact
+
+abbrev at_node : AllNodes → Nodes → ℕ → AtNode
+at_node m nodes n = record {
+  last = m.last_plan n;
+  first = m.first_plan n;
+  first_ever = nodes.first_plan n;
+  tables = m.tables n;
+  kept = m.kept n;
+  local = nodes.local n;
+  facts = nodes.facts n;
+}
+
+-- the facts of the tenant in a journal
+abbrev its_facts : GridPlans → (t : ℕ) → List (List ℕ) → List OwnFact
+its_facts g t kept = those_of t (facts_said g.plan kept)
+
+record IsKnown (g : GridPlans) (t n : ℕ) (x : AtNode) : Type 0 where
+  has : HasNode g x.last n
+  part : HasAlike (site_of g.plan (here_in g x.last n) t) x.tables t x.local
+  bare : IsBare x.local
+  rests : IsAtRest (site_of g.plan (here_in g x.last n) t) (start_in g t n x.first_ever x.last x.facts) x.local
+  starts : AreAlike (site_of g.plan (here_in g x.last n) t) (start_in g t n x.first x.last (its_facts g t x.kept)) (start_in g t n x.first_ever x.last x.facts)
+  there : AllThere (limits g t x.last) (its_facts g t x.kept)
+  there_ever : AllThere (limits g t x.last) x.facts
+  low : x.first ≤ x.last
+  low_ever : x.first_ever ≤ x.last
+
+record AreKnown (g : GridPlans) (m : AllNodes) (t : ℕ) (nodes : Nodes) : Type 0 where
+  begun : (n : ℕ) → m.begun n ≡ nodes.begun n
+  last_plan : (n : ℕ) → m.begun n ≡ true → m.last_plan n ≡ nodes.last_plan n
+  fresh : (n : ℕ) → m.begun n ≡ false → (m.kept n ≡ []) × (nodes.facts n ≡ [])
+  known : (n : ℕ) → m.begun n ≡ true → IsKnown g t n (at_node m nodes n)
+
 record Holds (g : GridPlans) (before : List Happening) (m : AllNodes) : Type 0 where
   node : (n : ℕ) → m.begun n ≡ true → IsNodeOf g.plan (here_in g (m.last_plan n) n) (m.tables n)
-  are : (t : ℕ) → t < length g.plan.rows → AreNodes g m t (nodes_at g before t)
+  are : (t : ℕ) → t < length g.plan.rows → AreKnown g m t (nodes_at g before t)
 
 -- what the node of the happening has in each tenant's part, by the law
 record ItHas (g : GridPlans) (n t : ℕ) (new : AllNodes) (after : Nodes) : Type 0 where
-  begun : new.begun n ≡ after.begun n
-  first_plan : new.first_plan n ≡ after.first_plan n
+  begun : new.begun n ≡ true
+  law_begun : after.begun n ≡ true
   last_plan : new.last_plan n ≡ after.last_plan n
-  part : Agrees (new.tables n) t (after.local n)
-  facts : those_of t (facts_said g.plan (new.kept n)) ≡ after.facts n
+  known : IsKnown g t n (at_node new after n)
 
 -- and the others stay
 record TheyStay (m : ℕ) (nodes after : Nodes) : Type 0 where
@@ -190,27 +226,37 @@ record TheyStay (m : ℕ) (nodes after : Nodes) : Type 0 where
   facts : after.facts m ≡ nodes.facts m
   plans : SamePlans m nodes after
 
-step_are : (g : GridPlans) (old new : AllNodes) (n t : ℕ) (nodes after : Nodes) → AreNodes g old t nodes → ((m : ℕ) → m ≢ n → Stays m old new) → ((m : ℕ) → m ≢ n → TheyStay m nodes after) → ItHas g n t new after → AreNodes g new t after
+step_are : (g : GridPlans) (old new : AllNodes) (n t : ℕ) (nodes after : Nodes) → AreKnown g old t nodes → ((m : ℕ) → m ≢ n → Stays m old new) → ((m : ℕ) → m ≢ n → TheyStay m nodes after) → ItHas g n t new after → AreKnown g new t after
 step_are g old new n t nodes after are stay same has = record {
   begun = λ m. elim (cases_eq m n) [
-    | inl is ↦ (subst (λ x. new.begun x ≡ after.begun x) (sym is) has.begun)
+    | inl is ↦ (subst (λ x. new.begun x ≡ after.begun x) (sym is) (has.begun ∙ sym has.law_begun))
     | inr other ↦ ((stay m other).begun ∙ are.begun m ∙ sym (same m other).plans.begun)
-  ];
-  first_plan = λ m begun. elim (cases_eq m n) [
-    | inl is ↦ (subst (λ x. new.first_plan x ≡ after.first_plan x) (sym is) has.first_plan)
-    | inr other ↦ ((stay m other).first_plan ∙ are.first_plan m (sym (stay m other).begun ∙ begun) ∙ sym (same m other).plans.first_plan)
   ];
   last_plan = λ m begun. elim (cases_eq m n) [
     | inl is ↦ (subst (λ x. new.last_plan x ≡ after.last_plan x) (sym is) has.last_plan)
     | inr other ↦ ((stay m other).last_plan ∙ are.last_plan m (sym (stay m other).begun ∙ begun) ∙ sym (same m other).plans.last_plan)
   ];
-  parts = λ m begun. elim (cases_eq m n) [
-    | inl is ↦ (subst (λ x. Agrees (new.tables x) t (after.local x)) (sym is) has.part)
-    | inr other ↦ (subst (λ w. Agrees w t (after.local m)) (sym (stay m other).tables) (subst (Agrees (old.tables m) t) (sym (same m other).local) (are.parts m (sym (stay m other).begun ∙ begun))))
+  fresh = λ m none. elim (cases_eq m n) [
+    | inl is ↦ (absurd (let no : new.begun n ≡ false = ap new.begun (sym is) ∙ none in let yes = has.begun in cc))
+    | inr other ↦ (
+        let before = are.fresh m (sym (stay m other).begun ∙ none) in
+        ((stay m other).kept ∙ before.0, (same m other).facts ∙ before.1))
   ];
-  facts = λ m. elim (cases_eq m n) [
-    | inl is ↦ (subst (λ x. those_of t (facts_said g.plan (new.kept x)) ≡ after.facts x) (sym is) has.facts)
-    | inr other ↦ (ap (λ k. those_of t (facts_said g.plan k)) (stay m other).kept ∙ are.facts m ∙ sym (same m other).facts)
+  known = λ m begun. elim (cases_eq m n) [
+    | inl is ↦ (subst (λ x. IsKnown g t x (at_node new after x)) (sym is) has.known)
+    | inr other ↦ (
+        let s : Stays m old new = stay m other in
+        let they : TheyStay m nodes after = same m other in
+        let path : at_node old nodes m ≡ at_node new after m = λ i. record {
+          last = sym s.last_plan i;
+          first = sym s.first_plan i;
+          first_ever = sym they.plans.first_plan i;
+          tables = sym s.tables i;
+          kept = sym s.kept i;
+          local = sym they.local i;
+          facts = sym they.facts i;
+        } in
+        subst (IsKnown g t m) path (are.known m (sym s.begun ∙ begun)))
   ];
 }
 
@@ -227,13 +273,30 @@ other_nodes g n old new was stay here m begun = elim (cases_eq m n) [
       subst (λ p. IsNodeOf g.plan (here_in g p m) (new.tables m)) (sym s.last_plan) (subst (IsNodeOf g.plan (here_in g (old.last_plan m) m)) (sym s.tables) (was m (sym s.begun ∙ begun))))
 ]
 
-one_holds : (g : GridPlans) (before : List Happening) (h : Happening) (old new : AllNodes) → IsPlan g.plan → Holds g before old → Happens g old h new → OneHolds g before h new
+-- the volumes of the law's part are those of the plan
+its_volumes : (g : GridPlans) (t n : ℕ) (x : AtNode) → IsKnown g t n x → x.local.volumes ≡ volumes_in g x.last t
+its_volumes g t n x known =
+    let site : Site = site_of g.plan (here_in g x.last n) t in
+    sym known.rests.volumes ∙ recall_volumes site x.facts (begun_local site (volumes_in g x.last t) (first_in g x.first_ever t))
+
+-- two starts with this plan, from nothing or with facts
+record StartsAlike (g : GridPlans) (t n p first ever : ℕ) (facts all : List OwnFact) : Type 0 where
+  alike : AreAlike (site_of g.plan (here_in g p n) t) (start_in g t n first p facts) (start_in g t n ever p all)
+  there : AllThere (limits g t p) facts
+  there_ever : AllThere (limits g t p) all
+  low : first ≤ p
+  low_ever : ever ≤ p
+
+one_holds : (g : GridPlans) (before : List Happening) (h : Happening) (old new : AllNodes) → AreSound g → Holds g before old → Happens g old h new → OneHolds g before h new
 one_holds g before (Took n p did) old new sound holds happens = record {
   holds = record {
     node = other_nodes g n old new holds.node happens.others (subst (λ q. IsNodeOf g.plan (here_in g q n) (new.tables n)) (sym goes.still.last_plan) one.node);
-    are = λ t within. subst (AreNodes g new t) (sym (more_nodes g before (Took n p did) t)) (at t within);
+    are = λ t within. subst (AreKnown g new t) (sym (more_nodes g before (Took n p did) t)) (at t within);
   };
-  told = one.told_is;
+  told = one.told_is
+      ∙ ap (λ z. z ++ line_text_of g.plan here did.line (parts_after g.plan here ones inputs)) (all_written_same g.plan here ones parts inputs alike)
+      ∙ ap (λ z. written_by g.plan here parts inputs ++ z) (node_text_same g.plan here (incoming_of g.plan n did.line) (parts_after g.plan here ones inputs) (parts_after g.plan here parts inputs)
+      (λ t within. behind_taken (site_of g.plan here t) (ones t) (parts t) (inputs t) (alike t within)));
 }
   where
     goes : TakesStep n p did old new
@@ -242,55 +305,161 @@ one_holds g before (Took n p did) old new sound holds happens = record {
     here : Here
     here = here_in g p n
 
+    inputs : ℕ → List Input
+    inputs = line_inputs g.plan here did.line
+
     parts : ℕ → Local
     parts t = (nodes_at g before t).local n
+
+    -- what is known of the node's part of the tenant, with the plan of the line
+    before_it : (t : ℕ) → t < length g.plan.rows → IsKnown g t n (record (at_node old (nodes_at g before t) n) { last = p })
+    before_it t within = subst (λ q. IsKnown g t n (record (at_node old (nodes_at g before t) n) { last = q })) goes.plan ((holds.are t within).known n goes.begun)
+
+    -- the parts that the tables have
+    ones : ℕ → Local
+    ones t = of_case t (length g.plan.rows) (λ within. (before_it t within).part.local) (parts t) (cases_Bool (nat_lt t (length g.plan.rows)))
+
+    has : (t : ℕ) → t < length g.plan.rows → Agrees (old.tables n) t (ones t) × AreAlike (site_of g.plan here t) (ones t) (parts t)
+    has t within = of_case_has (λ x. Agrees (old.tables n) t x × AreAlike (site_of g.plan here t) x (parts t)) t (length g.plan.rows) (λ h. (before_it t h).part.local) (parts t)
+        (λ h. ((before_it t h).part.agrees, (before_it t h).part.alike)) within (cases_Bool (nat_lt t (length g.plan.rows)))
+
+    alike : AllAlike g.plan here ones parts
+    alike t within = (has t within).1
 
     was : IsNodeOf g.plan here (old.tables n)
     was = subst (λ q. IsNodeOf g.plan (here_in g q n) (old.tables n)) goes.plan (holds.node n goes.begun)
 
-    agree : AllAgree (old.tables n) parts
-    agree t within = (holds.are t (subst (λ (plan : CheckedPlan). t < length plan.rows) was.plan_is within)).parts n goes.begun
+    agree : AllAgree (old.tables n) ones
+    agree t within = (has t (subst (λ (plan : CheckedPlan). t < length plan.rows) was.plan_is within)).0
 
-    one : StepByParts g.plan here parts did.line did.facts did.told (new.tables n)
-    one = step_by_parts g.plan here (old.tables n) (new.tables n) parts did.line did.facts did.told was agree goes.step
+    one : StepByParts g.plan here ones did.line did.facts did.told (new.tables n)
+    one = step_by_parts g.plan here (old.tables n) (new.tables n) ones did.line did.facts did.told was agree goes.step
 
-    at : (t : ℕ) → t < length g.plan.rows → AreNodes g new t (nodes_after (world_at g t) (nodes_at g before t) (events_of g t (nodes_at g before t) (Took n p did)))
+    at : (t : ℕ) → t < length g.plan.rows → AreKnown g new t (nodes_after (world_at g t) (nodes_at g before t) (events_of g t (nodes_at g before t) (Took n p did)))
     at t within =
         let w : NodeWorld = world_at g t in
         let nodes : Nodes = nodes_at g before t in
-        let are : AreNodes g old t nodes = holds.are t within in
-        let inputs : List Input = line_inputs g.plan here did.line t in
+        let are : AreKnown g old t nodes = holds.are t within in
+        let x : IsKnown g t n (record (at_node old nodes n) { last = p }) = before_it t within in
         let after : Nodes = nodes_after w nodes (events_of g t nodes (Took n p did)) in
         let site : Site = site_of g.plan here t in
         let last : nodes.last_plan n ≡ p = sym (are.last_plan n goes.begun) ∙ goes.plan in
-        let same : site_at w nodes n ≡ site = ap (λ q. site_in w q n) last ∙ same_site g p n t in
-        let by_law : List Input = taken (site_at w nodes n) (parts t) inputs in
-        let all : List Input = taken site (parts t) inputs in
+        let same : site_at w nodes n ≡ site = ap (λ q. site_in w q n) last in
+        let by_law : List Input = taken (site_at w nodes n) (parts t) (inputs t) in
+        let all : List Input = taken site (parts t) (inputs t) in
         let a : AfterAll w p n nodes after by_law = after_came g p n t nodes (incoming_of g.plan n did.line) last in
-        let now : Agrees (new.tables n) t (after_all site (parts t) all) = one.agree t (subst (λ (plan : CheckedPlan). t < length plan.rows) (sym one.node.plan_is) within) in
-        let own : those_of t (facts_said g.plan did.facts) ≡ own_facts site (parts t) all =
-        ap (λ ls. those_of t (facts_said g.plan ls)) one.lines_are ∙ ap (those_of t) (said_back g.plan sound (facts_by g.plan here parts (line_inputs g.plan here did.line)) one.fit) ∙ those-by g.plan here t parts (line_inputs g.plan here did.line) within in
-        let local : after.local n ≡ after_all site (parts t) all = a.local ∙ ap (λ s. after_all s (parts t) by_law) (same_site g p n t) ∙ ap (λ s. after_all site (parts t) (taken s (parts t) inputs)) same in
-        let given : after.facts n ≡ nodes.facts n ++ own_facts site (parts t) all =
-        a.facts ∙ ap (λ s. nodes.facts n ++ own_facts s (parts t) by_law) (same_site g p n t) ∙ ap (λ s. nodes.facts n ++ own_facts site (parts t) (taken s (parts t) inputs)) same in
-        let facts : those_of t (facts_said g.plan (new.kept n)) ≡ nodes.facts n ++ own_facts site (parts t) all =
-        ap (λ ls. those_of t (facts_said g.plan ls)) goes.kept
-        ∙ ap (those_of t) (said-append g.plan (old.kept n) did.facts)
-        ∙ those-append t (facts_said g.plan (old.kept n)) (facts_said g.plan did.facts)
-        ∙ ap (λ z. z ++ those_of t (facts_said g.plan did.facts)) (are.facts n)
-        ∙ ap (λ z. nodes.facts n ++ z) own in
+        let gave : List OwnFact = own_facts site (parts t) all in
+        let now : Agrees (new.tables n) t (after_taken site (ones t) (inputs t)) = one.agree t (subst (λ (plan : CheckedPlan). t < length plan.rows) (sym one.node.plan_is) within) in
+        let own : its_facts g t did.facts ≡ gave =
+        ap (its_facts g t) one.lines_are ∙ ap (those_of t) (said_back g.plan sound.plan (facts_by g.plan here ones inputs) one.fit) ∙ those-by g.plan here t ones inputs within
+        ∙ facts_same site (ones t) (parts t) (taken site (ones t) (inputs t)) (alike t within) ∙ ap (own_facts site (parts t)) (taken_same site (ones t) (parts t) (inputs t) (alike t within)) in
+        let local : after.local n ≡ after_all site (parts t) all = a.local ∙ ap (λ s. after_all site (parts t) (taken s (parts t) (inputs t))) same in
+        let given : after.facts n ≡ nodes.facts n ++ gave = a.facts ∙ ap (λ s. nodes.facts n ++ own_facts site (parts t) (taken s (parts t) (inputs t))) same in
+        let kept : its_facts g t (old.kept n ++ did.facts) ≡ its_facts g t (old.kept n) ++ gave =
+        ap (those_of t) (said-append g.plan (old.kept n) did.facts) ∙ those-append t (facts_said g.plan (old.kept n)) (facts_said g.plan did.facts) ∙ ap (λ z. its_facts g t (old.kept n) ++ z) own in
+        let started_from : (from : ℕ) (fs : List OwnFact) → start_in g t n from p (fs ++ gave) ≡ recall_all site (start_in g t n from p fs) gave =
+        λ from fs. recall_more site (begun_local site (volumes_in g p t) (first_in g from t)) fs gave in
+        let there : AllThere (limits g t p) gave =
+        subst (λ vs. AllThere (limit_by vs) gave) (its_volumes g t n (record (at_node old nodes n) { last = p }) x) (own_facts_there site (parts t) all x.bare) in
+        let y : IsKnown g t n (record { last = p; first = old.first_plan n; first_ever = nodes.first_plan n; tables = new.tables n; kept = old.kept n ++ did.facts; local = after_all site (parts t) all; facts = nodes.facts n ++ gave }) = record {
+          has = x.has;
+          part = record { local = after_taken site (ones t) (inputs t); agrees = now; alike = behind_taken site (ones t) (parts t) (inputs t) (alike t within) };
+          bare = all_bare site (parts t) all x.bare;
+          rests = subst (λ z. IsAtRest site z (after_all site (parts t) all)) (sym (started_from (nodes.first_plan n) (nodes.facts n))) (all_rest site (start_in g t n (nodes.first_plan n) p (nodes.facts n)) (parts t) all x.bare x.rests);
+          starts =
+              subst (λ fs. AreAlike site (start_in g t n (old.first_plan n) p fs) (start_in g t n (nodes.first_plan n) p (nodes.facts n ++ gave))) (sym kept)
+              (subst (λ z. AreAlike site z (start_in g t n (nodes.first_plan n) p (nodes.facts n ++ gave))) (sym (started_from (old.first_plan n) (its_facts g t (old.kept n))))
+              (subst (AreAlike site (recall_all site (start_in g t n (old.first_plan n) p (its_facts g t (old.kept n))) gave)) (sym (started_from (nodes.first_plan n) (nodes.facts n)))
+              (recalls_same site (start_in g t n (old.first_plan n) p (its_facts g t (old.kept n))) (start_in g t n (nodes.first_plan n) p (nodes.facts n)) gave x.starts)));
+          there = subst (AllThere (limits g t p)) (sym kept) (there_append (limits g t p) (its_facts g t (old.kept n)) gave x.there there);
+          there_ever = there_append (limits g t p) (nodes.facts n) gave x.there_ever there;
+          low = x.low;
+          low_ever = x.low_ever;
+        } in
+        let path : record { last = p; first = old.first_plan n; first_ever = nodes.first_plan n; tables = new.tables n; kept = old.kept n ++ did.facts; local = after_all site (parts t) all; facts = nodes.facts n ++ gave } ≡ at_node new after n = λ i. record {
+          last = sym goes.still.last_plan i;
+          first = sym goes.still.first_plan i;
+          first_ever = sym (a.plans n).first_plan i;
+          tables = new.tables n;
+          kept = sym goes.kept i;
+          local = sym local i;
+          facts = sym given i;
+        } in
         step_are g old new n t nodes after are happens.others (λ m other. record { local = (a.others m other).0; facts = (a.others m other).1; plans = a.plans m }) (record {
-          begun = goes.still.begun ∙ sym goes.begun ∙ are.begun n ∙ sym (a.plans n).begun;
-          first_plan = goes.still.first_plan ∙ are.first_plan n goes.begun ∙ sym (a.plans n).first_plan;
-          last_plan = goes.still.last_plan ∙ sym goes.plan ∙ are.last_plan n goes.begun ∙ sym (a.plans n).last_plan;
-          part = subst (Agrees (new.tables n) t) (sym local) now;
-          facts = facts ∙ sym given;
+          begun = goes.still.begun;
+          law_begun = (a.plans n).begun ∙ sym (are.begun n) ∙ goes.begun;
+          last_plan = goes.still.last_plan ∙ sym last ∙ sym (a.plans n).last_plan;
+          known = subst (IsKnown g t n) path y;
+        })
+one_holds g before (Renews n facts) old new sound holds happens = record {
+  holds = record {
+    node = other_nodes g n old new holds.node happens.others (subst (λ q. IsNodeOf g.plan (here_in g q n) (new.tables n)) (sym goes.still.last_plan) (subst (IsNodeOf g.plan here) (sym goes.tables) was));
+    are = λ t within. subst (AreKnown g new t) (sym (more_nodes g before (Renews n facts) t)) (at t within);
+  };
+  told = tt;
+}
+  where
+    goes : TakesNewJournal n facts old new
+    goes = happens.goes
+
+    q : ℕ
+    q = old.last_plan n
+
+    here : Here
+    here = here_in g q n
+
+    was : IsNodeOf g.plan here (old.tables n)
+    was = holds.node n goes.begun
+
+    at : (t : ℕ) → t < length g.plan.rows → AreKnown g new t (nodes_at g before t)
+    at t within =
+        let nodes : Nodes = nodes_at g before t in
+        let are : AreKnown g old t nodes = holds.are t within in
+        let x : IsKnown g t n (at_node old nodes n) = are.known n goes.begun in
+        let site : Site = site_of g.plan here t in
+        let a : Local = x.part.local in
+        let own : List OwnFact = those_of t facts in
+        let inside : t < length (old.tables n).plan.rows = subst (λ (plan : CheckedPlan). t < length plan.rows) (sym was.plan_is) within in
+        let volumes : a.volumes ≡ volumes_in g q t = x.part.alike.volumes ∙ its_volumes g t n (at_node old nodes n) x in
+        let R : CheckedPlan → Here → Type 0 =
+        λ plan h. IsAtRest (site_of plan h t) (recall_all (site_of plan h t) (begun_local (site_of plan h t) a.volumes (record { volumes = length a.volumes; losses = length h.lost })) own) a in
+        let made : R g.plan here = subst (λ plan. R plan here) was.plan_is (subst (λ h. R (old.tables n).plan h) was.here_is (goes.needed.makes t inside a x.part.agrees)) in
+        let many : length (volumes_in g q t) ≡ g.count q t = length-take-le (g.count q t) (g.opens t) (sound.opened q t) in
+        let rests : IsAtRest site (start_in g t n q q own) a =
+        subst (λ c. IsAtRest site (recall_all site (begun_local site (volumes_in g q t) (record { volumes = c; losses = length (g.lost q) })) own) a) many
+        (subst (λ vs. IsAtRest site (recall_all site (begun_local site vs (record { volumes = length vs; losses = length (g.lost q) })) own) a) volumes made) in
+        let kept : its_facts g t (fact_lines (old.tables n).plan facts) ≡ own =
+        ap (λ (plan : CheckedPlan). its_facts g t (fact_lines plan facts)) was.plan_is ∙ ap (those_of t) (said_back g.plan sound.plan facts (subst (λ (plan : CheckedPlan). All (FitsFact plan) facts) was.plan_is goes.fit)) in
+        let there : AllThere (limits g t q) own = subst (λ vs. AllThere (limit_by vs) own) volumes (needed_there (old.tables n) t a facts x.part.agrees goes.needed.fit) in
+        let y : IsKnown g t n (record (at_node old nodes n) { first = q; kept = fact_lines (old.tables n).plan facts }) = record {
+          has = x.has;
+          part = x.part;
+          bare = x.bare;
+          rests = x.rests;
+          starts = subst (λ fs. AreAlike site (start_in g t n q q fs) (start_in g t n (nodes.first_plan n) q (nodes.facts n))) (sym kept)
+              (rest_alike g t n q q (nodes.first_plan n) own (nodes.facts n) a (nodes.local n) rests x.rests x.part.alike);
+          there = subst (AllThere (limits g t q)) (sym kept) there;
+          there_ever = x.there_ever;
+          low = omega arith;
+          low_ever = x.low_ever;
+        } in
+        let path : record (at_node old nodes n) { first = q; kept = fact_lines (old.tables n).plan facts } ≡ at_node new nodes n = λ i. record (at_node old nodes n) {
+          last = sym goes.still.last_plan i;
+          first = sym goes.still.first_plan i;
+          tables = sym goes.tables i;
+          kept = sym goes.kept i;
+        } in
+        step_are g old new n t nodes nodes are happens.others (λ m other. record { local = refl; facts = refl; plans = record { begun = refl; first_plan = refl; last_plan = refl } }) (record {
+          begun = goes.still.begun;
+          law_begun = sym (are.begun n) ∙ goes.begun;
+          last_plan = goes.still.last_plan ∙ are.last_plan n goes.begun;
+          known = subst (IsKnown g t n) path y;
         })
 one_holds g before (Starts n p) old new sound holds happens = record {
   holds = record {
     node = other_nodes g n old new holds.node happens.others (subst (λ q. IsNodeOf g.plan (here_in g q n) (new.tables n)) (sym goes.started.last_plan)
         (record { plan_is = stays.plan_is ∙ r.is_new.node.plan_is; here_is = stays.here_is ∙ r.is_new.node.here_is }));
-    are = λ t within. subst (AreNodes g new t) (sym (more_nodes g before (Starts n p) t)) (at t within);
+    are = λ t within. subst (AreKnown g new t) (sym (more_nodes g before (Starts n p) t)) (at t within);
   };
   told = tt;
 }
@@ -307,34 +476,77 @@ one_holds g before (Starts n p) old new sound holds happens = record {
     stays : IsNodeOf r.blank.plan r.blank.here (new.tables n)
     stays = same_node (old.kept n) r.blank (new.tables n) r.reads
 
-    at : (t : ℕ) → t < length g.plan.rows → AreNodes g new t (nodes_after (world_at g t) (nodes_at g before t) (Started n p ∷ []))
+    at : (t : ℕ) → t < length g.plan.rows → AreKnown g new t (nodes_after (world_at g t) (nodes_at g before t) (Started n p ∷ []))
     at t within =
         let w : NodeWorld = world_at g t in
         let nodes : Nodes = nodes_at g before t in
-        let are : AreNodes g old t nodes = holds.are t within in
+        let are : AreKnown g old t nodes = holds.are t within in
         let after : Nodes = after_start w nodes n p in
-        let same_first : law_first nodes n p ≡ first = by nodes are (old.begun n) refl in
-        let read : Agrees (new.tables n) t (started w first p n (those_of t (facts_said g.plan (old.kept n)))) =
-        subst (λ site. Agrees (new.tables n) t (recall_all site (begun_local site (volumes_in g p t) (first_in g first t)) (those_of t (facts_said g.plan (old.kept n))))) (sym (same_site g p n t))
-        (all_recalled g.plan (here_in g p n) t (begun_local (site_of g.plan (here_in g p n) t) (volumes_in g p t) (first_in g first t)) (old.kept n) r.blank (new.tables n) r.is_new.node (r.is_new.parts t within) r.reads).agrees in
-        let facts : those_of t (facts_said g.plan (new.kept n)) ≡ nodes.facts n = ap (λ ls. those_of t (facts_said g.plan ls)) goes.kept ∙ are.facts n in
-        let now : Agrees (new.tables n) t (started w (law_first nodes n p) p n (nodes.facts n)) =
-        subst (λ q. Agrees (new.tables n) t (started w q p n (nodes.facts n))) (sym same_first) (subst (λ fs. Agrees (new.tables n) t (started w first p n fs)) (are.facts n) read) in
+        let site : Site = site_of g.plan (here_in g p n) t in
+        let ever : ℕ = law_first nodes n p in
+        let facts : List OwnFact = its_facts g t (old.kept n) in
+        let read : Agrees (new.tables n) t (start_in g t n first p facts) =
+        (all_recalled g.plan (here_in g p n) t (begun_local site (volumes_in g p t) (first_in g first t)) (old.kept n) r.blank (new.tables n) r.is_new.node (r.is_new.parts t within) r.reads).agrees in
+        let begun : Local = begun_local site (volumes_in g p t) (first_in g ever t) in
+        let z : StartsAlike g t n p first ever facts (nodes.facts n) = by nodes are (old.begun n) refl in
+        let y : IsKnown g t n (record { last = p; first = first; first_ever = ever; tables = new.tables n; kept = old.kept n; local = start_in g t n ever p (nodes.facts n); facts = nodes.facts n }) = record {
+          has = goes.has;
+          part = record { local = start_in g t n first p facts; agrees = read; alike = z.alike };
+          bare = all_recalled_bare site begun (nodes.facts n) (λ f lacks. refl);
+          rests = rests_itself site (start_in g t n ever p (nodes.facts n)) (all_behind site begun (nodes.facts n) (λ k. record { op = refl; floor = refl })) (all_idle site begun (nodes.facts n) (λ k. refl));
+          starts = z.alike;
+          there = z.there;
+          there_ever = z.there_ever;
+          low = z.low;
+          low_ever = z.low_ever;
+        } in
+        let path : record { last = p; first = first; first_ever = ever; tables = new.tables n; kept = old.kept n; local = start_in g t n ever p (nodes.facts n); facts = nodes.facts n } ≡ at_node new after n = λ i. record {
+          last = sym goes.started.last_plan i;
+          first = sym goes.started.first_plan i;
+          first_ever = sym it.0 i;
+          tables = new.tables n;
+          kept = sym goes.kept i;
+          local = sym it.1 i;
+          facts = nodes.facts n;
+        } in
         step_are g old new n t nodes after are happens.others (λ m other. record {
           local = rw (ne_eqb m n other) refl;
           facts = refl;
           plans = record { begun = rw (ne_eqb m n other) refl; first_plan = rw (ne_eqb m n other) refl; last_plan = rw (ne_eqb m n other) refl };
         }) (record {
-          begun = goes.started.begun ∙ (rw (eq-eqb n n refl) refl);
-          first_plan = goes.started.first_plan ∙ sym same_first ∙ (rw (eq-eqb n n refl) refl);
+          begun = goes.started.begun;
+          law_begun = rw (eq-eqb n n refl) refl;
           last_plan = goes.started.last_plan ∙ (rw (eq-eqb n n refl) refl);
-          part = rw (eq-eqb n n refl) now;
-          facts = facts;
+          known = subst (IsKnown g t n) path y;
         })
       where
-        by : (nodes : Nodes) → AreNodes g old t nodes → (b : Bool) → old.begun n ≡ b → law_first nodes n p ≡ first_of old n p
-        by nodes are true is = let law : nodes.begun n ≡ true = sym (are.begun n) ∙ is in rw (is, law) (sym (are.first_plan n is))
-        by nodes are false is = let law : nodes.begun n ≡ false = sym (are.begun n) ∙ is in rw (is, law) refl
+        -- what the law leaves of the node itself
+        it : ((after_start (world_at g t) (nodes_at g before t) n p).first_plan n ≡ law_first (nodes_at g before t) n p)
+            × ((after_start (world_at g t) (nodes_at g before t) n p).local n ≡ start_in g t n (law_first (nodes_at g before t) n p) p ((nodes_at g before t).facts n))
+        it = (rw (eq-eqb n n refl) refl, rw (eq-eqb n n refl) refl)
+
+        by : (nodes : Nodes) → AreKnown g old t nodes → (b : Bool) → old.begun n ≡ b → StartsAlike g t n p (first_of old n p) (law_first nodes n p) (its_facts g t (old.kept n)) (nodes.facts n)
+        by nodes are true is =
+            let law : nodes.begun n ≡ true = sym (are.begun n) ∙ is in
+            let x : IsKnown g t n (at_node old nodes n) = are.known n is in
+            let later : old.last_plan n ≤ p = goes.later is in
+            let low = x.low in
+            let low_ever = x.low_ever in
+            let all : StartsAlike g t n p (old.first_plan n) (nodes.first_plan n) (its_facts g t (old.kept n)) (nodes.facts n) = record {
+              alike = later_alike g t n (old.last_plan n) p (old.first_plan n) (nodes.first_plan n) (its_facts g t (old.kept n)) (nodes.facts n) sound later x.has goes.has low low_ever x.there x.there_ever x.starts;
+              there = there_later (limits g t (old.last_plan n)) (limits g t p) (its_facts g t (old.kept n)) (there_still g t (old.last_plan n) p sound later) x.there;
+              there_ever = there_later (limits g t (old.last_plan n)) (limits g t p) (nodes.facts n) (there_still g t (old.last_plan n) p sound later) x.there_ever;
+              low = omega (arith, low, later);
+              low_ever = omega (arith, low_ever, later);
+            } in
+            rw (is, law) all
+        by nodes are false is =
+            let law : nodes.begun n ≡ false = sym (are.begun n) ∙ is in
+            let none = are.fresh n is in
+            let P : List (List ℕ) → List OwnFact → Type 0 = λ kept facts. StartsAlike g t n p p p (its_facts g t kept) facts in
+            let all : P (old.kept n) (nodes.facts n) = subst (λ k. P k (nodes.facts n)) (sym none.0) (subst (P []) (sym none.1)
+            (record { alike = begun_alike g t n p p; there = none_there (limits g t p); there_ever = none_there (limits g t p); low = omega arith; low_ever = omega arith })) in
+            rw (is, law) all
 
 -- ---- all happenings
 
@@ -342,7 +554,7 @@ record AllHold (g : GridPlans) (before hs : List Happening) (last : AllNodes) : 
   holds : Holds g (before ++ hs) last
   told : TellsAll g before hs
 
-all_hold : (g : GridPlans) (hs before : List Happening) (first last : AllNodes) → IsPlan g.plan → Holds g before first → AllHappen g first hs last → AllHold g before hs last
+all_hold : (g : GridPlans) (hs before : List Happening) (first last : AllNodes) → AreSound g → Holds g before first → AllHappen g first hs last → AllHold g before hs last
 all_hold g [] before first last sound holds same = record {
   holds = subst (Holds g (before ++ [])) same (subst (λ b. Holds g b first) (sym (append-nil before)) holds);
   told = tt;
@@ -355,43 +567,7 @@ all_hold g (h ∷ hs) before first last sound holds happen =
       told = (one.told, rest.told);
     }
 
--- ---- sessions, and where they are at home
-
-few_places : (plan : CheckedPlan) → IsPlan plan → plan.grid.rows * plan.grid.cols ≤ most_places
-few_places plan is =
-    let rows : plan.grid.rows ≤ 8 = leb-true plan.grid.rows 8 (and_parts _ _ is.rows).1 in
-    let cols : plan.grid.cols ≤ 8 = leb-true plan.grid.cols 8 (and_parts _ _ is.cols).1 in
-    let one : plan.grid.rows * plan.grid.cols ≤ plan.grid.rows * 8 = mul-le-mul_left plan.grid.rows cols in
-    let two : plan.grid.rows * 8 ≤ 8 * 8 = mul-le-mul_right 8 rows in
-    omega (arith, one, two)
-
-home_within : (plan : CheckedPlan) (t place : ℕ) → 1 < plan.grid.rows * plan.grid.cols → home_place plan t place < plan.grid.rows * plan.grid.cols
-home_within plan t place many = mod-lt _ (omega (arith, many))
-
-record HomeIs (plan : CheckedPlan) (t k : ℕ) : Type 0 where
-  place : place_of (home_of plan t k) ≡ home_place plan t (session_state_place k)
-  hop : generation (home_of plan t k) ≡ session_generation k
-
-home_is : (plan : CheckedPlan) (t k : ℕ) → IsPlan plan → 1 < plan.grid.rows * plan.grid.cols → HomeIs plan t k
-home_is plan t k is many =
-    let few : home_place plan t (session_state_place k) < most_places = omega (arith, home_within plan t (session_state_place k) many, few_places plan is) in
-    record { place = mod-mul-add (session_generation k) most_places (home_place plan t (session_state_place k)) few; hop = div-mul-add (session_generation k) most_places (home_place plan t (session_state_place k)) few }
-
-some_servers : (g : GridPlans) → AreSound g → 1 < g.plan.grid.rows * g.plan.grid.cols
-some_servers g sound = let servers = sound.servers in omega (arith, servers)
-
-homes_stand : (g : GridPlans) (t : ℕ) → AreSound g → HomesStand g.plan.grid (home_of g.plan t)
-homes_stand g t sound k =
-    subst (λ n. n < g.plan.grid.rows * g.plan.grid.cols) (sym (home_is g.plan t k sound.plan (some_servers g sound)).place) (home_within g.plan t (session_state_place k) (some_servers g sound))
-
--- a session of a plan is one of a later plan that has its home
-sessions_stay : (g : GridPlans) (t : ℕ) → AreSound g → SessionsStay (world_at g t)
-sessions_stay g t sound p q k later has is =
-    let home : HomeIs g.plan t k = home_is g.plan t k sound.plan (some_servers g sound) in
-    let inside : nat_lt (session_state_place k) (row_at g.plan t).sessions ≡ true = (and_parts _ _ is).0 in
-    let hop : session_generation k ≡ times (plans_of g t q) (home_place g.plan t (session_state_place k)) =
-    sym home.hop ∙ eqb-true (generation (home_of g.plan t k)) (times (plans_of g t q) (place_of (home_of g.plan t k))) has ∙ ap (times (plans_of g t q)) home.place in
-    rw (inside, eq-eqb (session_generation k) (times (plan_in (g.lost q)) (home_place g.plan t (session_state_place k))) hop) refl
+-- ---- registers
 
 -- each file is one register, in a service that gives the tenant as many steps as the run can take
 one_register : (g : GridPlans) (t : ℕ) (events : List Event) → AreSound g → AllCanCome (world_at g t) (new_nodes (world_at g t)) events → AllOpen (row_at g.plan t) [] (g.opens t) → IsOneRegister g t events
@@ -460,6 +636,7 @@ came_can g p n t nodes Nothing can = some_can g p n t nodes Nothing can
 of_happening : (g : GridPlans) (t : ℕ) (nodes : Nodes) (h : Happening) → HappeningCanCome g t nodes h → AllCanCome (world_at g t) nodes (events_of g t nodes h)
 of_happening g t nodes (Took n p did) can = came_can g p n t nodes (incoming_of g.plan n did.line) can
 of_happening g t nodes (Starts n p) can = (can, tt)
+of_happening g t nodes (Renews n facts) can = tt
 
 all_can : (g : GridPlans) (t : ℕ) (nodes : Nodes) (hs : List Happening) → LinesCanCome g t nodes hs → AllCanCome (world_at g t) nodes (events_from g t nodes hs)
 all_can g t nodes [] can = tt
@@ -483,11 +660,97 @@ all_by_law g first last hs sound new happen =
       node = λ n begun. absurd (let none = (new n).0 in cc);
       are = λ t within. record {
         begun = λ n. (new n).0;
-        first_plan = λ n begun. absurd (let none = (new n).0 in cc);
         last_plan = λ n begun. absurd (let none = (new n).0 in cc);
-        parts = λ n begun. absurd (let none = (new n).0 in cc);
-        facts = λ n. ap (λ ls. those_of t (facts_said g.plan ls)) (new n).1;
+        fresh = λ n none. ((new n).1, refl);
+        known = λ n begun. absurd (let none = (new n).0 in cc);
       };
     } in
-    let all : AllHold g [] hs last = all_hold g hs [] first last sound.plan start happen in
-    record { told = all.told; nodes = all.holds.are; follow = λ t within can. follows_law g hs t sound can }
+    let all : AllHold g [] hs last = all_hold g hs [] first last sound start happen in
+    record {
+      told = all.told;
+      nodes = λ t within. (
+          let are : AreKnown g last t (nodes_at g hs t) = all.holds.are t within in
+          record {
+            begun = are.begun;
+            last_plan = are.last_plan;
+            parts = λ n begun. (are.known n begun).part;
+            starts = λ n p begun later has. (
+                let x : IsKnown g t n (at_node last (nodes_at g hs t) n) = are.known n begun in
+                later_alike g t n (last.last_plan n) p (last.first_plan n) ((nodes_at g hs t).first_plan n) (its_facts g t (last.kept n)) ((nodes_at g hs t).facts n) sound later x.has has x.low x.low_ever x.there x.there_ever x.starts);
+          });
+      follow = λ t within can. follows_law g hs t sound can;
+    }
+
+-- ---- what calls promise of one node
+
+-- node n goes on, and the others stay
+abbrev with_node : AllNodes → (n first p : ℕ) → Tables → List (List ℕ) → AllNodes
+with_node old n first p tables kept = record {
+  begun = λ m. if m == n then true else old.begun m;
+  first_plan = λ m. if m == n then first else old.first_plan m;
+  last_plan = λ m. if m == n then p else old.last_plan m;
+  tables = λ m. if m == n then tables else old.tables m;
+  kept = λ m. if m == n then kept else old.kept m;
+}
+
+others_stay : (old : AllNodes) (n first p : ℕ) (tables : Tables) (kept : List (List ℕ)) (m : ℕ) → m ≢ n → Stays m old (with_node old n first p tables kept)
+others_stay old n first p tables kept m other =
+    let not' : (m == n) ≡ false = ne_eqb m n other in
+    record { begun = rw not' refl; first_plan = rw not' refl; last_plan = rw not' refl; tables = rw not' refl; kept = rw not' refl }
+
+is_started : (old : AllNodes) (n first p : ℕ) (tables : Tables) (kept : List (List ℕ)) → IsStarted n first p (with_node old n first p tables kept)
+is_started old n first p tables kept = let its : (n == n) ≡ true = eq-eqb n n refl in record { begun = rw its refl; first_plan = rw its refl; last_plan = rw its refl }
+
+has_these : (old : AllNodes) (n first p : ℕ) (tables : Tables) (kept : List (List ℕ)) → ((with_node old n first p tables kept).tables n ≡ tables) × ((with_node old n first p tables kept).kept n ≡ kept)
+has_these old n first p tables kept = let its : (n == n) ≡ true = eq-eqb n n refl in (rw its refl, rw its refl)
+
+pub all_steps_happen : AllStepsHappen
+all_steps_happen g old n did tables begun step =
+    let kept : List (List ℕ) = old.kept n ++ did.facts in
+    let has = has_these old n (old.first_plan n) (old.last_plan n) tables kept in
+    record {
+      new = with_node old n (old.first_plan n) (old.last_plan n) tables kept;
+      happens = record {
+        others = others_stay old n (old.first_plan n) (old.last_plan n) tables kept;
+        goes = record {
+          begun = begun;
+          plan = refl;
+          step = subst (StepsTo (old.tables n) did.line did.facts did.told) (sym has.0) step;
+          kept = has.1;
+          still = is_started old n (old.first_plan n) (old.last_plan n) tables kept;
+        };
+      };
+      tables_are = has.0;
+    }
+
+pub all_starts_happen : AllStartsHappen
+all_starts_happen g old n p tables has_node later starts =
+    let first : ℕ = first_of old n p in
+    let has = has_these old n first p tables (old.kept n) in
+    record {
+      new = with_node old n first p tables (old.kept n);
+      happens = record {
+        others = others_stay old n first p tables (old.kept n);
+        goes = record {
+          has = has_node;
+          later = later;
+          starts = subst (StartsBy g first p n (old.kept n)) (sym has.0) starts;
+          kept = has.1;
+          started = is_started old n first p tables (old.kept n);
+        };
+      };
+      tables_are = has.0;
+    }
+
+pub all_renewals_happen : AllRenewalsHappen
+all_renewals_happen g old n facts begun needed fit =
+    let kept : List (List ℕ) = fact_lines (old.tables n).plan facts in
+    let has = has_these old n (old.last_plan n) (old.last_plan n) (old.tables n) kept in
+    record {
+      new = with_node old n (old.last_plan n) (old.last_plan n) (old.tables n) kept;
+      happens = record {
+        others = others_stay old n (old.last_plan n) (old.last_plan n) (old.tables n) kept;
+        goes = record { begun = begun; needed = needed; fit = fit; kept = has.1; tables = has.0; still = is_started old n (old.last_plan n) (old.last_plan n) (old.tables n) kept };
+      };
+      tables_are = has.0;
+    }

@@ -1,6 +1,6 @@
 -- A run of a node, by its tenants' parts.
 use Rattle.std.proofs.Common.{◌≡◌, ◌∙◌, ℕ, ◌<◌, Bool, true, false, List, [], ◌∷◌, ◌++◌, length, refl, sym, ap, subst}
-use Rattle.std.specs.Prelude.{All, filter, ◌==◌, if◌then◌else◌}
+use Rattle.std.specs.Prelude.{All, filter}
 use Rattle.gq_wire.specs.declared.incoming.Incoming.{Incoming}
 use Rattle.gq_wire.specs.declared.incoming.Incoming.TheVariants.{Request, Plan, Bad, Letter, Joins, Joined, Fetch, Fetched, Tick, Nothing}
 use Rattle.gq_wire.specs.Incoming.{incoming_of}
@@ -12,7 +12,7 @@ use Rattle.gq_node.specs.Local.{Local}
 use Rattle.gq_node.specs.Sites.{Here, site_of}
 use Rattle.gq_node.specs.Tables.{Tables, Agrees}
 use Rattle.gq_facts.specs.Laws.{FitsFact}
-use Rattle.gq_parts.specs.Inputs.{alone, is_for, inputs_of, line_inputs, lines_inputs}
+use Rattle.gq_parts.specs.Inputs.{is_for, inputs_of, line_inputs, lines_inputs}
 use Rattle.gq_parts.specs.Texts.{written_for, written_by, facts_by, parts_after, line_text_of}
 use Rattle.gq_parts.specs.Steps.{AllAgree, fact_lines, TakesAll, StepsTo}
 use Rattle.gq_parts.specs.Resting.{IsNodeOf}

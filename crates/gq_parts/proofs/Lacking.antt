@@ -1,5 +1,5 @@
 -- Whether a node lacks a file of some tenant, by its tables and by its parts.
-use Rattle.std.proofs.Common.{◌≡◌, ◌∙◌, ℕ, zero, suc, ◌+◌, ◌<◌, Bool, true, false, List, [], ◌∷◌, ◌++◌, length, cond, refl, sym, ap, arith, inl, inr}
+use Rattle.std.proofs.Common.{◌≡◌, ◌∙◌, ℕ, zero, suc, ◌+◌, ◌<◌, Bool, true, false, List, [], ◌∷◌, length, cond, refl, sym, ap, arith, inl, inr}
 use Rattle.std.specs.Prelude.{◌||◌, nat_lt, fold}
 use Rattle.std.proofs.lemmas.Bool.{cases_eq}
 use Rattle.std.specs.List.{count_by, list_any, sum_by, range_with_len}
@@ -27,7 +27,7 @@ lacked_is : (w : Tables) (t : ℕ) (local : Local) → Agrees w t local → lack
 lacked_is w t local agrees =
     ap (λ (a : Account). lacked_files (lacks_at w t) a.volumes) agrees.account ∙ counted_same (lacks_at w t) local.lacks (all_files local.volumes) agrees.lacks
 
-any_same : (f g : ℕ → Bool) (a n : ℕ) → ((t : ℕ) → t < a + n → f t ≡ g t) → list_any f (range_with_len a n) ≡ list_any g (range_with_len a n)
+pub any_same : (f g : ℕ → Bool) (a n : ℕ) → ((t : ℕ) → t < a + n → f t ≡ g t) → list_any f (range_with_len a n) ≡ list_any g (range_with_len a n)
 any_same f g a zero same = refl
 any_same f g a (suc n) same = rw (same a (omega arith), any_same f g (a + 1) n (λ t below. same t (omega arith))) refl
 
@@ -35,7 +35,7 @@ pub some_lacks_is : (w : Tables) (parts : ℕ → Local) → AllAgree w parts �
 some_lacks_is w parts agree = any_same _ _ 0 (length w.plan.rows) (λ t below. ap (nat_lt 0) (lacked_is w t (parts t) (agree t (omega arith))))
 
 -- nobody lacks where there is no tenant
-some_tenant : (f : ℕ → Bool) (n : ℕ) → list_any f (range_with_len 0 n) ≡ true → 0 < n
+pub some_tenant : (f : ℕ → Bool) (n : ℕ) → list_any f (range_with_len 0 n) ≡ true → 0 < n
 some_tenant f zero some = cc
 some_tenant f (suc n) some = omega arith
 

@@ -1,6 +1,12 @@
 pub mod Apart
 pub mod Within
 pub mod Hops
+pub mod Alike
+pub mod AlikeTexts
+pub mod AlikeStarts
+pub mod Homes
+pub mod LaterPlans
+pub mod There
 pub mod Own
 pub mod Knowing
 pub mod Lacking

@@ -1,5 +1,5 @@
 -- The worked case, up to the writes: three nodes are lost at one place, and replaced. The words on quorums are opened here to compute.
-use Rattle.std.proofs.Common.{◌≡◌, ◌∙◌, ℕ, zero, suc, ◌+◌, ◌<◌, List, [], ◌∷◌, ◌++◌, refl, sym, ap, subst, arith}
+use Rattle.std.proofs.Common.{◌≡◌, ◌∙◌, ℕ, zero, suc, ◌<◌, List, [], ◌∷◌, ◌++◌, refl, sym, ap, subst, arith}
 use Rattle.std.specs.Prelude.{⊤, codes}
 use Rattle.std.proofs.lemmas.List.Sums.{fold-append}
 use Rattle.gq_tag.specs.Tag.{first_copy}
@@ -35,7 +35,7 @@ is_chain t (suc (suc (suc i))) (suc (suc zero)) low = absurd (omega arith)
 is_chain t (suc (suc (suc i))) (suc (suc (suc j))) low = record { more = []; lost = refl; volumes = omega arith }
 
 pub plans_sound : AreSound grid_worked
-plans_sound = record { plan = is_plan; servers = omega arith; chain = is_chain }
+plans_sound = record { plan = is_plan; servers = omega arith; chain = is_chain; opened = λ p t. omega arith }
 
 -- ---- lines, and what they are to their nodes
 

@@ -445,7 +445,7 @@ pub took_alone : (old new : Tables) (t : ℕ) (xs : List Input) (f0 f1 t0 t1 : L
 took_alone old new t xs f0 f1 t0 t1 within q = took_next old old new (λ u. []) t xs f0 f0 f1 t0 t0 t1 within (λ u above. refl) (none_took_all old f0 t0) q
 
 -- the same inputs of each tenant
-same_places : {A : Type 0} (f g : ℕ → List A) (a n : ℕ) → ((u : ℕ) → u < a + n → f u ≡ g u) → flat_map f (range_with_len a n) ≡ flat_map g (range_with_len a n)
+pub same_places : {A : Type 0} (f g : ℕ → List A) (a n : ℕ) → ((u : ℕ) → u < a + n → f u ≡ g u) → flat_map f (range_with_len a n) ≡ flat_map g (range_with_len a n)
 same_places f g a zero same = refl
 same_places f g a (suc n) same =
     ap (λ z. z ++ flat_map f (range_with_len (a + 1) n)) (same a (omega arith)) ∙ ap (λ z. g a ++ z) (same_places f g (a + 1) n (λ u below. same u (omega arith)))

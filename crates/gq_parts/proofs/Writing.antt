@@ -14,7 +14,7 @@ use Rattle.gq_phase.specs.Quorums.{collect_quorum, store_quorum, ends_collect, e
 use Rattle.gq_model.specs.declared.events.Line.{Line}
 use Rattle.gq_model.specs.declared.events.Line.TheVariants.{Write}
 use Rattle.gq_model.specs.Told.{Began, Noted, Round, Done}
-use Rattle.gq_model.specs.Trace.{Own, State, operation}
+use Rattle.gq_model.specs.Trace.{Own, State}
 use Rattle.gq_model.specs.Lone.{Step, entry_of, hear_step}
 use Rattle.gq_cluster.specs.Facts.{Reserved}
 use Rattle.gq_laws.proofs.Holding.{greatest-cons}
@@ -24,7 +24,7 @@ use Rattle.gq_node.specs.Nodes.{NodeWorld, Nodes, Came, site_in, posts, after_do
 use Rattle.gq_node.specs.Sites.{Site}
 use Rattle.gq_replace.specs.Fleet.{Posted}
 use Rattle.gq_parts.specs.AllNodes.{world_at}
-use Rattle.gq_parts.specs.Within.{own_of, brought, hops, within}
+use Rattle.gq_parts.specs.Within.{own_of, hops, within}
 use Rattle.gq_parts.specs.Worked.{grid_worked, content, written, letter_worked}
 use Rattle.gq_parts.proofs.Taking.{hops_none}
 

@@ -1,5 +1,5 @@
 -- All nodes of a grid, as lines come to them and as they start, with plans by which nodes are lost and replaced and volumes are opened.
-use Rattle.std.specs.Prelude.{◌≡◌, ◌≢◌, ℕ, ◌+◌, ◌*◌, ◌<◌, List, [], ◌∷◌, ◌++◌, Bool, true, false, length, map, take, ⊤, if◌then◌else◌}
+use Rattle.std.specs.Prelude.{◌≡◌, ◌≢◌, ℕ, ◌+◌, ◌*◌, ◌<◌, ◌≤◌, List, [], ◌∷◌, ◌++◌, Bool, true, false, length, map, take, ⊤, All, if◌then◌else◌}
 use Rattle.gq_desk.specs.CheckedPlan.{CheckedPlan, row_at}
 use Rattle.gq_desk.specs.declared.plans.TenantRow.{TenantRow}
 use Rattle.gq_desk.specs.declared.volumes.VolumeRow.{VolumeRow}
@@ -9,12 +9,17 @@ use Rattle.gq_keeper.specs.Starting.{RecallsAll}
 use Rattle.gq_cluster.specs.Cluster.{NodeStep}
 use Rattle.gq_replace.specs.Fleet.{FleetStep, new_fleet, all_node_steps}
 use Rattle.gq_replace.specs.Laws.{IsRight, Follows as FleetFollows}
-use Rattle.gq_replace.specs.Plans.{Plan, IsChain}
+use Rattle.gq_replace.specs.Plans.{Plan, IsChain, has_node as plan_has}
 use Rattle.gq_node.specs.declared.lost.TheConstants.{MOST_NUMBERS}
 use Rattle.gq_node.specs.Nodes.{NodeWorld, Nodes, Event, Came, AskedToJoin, Started, site_at, new_nodes, nodes_after, all_steps, CanCome, Follows, AllOpen}
-use Rattle.gq_node.specs.Resting.{FirstPlan, those_of}
+use Rattle.gq_cluster.specs.Facts.{OwnFact}
+use Rattle.gq_facts.specs.Laws.{FitsFact}
+use Rattle.gq_node.specs.declared.output.Fact.{Fact}
+use Rattle.gq_node.specs.Local.{Local}
+use Rattle.gq_node.specs.Resting.{FirstPlan, those_of, recall_all, begun_local, Needed}
 use Rattle.gq_node.specs.Inputs.{Input}
-use Rattle.gq_node.specs.Sites.{Here, numbered, home_of, home_place, is_of_plan}
+use Rattle.gq_node.specs.Sites.{Here, Site, site_of, plan_in, numbered, home_of, home_place, is_of_plan}
+use Rattle.gq_parts.specs.Alike.{AreAlike}
 use Rattle.gq_node.specs.Tables.{Tables, Agrees}
 use Rattle.gq_wire.specs.declared.incoming.Incoming.{Incoming}
 use Rattle.gq_wire.specs.declared.incoming.Incoming.TheVariants.{Joins}
@@ -24,7 +29,7 @@ use Rattle.gq_parts.specs.Inputs.{inputs_of, line_inputs}
 use Rattle.gq_parts.specs.Texts.{written_by, parts_after, line_text_of}
 use Rattle.gq_parts.specs.Recalls.{RecallsTo, facts_said}
 use Rattle.gq_parts.specs.Resting.{IsNewNode}
-use Rattle.gq_parts.specs.Steps.{StepsTo}
+use Rattle.gq_parts.specs.Steps.{StepsTo, fact_lines}
 
 -- ---- the plans of a grid
 
@@ -63,15 +68,22 @@ world_with g t row volumes = record {
 abbrev pub world_at : GridPlans → (t : ℕ) → NodeWorld
 world_at g t = world_with g t (numbered (row_at g.plan t)) (g.opens t)
 
--- The plan is sound, and of a grid of two servers or more, since nobody could give a copy to the only one. No plan takes back what an earlier one says.
+-- the plan has the node
+abbrev pub HasNode : GridPlans → (p n : ℕ) → Type 0
+HasNode g p n = plan_has (plan_in (g.lost p)) n ≡ true
+
+-- The plan is sound, and of a grid of two servers or more, since nobody could give a copy to the only one. No plan takes back what an earlier one says,
+-- and each opens volumes that there are.
 pub record AreSound (g : GridPlans) : Type 0 where
   pub plan : IsPlan g.plan
   pub servers : 1 < g.plan.grid.rows * g.plan.grid.cols
   pub chain : (t : ℕ) → IsChain (plans_of g t)
+  pub opened : (p t : ℕ) → g.count p t ≤ length (g.opens t)
 
 -- ---- the nodes
 
--- of each node whether it was started, with which plan first and last, its tables, and the lines of all facts that it gave, in order
+-- of each node whether it was started, the plan with which its journal begins and the one that it was started with last, its tables, and the lines of the
+-- facts in its journal, in order
 pub record AllNodes : Type 0 where
   pub begun : ℕ → Bool
   pub first_plan : ℕ → ℕ
@@ -90,20 +102,23 @@ pub data Happening : Type 0 where
   Took : (node p : ℕ) (did : Did) → Happening
   -- the node is started, for the first time or again, with plan p
   Starts : (node p : ℕ) → Happening
+  -- the node's journal is written anew: with the plan that it was started with last, and these facts
+  Renews : (node : ℕ) (facts : List Fact) → Happening
 
 -- the node
 abbrev pub node_in : Happening → ℕ
 node_in (Took n p did) = n
 node_in (Starts n p) = n
+node_in (Renews n facts) = n
 
--- A start: a node that was never started reads these lines. If it is a new one, it lacks the volumes of the plan that it was started with first, and its
+-- A start: a node that was never started reads these lines. If it is a new one, it lacks the volumes of the plan with which its journal begins, and its
 -- sessions begin where this says.
 pub record StartsBy (g : GridPlans) (first p n : ℕ) (kept : List (List ℕ)) (new : Tables) : Type 0 where
   pub blank : Tables
   pub is_new : IsNewNode g.plan (here_in g p n) (volumes_in g p) (first_in g first) blank
   pub reads : RecallsAll RecallsTo blank kept new
 
--- the plan that it was started with first
+-- the plan with which its journal begins
 abbrev pub first_of : AllNodes → (n p : ℕ) → ℕ
 first_of nodes n p = if nodes.begun n then nodes.first_plan n else p
 
@@ -113,7 +128,8 @@ pub record IsStarted (n first p : ℕ) (new : AllNodes) : Type 0 where
   pub first_plan : new.first_plan n ≡ first
   pub last_plan : new.last_plan n ≡ p
 
--- what the node does: it takes a step, and its facts are kept; or it starts by what it kept
+-- what the node does: it takes a step, and its facts are kept; or it starts by what it kept, with a plan that has it, and with no earlier one than before;
+-- or its journal is written anew, with the facts that a start needs
 pub record TakesStep (n p : ℕ) (did : Did) (old new : AllNodes) : Type 0 where
   pub begun : old.begun n ≡ true
   pub plan : old.last_plan n ≡ p
@@ -122,13 +138,24 @@ pub record TakesStep (n p : ℕ) (did : Did) (old new : AllNodes) : Type 0 where
   pub still : IsStarted n (old.first_plan n) p new
 
 pub record TakesStart (g : GridPlans) (n p : ℕ) (old new : AllNodes) : Type 0 where
+  pub has : HasNode g p n
+  pub later : old.begun n ≡ true → old.last_plan n ≤ p
   pub starts : StartsBy g (first_of old n p) p n (old.kept n) (new.tables n)
   pub kept : new.kept n ≡ old.kept n
   pub started : IsStarted n (first_of old n p) p new
 
+pub record TakesNewJournal (n : ℕ) (facts : List Fact) (old new : AllNodes) : Type 0 where
+  pub begun : old.begun n ≡ true
+  pub needed : Needed (old.tables n) facts
+  pub fit : All (FitsFact (old.tables n).plan) facts
+  pub kept : new.kept n ≡ fact_lines (old.tables n).plan facts
+  pub tables : new.tables n ≡ old.tables n
+  pub still : IsStarted n (old.last_plan n) (old.last_plan n) new
+
 abbrev pub GoesBy : GridPlans → Happening → (old new : AllNodes) → Type 0
 GoesBy g (Took n p did) old new = TakesStep n p did old new
 GoesBy g (Starts n p) old new = TakesStart g n p old new
+GoesBy g (Renews n facts) old new = TakesNewJournal n facts old new
 
 -- a node stays as it is
 pub record Stays (m : ℕ) (old new : AllNodes) : Type 0 where
@@ -158,6 +185,7 @@ came_events g p n t nodes incoming = map (λ input. Came n input) (taken (site_a
 abbrev pub events_of : GridPlans → (t : ℕ) → Nodes → Happening → List Event
 events_of g t nodes (Took n p did) = came_events g p n t nodes (incoming_of g.plan n did.line)
 events_of g t nodes (Starts n p) = Started n p ∷ []
+events_of g t nodes (Renews n facts) = []
 
 -- of all happenings, from these nodes on, as the law has them
 abbrev pub events_from : GridPlans → (t : ℕ) → Nodes → List Happening → List Event
@@ -187,6 +215,7 @@ IncomingCanCome g p n t nodes incoming = InputsCanCome (world_at g t) n nodes (i
 abbrev pub HappeningCanCome : GridPlans → (t : ℕ) → Nodes → Happening → Type 0
 HappeningCanCome g t nodes (Took n p did) = IncomingCanCome g p n t nodes (incoming_of g.plan n did.line)
 HappeningCanCome g t nodes (Starts n p) = CanCome (world_at g t) nodes (Started n p)
+HappeningCanCome g t nodes (Renews n facts) = ⊤
 
 abbrev pub LinesCanCome : GridPlans → (t : ℕ) → Nodes → List Happening → Type 0
 LinesCanCome g t nodes [] = ⊤
@@ -194,13 +223,24 @@ LinesCanCome g t nodes (h ∷ hs) = HappeningCanCome g t nodes h × LinesCanCome
 
 -- ---- what all that comes to
 
--- each node that was started has of the tenant what the law says, and its facts of the tenant are those of the law
+-- what a start with plan p makes of the tenant's part, where the journal begins with the plan `first` and has these facts of the tenant
+abbrev pub start_in : GridPlans → (t n first p : ℕ) → List OwnFact → Local
+start_in g t n first p facts = recall_all (site_of g.plan (here_in g p n) t) (begun_local (site_of g.plan (here_in g p n) t) (volumes_in g p t) (first_in g first t)) facts
+
+-- the tables have for the tenant a part that does the same as this one
+pub record HasAlike (site : Site) (w : Tables) (t : ℕ) (part : Local) : Type 0 where
+  pub local : Local
+  pub agrees : Agrees w t local
+  pub alike : AreAlike site local part
+
+-- Each node that was started has of the tenant a part that does the same as the law's. Whenever it starts again, with this plan or a later one that has
+-- it, its journal makes a part that does the same as the one that the law makes of all facts that it ever gave.
 pub record AreNodes (g : GridPlans) (nodes : AllNodes) (t : ℕ) (by_law : Nodes) : Type 0 where
   pub begun : (n : ℕ) → nodes.begun n ≡ by_law.begun n
-  pub first_plan : (n : ℕ) → nodes.begun n ≡ true → nodes.first_plan n ≡ by_law.first_plan n
   pub last_plan : (n : ℕ) → nodes.begun n ≡ true → nodes.last_plan n ≡ by_law.last_plan n
-  pub parts : (n : ℕ) → nodes.begun n ≡ true → Agrees (nodes.tables n) t (by_law.local n)
-  pub facts : (n : ℕ) → those_of t (facts_said g.plan (nodes.kept n)) ≡ by_law.facts n
+  pub parts : (n : ℕ) → nodes.begun n ≡ true → HasAlike (site_of g.plan (here_in g (nodes.last_plan n) n) t) (nodes.tables n) t (by_law.local n)
+  pub starts : (n p : ℕ) → nodes.begun n ≡ true → nodes.last_plan n ≤ p → HasNode g p n →
+      AreAlike (site_of g.plan (here_in g p n) t) (start_in g t n (nodes.first_plan n) p (those_of t (facts_said g.plan (nodes.kept n)))) (start_in g t n (by_law.first_plan n) p (by_law.facts n))
 
 -- What a line tells, after these happenings, is what is written for the tenants by the parts that its node then has by the law, and behind it what the
 -- node itself writes to other nodes.
@@ -210,6 +250,7 @@ TellsAt g before (Took n p did) =
     ≡ written_by g.plan (here_in g p n) (λ t. (nodes_at g before t).local n) (line_inputs g.plan (here_in g p n) did.line)
     ++ line_text_of g.plan (here_in g p n) did.line (parts_after g.plan (here_in g p n) (λ t. (nodes_at g before t).local n) (line_inputs g.plan (here_in g p n) did.line))
 TellsAt g before (Starts n p) = Unit {0}
+TellsAt g before (Renews n facts) = Unit {0}
 
 abbrev pub TellsAll : GridPlans → (before hs : List Happening) → Type 0
 TellsAll g before [] = Unit {0}
@@ -244,6 +285,25 @@ pub record IsByLaw (g : GridPlans) (hs : List Happening) (last : AllNodes) : Typ
   pub nodes : (t : ℕ) → t < length g.plan.rows → AreNodes g last t (nodes_at g hs t)
   pub follow : (t : ℕ) → t < length g.plan.rows → LinesCanCome g t (new_nodes (world_at g t)) hs → FollowsLaw g hs t
 
--- whatever lines come to the nodes of a grid, of which none was ever started, and whenever one is lost and replaced, or starts again
+-- whatever lines come to the nodes of a grid, of which none was ever started, and whenever one is lost and replaced, starts again, or has its journal written
+-- anew
 abbrev pub AllByLaw : Type 0
 AllByLaw = (g : GridPlans) (first last : AllNodes) (hs : List Happening) → AreSound g → AllNew first → AllHappen g first hs last → IsByLaw g hs last
+
+-- What the calls of a node promise of one node, here of node n, is what happens to all: of a step, of a start, and of a journal that is written anew.
+pub record CanHappen (g : GridPlans) (old : AllNodes) (h : Happening) (tables : Tables) : Type 0 where
+  pub new : AllNodes
+  pub happens : Happens g old h new
+  pub tables_are : new.tables (node_in h) ≡ tables
+
+abbrev pub AllStepsHappen : Type 0
+AllStepsHappen = (g : GridPlans) (old : AllNodes) (n : ℕ) (did : Did) (tables : Tables) → old.begun n ≡ true → StepsTo (old.tables n) did.line did.facts did.told tables →
+    CanHappen g old (Took n (old.last_plan n) did) tables
+
+abbrev pub AllStartsHappen : Type 0
+AllStartsHappen = (g : GridPlans) (old : AllNodes) (n p : ℕ) (tables : Tables) → HasNode g p n → (old.begun n ≡ true → old.last_plan n ≤ p) →
+    StartsBy g (first_of old n p) p n (old.kept n) tables → CanHappen g old (Starts n p) tables
+
+abbrev pub AllRenewalsHappen : Type 0
+AllRenewalsHappen = (g : GridPlans) (old : AllNodes) (n : ℕ) (facts : List Fact) → old.begun n ≡ true → Needed (old.tables n) facts → All (FitsFact (old.tables n).plan) facts →
+    CanHappen g old (Renews n facts) (old.tables n)

@@ -2,6 +2,7 @@ pub mod Inputs
 pub mod Texts
 pub mod Within
 pub mod Steps
+pub mod Alike
 pub mod Recalls
 pub mod Resting
 pub mod Laws

@@ -2,7 +2,7 @@
 --
 -- Two servers in one column, and a tenant with two sessions and one file. Node 1 is lost, then the node in its place, and then the next one: each new one
 -- is told by node 0 that its plan has it, and is given the file. Then session 1, whose home is node 0, writes the file, one write after another.
-use Rattle.std.specs.Prelude.{◌≡◌, ℕ, zero, suc, ◌+◌, ◌-◌, ◌^◌, ◌<◌, List, [], ◌∷◌, ◌++◌, true, None, Some, codes, decimal}
+use Rattle.std.specs.Prelude.{◌≡◌, ℕ, zero, suc, ◌+◌, ◌^◌, ◌<◌, List, [], ◌∷◌, ◌++◌, true, None, Some, codes, decimal}
 use Rattle.gq_tag.specs.declared.StoredCopy.{StoredCopy}
 use Rattle.gq_tag.specs.declared.Body.{Body}
 use Rattle.gq_tag.specs.declared.Body.TheVariants.{Store, Stored}

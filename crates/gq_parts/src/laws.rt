@@ -1,6 +1,7 @@
 //! What a run of a node comes to, and one of all nodes of a plan.
 
-ghost use Rattle.gq_parts.specs.AllNodes.{AllByLaw};
+ghost use Rattle.gq_parts.specs.Alike.{AllDoSame, AllWriteSame};
+ghost use Rattle.gq_parts.specs.AllNodes.{AllByLaw, AllRenewalsHappen, AllStartsHappen, AllStepsHappen};
 ghost use Rattle.gq_parts.specs.Worked.{AllWorked};
 ghost use Rattle.gq_parts.specs.Laws.{AllFactsByParts, AllOthersLeftOut, AllRunsByParts, AllStartsByParts, AllTenantsApart, AllTextsByParts};
 
@@ -26,13 +27,24 @@ pub fn starts_apart()
     ensures facts { AllFactsByParts }
 {}
 
-/// Whatever lines come to the nodes of a grid, and whenever one starts with this plan or a later one, is lost and replaced, or starts again by
-/// the facts that it gave: of each tenant each node has what the law of nodes (`gq_node::laws::nodes`) says of this tenant's requests,
-/// letters, ticks and starts, and what is told is what is written for these parts. And where what came for the tenant was written
-/// before, and no node that is gone takes a step, all this is a run of the law of nodes that are lost and replaced, and each file is one
-/// register.
+/// Parts of a node that have the same of what a step looks at do the same, whatever comes: the same is written and kept, and they are alike
+/// after it.
+pub fn alike()
+    ensures does { AllDoSame }
+    ensures writes { AllWriteSame }
+{}
+
+/// Whatever lines come to the nodes of a grid, and whenever one starts with this plan or a later one, is lost and replaced, starts again by
+/// its journal, or has its journal written anew: of each tenant each node has a part that does the same as what the law of nodes
+/// (`gq_node::laws::nodes`) says of this tenant's requests, letters, ticks and starts, and what is told is what is written for the law's parts. And
+/// where what came for the tenant was written before, and no node that is gone takes a step, all this is a run of the law of nodes that are lost and
+/// replaced, and each file is one register (`law`). What the calls of one node promise of a step, of a start and of a journal that is written anew is
+/// what the law takes to happen (`steps`, `starts`, `renewals`).
 pub fn all_nodes()
-    ensures { AllByLaw }
+    ensures law { AllByLaw }
+    ensures steps { AllStepsHappen }
+    ensures starts { AllStartsHappen }
+    ensures renewals { AllRenewalsHappen }
 {}
 
 /// A run of any length of which the law speaks: three nodes are lost at one place, one behind the other, and then a session writes as often as one
