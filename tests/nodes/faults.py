@@ -62,6 +62,20 @@ def first_journal():
     return sealed(1, b"node 0 of 2 by 2\n" + PLAN)
 
 
+# Journals of a later form. The batches behind its line may be sealed as those of today, or in any other way.
+LATER = b"journal 2\n"
+LATER_FORMS = {
+    "a later form": sealed(1, LATER + b"node 0 of 2 by 2\n" + PLAN),
+    "a later form with batches of today": sealed(1, LATER + b"node 0 of 2 by 2\n" + PLAN) + sealed(2, b"began ann 1 1024\n"),
+    "a later form whose first batch has another seal": LATER + b"node 0 of 2 by 2\n" + PLAN + b"seal s:00112233\n",
+    "the same, with a batch of today after it": LATER + b"node 0 of 2 by 2\n" + PLAN + b"seal s:00112233\n" + sealed(2, b"began ann 1 1024\n"),
+    "a later form of bytes": LATER + bytes(range(256)) * 40,
+    "a later form's line alone": LATER,
+    "a later form's line with more words": b"journal 2 of pieces\n" + first_journal(),
+}
+NO_FORMS = {"a form that is no number": b"journal two\n" + bytes(99), "no form": b"journal\n", "half a line of a form": b"journal 2", "an empty journal": b""}
+
+
 def of_node(number):
     return b"gridfs: journal: of node %d\n" % number
 
@@ -115,6 +129,17 @@ class Faults:
         self.held("a folder that is not there", self.node(journal="none/journal", is_new=True), (1, b"gridfs: none/journal: write fault\n", b""))
         self.refused("another number", 1, of_node(0), number=1)
         self.refused("no such server", 1, b"gridfs: node 4: of 4\n", number=4)
+
+    def forms(self):
+        """A journal of a form that a later program writes is told so, and stays as it is, to the byte, whatever comes after its first line."""
+        text = get(self.at("journal"))
+        for name, later in LATER_FORMS.items():
+            put(self.at("journal"), later)
+            self.refused(name, 1, b"gridfs: journal: form 2, of a later program: this one reads form 1\n")
+        for name, other in NO_FORMS.items():
+            put(self.at("journal"), other)
+            self.refused(name, 1, b"gridfs: journal: no journal of a node\n")
+        put(self.at("journal"), text)
 
     def plans(self):
         for text, fault in PLANS:
@@ -217,6 +242,7 @@ def tell_faults(program, folder):
     faults = Faults(program, folder)
     faults.first_start()
     faults.journals()
+    faults.forms()
     faults.plans()
     faults.plans_that_go_on()
     faults.words()

@@ -1,3 +1,4 @@
+pub mod Forms
 pub mod Faults
 pub mod Serving
 pub mod Promises

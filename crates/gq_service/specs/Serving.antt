@@ -27,8 +27,9 @@ use Rattle.gq_setup.specs.NotKept.{IsNotKept}
 use Rattle.gq_setup.specs.Laws.{here_of}
 use Rattle.gq_setup.specs.GoingOn.{goes_on_from_read}
 use Rattle.gq_setup.specs.Texts.{node_text, setup_of_node_text, no_first, first_read, first_of_lines}
+use Rattle.gq_service.specs.Forms.{form_of}
 use Rattle.gq_service.specs.declared.fault.NodeFault.{NodeFault}
-use Rattle.gq_service.specs.declared.fault.NodeFault.TheVariants.{NoServer, PlanText, Damaged, Another, Strange}
+use Rattle.gq_service.specs.declared.fault.NodeFault.TheVariants.{NoServer, PlanText, Form, Damaged, Another, Strange}
 use Rattle.gq_service.specs.declared.mismatch.Mismatch.{Mismatch}
 use Rattle.gq_service.specs.declared.mismatch.Mismatch.TheVariants.{NoPlan, Node, Plan}
 
@@ -132,6 +133,11 @@ abbrev pub TellsDamage : (journal : List ℕ) → NodeFault → Type 0
 TellsDamage journal (Damaged at) = IsDamaged journal at
 TellsDamage journal _ = Unit {0}
 
+-- where a form is told, the journal says that it has it
+abbrev pub TellsForm : (journal : List ℕ) → NodeFault → Type 0
+TellsForm journal (Form form) = form_of journal ≡ Some form
+TellsForm journal _ = Unit {0}
+
 -- a line of the journal says no fact that fits in the node of this number, never started
 pub record IsStrange (setup : Setup) (number : ℕ) (journal : List ℕ) : Type 0 where
   pub new : NodeMachine
@@ -160,8 +166,9 @@ TellsAnother setup number journal (Another why) = (is_its_journal setup number j
 TellsAnother setup number journal Strange = IsStrange setup number journal
 TellsAnother setup number journal _ = Unit {0}
 
--- these three leave the journal as it was
+-- these leave the journal as it was
 abbrev pub LeavesJournal : (same : Type 0) → NodeFault → Type 0
+LeavesJournal same (Form form) = same
 LeavesJournal same (Damaged at) = same
 LeavesJournal same (Another why) = same
 LeavesJournal same Strange = same

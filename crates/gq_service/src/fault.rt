@@ -46,6 +46,8 @@ pub enum NodeFault {
     JournalRead,
     /// The journal could not be written or synced.
     JournalWrite,
+    /// The journal says that it has this form, which a later program writes.
+    Form(u32),
     /// The journal is damaged: its first wrong batch begins at this byte, and a right one is behind it.
     Damaged(usize),
     /// The journal is of another node, or of a plan from which this one doesn't go on.
@@ -128,6 +130,12 @@ impl Display for Told<'_, '_> {
             NodeFault::Journal => write!(f, "{journal}: a journal"),
             NodeFault::JournalRead => write!(f, "{journal}: read fault"),
             NodeFault::JournalWrite => write!(f, "{journal}: write fault"),
+            NodeFault::Form(form) => {
+                write!(
+                    f,
+                    "{journal}: form {form}, of a later program: this one reads form 1"
+                )
+            }
             NodeFault::Damaged(at) => write!(f, "{journal}: damaged at byte {at}"),
             NodeFault::Another(Mismatch::NoPlan) => write!(f, "{journal}: no journal of a node"),
             NodeFault::Another(Mismatch::Node(other)) => write!(f, "{journal}: of node {other}"),

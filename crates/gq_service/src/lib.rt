@@ -6,6 +6,7 @@ mod console;
 mod fault;
 mod filling;
 mod finding;
+mod forms;
 pub mod laws;
 mod locking;
 mod mismatch;

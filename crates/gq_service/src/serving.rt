@@ -1,6 +1,6 @@
 //! A node over its journal, from its start to the end of its input.
 
-ghost use Rattle.std.specs.Prelude.{◌≡◌, ◌⊎◌, ◌++◌, ℕ, List, true, false, Ok, IfOk, IfErr, OnOk, if◌then◌else◌};
+ghost use Rattle.std.specs.Prelude.{◌≡◌, ◌⊎◌, ◌++◌, ℕ, List, true, false, None, Ok, IsSome, IfOk, IfErr, OnOk, if◌then◌else◌};
 ghost use Rattle.gq_journal.specs.Batches.{whole_lines, lines_text, batches_of, has_right_batch};
 ghost use Rattle.gq_keeper.specs.Crashes.{Elapses, Leaves, LeavesSyncing};
 ghost use Rattle.gq_keeper.specs.Plans.{first_plan};
@@ -12,11 +12,13 @@ ghost use Rattle.gq_machine.specs.Machines.{tables_of, MachineRecalls, machine_r
 ghost use Rattle.gq_setup.specs.Setups.{Setup};
 ghost use Rattle.gq_setup.specs.Texts.{first_read, first_of_lines};
 ghost use Rattle.gq_service.specs.Faults.{as_fault};
-ghost use Rattle.gq_service.specs.Serving.{IsNewFor, IsStarted, IsDurable, MayBeLeft, ServesInput, TellsDamage, TellsAnother, LeavesJournal, journal_found, is_its_journal};
+ghost use Rattle.gq_service.specs.Forms.{form_of};
+ghost use Rattle.gq_service.specs.Serving.{IsNewFor, IsStarted, IsDurable, MayBeLeft, ServesInput, TellsForm, TellsDamage, TellsAnother, LeavesJournal, journal_found, is_its_journal};
 
 use crate::console::Console;
 use crate::fault::NodeFault;
 use crate::filling::Filling;
+use crate::forms::form_of;
 use crate::mismatch::mismatch_of;
 use crate::new_node::new_node;
 use crate::this_node::ThisNode;
@@ -37,6 +39,7 @@ fn begin<D: Disk>(
     requires { MachineIsOf (whole_lines node.now.plan.text.items) machine.now }
     ensures sealed { IfOk result (λ next. AllSealed (D.seen disk.new) (D.synced disk.new) next) }
     ensures restarts { OnOk result (Restarts MachineRecalls machine_reads MachineIsBlank MachineRests (whole_lines node.now.plan.text.items) machine.now (D.synced disk.new)) }
+    ensures form { IfErr result (λ fault. (journal : List ℕ) → TellsForm journal fault) }
     ensures damaged { IfErr result (λ fault. (journal : List ℕ) → TellsDamage journal fault) }
     ensures crash { Elapses (D.instant disk.old) (D.instant disk.new) (D.left_since disk.old) (D.left_since disk.new)
         (λ left. Leaves (D.synced disk.old) (D.seen disk.old) left ⊎ Restarts MachineRecalls machine_reads MachineIsBlank MachineRests (whole_lines node.now.plan.text.items) machine.now left) }
@@ -63,6 +66,7 @@ fn go_on<D: Disk, C: Console>(
     ensures recalled { OnOk result (RecallsAll MachineRecalls machine.old (facts_read (D.seen disk.old)) machine.new) }
     ensures its { OnOk result (is_its_journal node.now.plan.setup node.now.number (D.seen disk.old) ≡ true) }
     ensures whole { OnOk result (has_right_batch (behind (D.seen disk.old)) ≡ false) }
+    ensures form { IfErr result (λ fault. (journal : List ℕ) → TellsForm journal fault) }
     ensures damaged { IfErr result (TellsDamage (D.seen disk.old)) }
     ensures another { IfErr result (TellsAnother node.now.plan.setup node.now.number (D.seen disk.old)) }
     ensures same { IfErr result (LeavesJournal (D.seen disk.new ≡ D.seen disk.old)) }
@@ -114,6 +118,7 @@ fn begin_or_go_on<D: Disk, C: Console>(
     ensures started { OnOk result (IsStarted node.now.plan.setup node.now.number (journal_found is_new (D.seen disk.old)) machine.new) }
     ensures its { is_new ≡ false → OnOk result (is_its_journal node.now.plan.setup node.now.number (D.seen disk.old) ≡ true) }
     ensures whole { is_new ≡ false → OnOk result (has_right_batch (behind (D.seen disk.old)) ≡ false) }
+    ensures form { IfErr result (λ fault. (journal : List ℕ) → TellsForm journal fault) }
     ensures damaged { IfErr result (TellsDamage (D.seen disk.old)) }
     ensures another { is_new ≡ false → IfErr result (TellsAnother node.now.plan.setup node.now.number (D.seen disk.old)) }
     ensures same { is_new ≡ false → IfErr result (LeavesJournal (D.seen disk.new ≡ D.seen disk.old)) }
@@ -127,9 +132,11 @@ fn begin_or_go_on<D: Disk, C: Console>(
     }
 }
 
-// The journal that is there, once it is made sure of, or none where one is to be begun.
+// The journal that is there, once it is made sure of, or none where one is to be begun. One of another form is refused.
 fn journal_text<D: Disk>(alloc: Global, is_new: bool, disk: &mut D) -> Result<Vec<u8>, NodeFault>
     ensures found { is_new ≡ false → IfOk result (λ text. text.items ≡ D.seen disk.old) }
+    ensures known { is_new ≡ false → OnOk result (form_of (D.seen disk.old) ≡ None) }
+    ensures form { IfErr result (TellsForm (D.seen disk.old)) }
     ensures synced { is_new ≡ false → OnOk result (D.synced disk.new ≡ D.seen disk.new) }
     ensures seen { D.seen disk.new ≡ D.seen disk.old }
     ensures alone { is_new ≡ true → D.synced disk.new ≡ D.synced disk.old }
@@ -141,7 +148,11 @@ fn journal_text<D: Disk>(alloc: Global, is_new: bool, disk: &mut D) -> Result<Ve
     if is_new {
         return Ok(Vec::new(alloc));
     }
-    Ok(disk.read(alloc)?)
+    let journal = disk.read(alloc)?;
+    match form_of(journal.as_slice()) {
+        Some(form) => Err(NodeFault::Form(form)),
+        None => Ok(journal),
+    }
 }
 
 // The text of the plan with which the node's journal begins: of the one that is there, or of one that is to be begun.
@@ -182,6 +193,7 @@ fn serve_machine<D: Disk, I: Read, O: Output, C: Console>(
     ensures served { OnOk result (ServesInput node.now.plan.setup node.now.number (journal_found is_new (D.seen disk.old)) (I.remaining input.old) (O.shown out.old ++ first_text) (D.synced disk.new) (O.shown out.new)) }
     ensures its { is_new ≡ false → OnOk result (is_its_journal node.now.plan.setup node.now.number (D.seen disk.old) ≡ true) }
     ensures whole { is_new ≡ false → OnOk result (has_right_batch (behind (D.seen disk.old)) ≡ false) }
+    ensures form { IfErr result (λ fault. (journal : List ℕ) → TellsForm journal fault) }
     ensures damaged { IfErr result (TellsDamage (D.seen disk.old)) }
     ensures another { is_new ≡ false → IfErr result (TellsAnother node.now.plan.setup node.now.number (D.seen disk.old)) }
     ensures crash { Elapses (D.instant disk.old) (D.instant disk.new) (D.left_since disk.old) (D.left_since disk.new)
@@ -210,7 +222,8 @@ fn serve_machine<D: Disk, I: Read, O: Output, C: Console>(
 
 /// Starts the node from its journal, or with none where one is to be begun, and takes the lines of the input to its end. `durable`
 /// says all that is known of what is shown, at each write: it is what the node told by steps whose facts are synced. At the end of
-/// the input all its lines were taken so (`served`). The node goes on only from a journal that is its own (`its`), of which no
+/// the input all its lines were taken so (`served`). A journal that says that it has a form stays as it was, to the byte, whatever happens
+/// (`kept`): later programs wrote it. The node goes on only from a journal that is its own (`its`), of which no
 /// wrong batch has a right one behind it (`whole`); `Damaged` tells where the first wrong batch begins that has one. `Another`
 /// comes only where the journal is not its own, and what it tells of the last plan is so; `Strange` only where a line of the journal
 /// says no fact that fits in this node. At any time, also amid the start and while the journal is written anew, a crash leaves what
@@ -228,6 +241,8 @@ pub fn serve_node<D: Disk, I: Read, O: Output, C: Console>(
     ensures served { OnOk result (ServesInput node.now.plan.setup node.now.number (journal_found is_new (D.seen disk.old)) (I.remaining input.old) (O.shown out.old ++ first_text) (D.synced disk.new) (O.shown out.new)) }
     ensures its { is_new ≡ false → OnOk result (is_its_journal node.now.plan.setup node.now.number (D.seen disk.old) ≡ true) }
     ensures whole { is_new ≡ false → OnOk result (has_right_batch (behind (D.seen disk.old)) ≡ false) }
+    ensures form { IfErr result (TellsForm (D.seen disk.old)) }
+    ensures kept { is_new ≡ false → IsSome (form_of (D.seen disk.old)) → D.seen disk.new ≡ D.seen disk.old }
     ensures damaged { IfErr result (TellsDamage (D.seen disk.old)) }
     ensures another { is_new ≡ false → IfErr result (TellsAnother node.now.plan.setup node.now.number (D.seen disk.old)) }
     ensures any_time { (left : List ℕ) → D.left_since disk.new (D.instant disk.old) left → MayBeLeft node.now.plan.setup node.now.number is_new (D.synced disk.old) (D.seen disk.old) left }

@@ -1,7 +1,5 @@
-use Rattle.std.proofs.Common.{◌≡◌, ◌∙◌, List, ℕ, [], Ok, Option, sym, ap, subst}
+use Rattle.std.proofs.Common.{◌≡◌, List, ℕ, Ok, Option, sym, subst}
 use Rattle.std.specs.Prelude.{MatchOption, IsErr}
-use Rattle.gq_journal.specs.Batches.{lines_text, batches_of}
-use Rattle.gq_keeper.specs.Plans.{last_plan}
 use Rattle.gq_setup.specs.NotKept.{IsNotKept}
 use Rattle.gq_setup.specs.Setups.{Setup, SetupReading}
 use Rattle.gq_setup.specs.Texts.{setup_of_node_text}

@@ -1,5 +1,5 @@
 -- Those of the setup that was read.
-use Rattle.std.proofs.Common.{◌≡◌, ◌∙◌, sym, ap}
+use Rattle.std.proofs.Common.{◌∙◌, sym, ap}
 use Rattle.gq_service.specs.Serving.{first_of_read}
 use Rattle.gq_service.proofs.new_node.losses_before.Goals as goal
 

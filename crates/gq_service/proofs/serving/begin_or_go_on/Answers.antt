@@ -1,5 +1,5 @@
 -- A journal that goes on is the node's own, and begins with a plan.
-use Rattle.std.proofs.Common.{◌≡◌, ℕ, List, false, true, refl, sym, subst}
+use Rattle.std.proofs.Common.{◌≡◌, ℕ, List, true, refl, sym, subst}
 use Rattle.gq_journal.specs.Batches.{batches_of}
 use Rattle.gq_keeper.specs.Plans.{first_plan}
 use Rattle.gq_keeper.specs.Starting.{RecallsAll, facts_read}
