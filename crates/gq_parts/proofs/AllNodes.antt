@@ -28,7 +28,7 @@ use Rattle.gq_wire.specs.declared.incoming.Incoming.{Incoming}
 use Rattle.gq_wire.specs.declared.incoming.Incoming.TheVariants.{Request, Plan as AsksPlan, Bad, Letter, Joins, Joined, Fetch, Fetched, Tick, Nothing}
 use Rattle.gq_wire.specs.Incoming.{incoming_of}
 use Rattle.gq_parts.specs.Alike.{AreAlike}
-use Rattle.gq_parts.specs.AllNodes.{first_in, GridPlans, here_in, volumes_in, plans_of, world_with, world_at, HasNode, AreSound, AllNodes, Happening, Took, Starts, Renews, StartsBy, first_of, IsStarted, TakesStep, TakesStart, TakesNewJournal, Stays, Happens, AllHappen, came_events, events_of, events_from, all_events, nodes_at, InputsCanCome, IncomingCanCome, HappeningCanCome, LinesCanCome, start_in, HasAlike, TellsAt, TellsAll, fleet_steps, cluster_steps, row_for, IsOneRegister, FollowsLaw, AllByLaw, AllStepsHappen, AllStartsHappen, AllRenewalsHappen}
+use Rattle.gq_parts.specs.AllNodes.{first_in, GridPlans, here_in, volumes_in, plans_of, world_with, world_at, HasNode, AreSound, AllNodes, Happening, Took, Starts, Renews, StartsBy, first_of, IsStarted, TakesStep, TakesStart, TakesNewJournal, Stays, Happens, AllHappen, came_events, events_of, events_from, all_events, nodes_at, InputsCanCome, IncomingCanCome, HappeningCanCome, LinesCanCome, start_in, HasAlike, TellsAt, TellsAll, fleet_steps, cluster_steps, row_for, IsOneRegister, AllByLaw, AllFollowLaw, AllStepsHappen, AllStartsHappen, AllRenewalsHappen}
 use Rattle.gq_parts.specs.Inputs.{inputs_of, line_inputs}
 use Rattle.gq_parts.specs.Recalls.{facts_said}
 use Rattle.gq_parts.specs.Resting.{IsNodeOf}
@@ -648,7 +648,7 @@ all_can g t nodes (h ∷ hs) can =
 -- ---- the whole
 
 -- of a tenant to which what comes by lines can come
-pub follows_law : (g : GridPlans) (hs : List Happening) (t : ℕ) → AreSound g → LinesCanCome g t (new_nodes (world_at g t)) hs → FollowsLaw g hs t
+pub follows_law : AllFollowLaw
 follows_law g hs t sound can = record {
   follows = all_nodes_follow (world_at g t) (all_events g t hs) (sound.chain t) (sessions_stay g t sound) (some_servers g sound) (few_places g.plan sound.plan) (all_can g t (new_nodes (world_at g t)) hs can);
   right = λ opens. one_register g t (all_events g t hs) sound (all_can g t (new_nodes (world_at g t)) hs can) opens;
@@ -678,7 +678,6 @@ all_by_law g first last hs sound new happen =
                 let x : IsKnown g t n (at_node last (nodes_at g hs t) n) = are.known n begun in
                 later_alike g t n (last.last_plan n) p (last.first_plan n) ((nodes_at g hs t).first_plan n) (its_facts g t (last.kept n)) ((nodes_at g hs t).facts n) sound later x.has has x.low x.low_ever x.there x.there_ever x.starts);
           });
-      follow = λ t within can. follows_law g hs t sound can;
     }
 
 -- ---- what calls promise of one node

@@ -279,14 +279,17 @@ pub record FollowsLaw (g : GridPlans) (hs : List Happening) (t : ℕ) : Type 0 w
   pub follows : Follows (world_at g t) (new_nodes (world_at g t)) new_fleet (all_events g t hs)
   pub right : AllOpen (row_at g.plan t) [] (g.opens t) → IsOneRegister g t (all_events g t hs)
 
--- all lines told what the law says, all nodes are left as it says, and each tenant's events follow the law
+-- Whatever lines come to the nodes of a grid, and whenever one is lost and replaced, starts again, or has its journal written anew: where what came for a
+-- tenant was written before, and no node that is gone takes a step, its events follow the law.
+abbrev pub AllFollowLaw : Type 0
+AllFollowLaw = (g : GridPlans) (hs : List Happening) (t : ℕ) → AreSound g → LinesCanCome g t (new_nodes (world_at g t)) hs → FollowsLaw g hs t
+
+-- all lines told what the law says, and all nodes are left as it says
 pub record IsByLaw (g : GridPlans) (hs : List Happening) (last : AllNodes) : Type 0 where
   pub told : TellsAll g [] hs
   pub nodes : (t : ℕ) → t < length g.plan.rows → AreNodes g last t (nodes_at g hs t)
-  pub follow : (t : ℕ) → t < length g.plan.rows → LinesCanCome g t (new_nodes (world_at g t)) hs → FollowsLaw g hs t
 
--- whatever lines come to the nodes of a grid, of which none was ever started, and whenever one is lost and replaced, starts again, or has its journal written
--- anew
+-- the program's nodes are such nodes, of which none was ever started
 abbrev pub AllByLaw : Type 0
 AllByLaw = (g : GridPlans) (first last : AllNodes) (hs : List Happening) → AreSound g → AllNew first → AllHappen g first hs last → IsByLaw g hs last
 

@@ -1,7 +1,7 @@
 //! What a run of a node comes to, and one of all nodes of a plan.
 
 ghost use Rattle.gq_parts.specs.Alike.{AllDoSame, AllWriteSame};
-ghost use Rattle.gq_parts.specs.AllNodes.{AllByLaw, AllRenewalsHappen, AllStartsHappen, AllStepsHappen};
+ghost use Rattle.gq_parts.specs.AllNodes.{AllByLaw, AllFollowLaw, AllRenewalsHappen, AllStartsHappen, AllStepsHappen};
 ghost use Rattle.gq_parts.specs.Worked.{AllWorked};
 ghost use Rattle.gq_parts.specs.Laws.{AllFactsByParts, AllOthersLeftOut, AllRunsByParts, AllStartsByParts, AllTenantsApart, AllTextsByParts};
 
@@ -35,13 +35,14 @@ pub fn alike()
 {}
 
 /// Whatever lines come to the nodes of a grid, and whenever one starts with this plan or a later one, is lost and replaced, starts again by
-/// its journal, or has its journal written anew: of each tenant each node has a part that does the same as what the law of nodes
-/// (`gq_node::laws::nodes`) says of this tenant's requests, letters, ticks and starts, and what is told is what is written for the law's parts. And
-/// where what came for the tenant was written before, and no node that is gone takes a step, all this is a run of the law of nodes that are lost and
-/// replaced, and each file is one register (`law`). What the calls of one node promise of a step, of a start and of a journal that is written anew is
-/// what the law takes to happen (`steps`, `starts`, `renewals`).
+/// its journal, or has its journal written anew: where what came for a tenant was written before, and no node that is gone takes a step, all this is a
+/// run of the law of nodes that are lost and replaced, and each file is one register (`follow`). The program's nodes are such nodes. Of each tenant each
+/// node has a part that does the same as what the law of nodes (`gq_node::laws::nodes`) says of this tenant's requests, letters, ticks and starts, and
+/// what is told is what is written for the law's parts (`nodes`). What the calls of one node promise of a step, of a start and of a journal that is
+/// written anew is what happens there (`steps`, `starts`, `renewals`).
 pub fn all_nodes()
-    ensures law { AllByLaw }
+    ensures follow { AllFollowLaw }
+    ensures nodes { AllByLaw }
     ensures steps { AllStepsHappen }
     ensures starts { AllStartsHappen }
     ensures renewals { AllRenewalsHappen }

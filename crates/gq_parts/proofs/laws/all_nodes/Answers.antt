@@ -1,8 +1,11 @@
-use Rattle.gq_parts.proofs.AllNodes.{all_by_law, all_steps_happen, all_starts_happen, all_renewals_happen}
+use Rattle.gq_parts.proofs.AllNodes.{follows_law, all_by_law, all_steps_happen, all_starts_happen, all_renewals_happen}
 use Rattle.gq_parts.proofs.laws.all_nodes.Goals as goal
 
-pub returns-clause-law : goal.returns-clause-law
-returns-clause-law c = all_by_law
+pub returns-clause-follow : goal.returns-clause-follow
+returns-clause-follow c = follows_law
+
+pub returns-clause-nodes : goal.returns-clause-nodes
+returns-clause-nodes c = all_by_law
 
 pub returns-clause-steps : goal.returns-clause-steps
 returns-clause-steps c = all_steps_happen
