@@ -4,6 +4,7 @@ import contextlib
 import dataclasses
 import hashlib
 import io
+import json
 import os
 import shutil
 import sys
@@ -562,10 +563,10 @@ class Commands(unittest.TestCase):
 
     def test_wrong_maps_of_clients(self):
         client = command.main
-        for words in (["ls"], ["get", "x"], ["put", "a.ini", "x"], ["rm", "x"], ["stat", "x"], ["sweep"]):
+        for words in (["ls"], ["get", "x"], ["put", "a.ini", "x"], ["rm", "x"], ["rm", "-r", "x"], ["stat", "x"], ["status"], ["mirror", ".", "grid:"], ["sweep"]):
             self.refuse(2, "there is no such map", *words, map="missing", call=client)
             self.refuse(2, "no map of a fleet", *words, map="no map", call=client)
-        for words in (["status"], ["mirror", ".", "grid:"], ["plan"], ["read", "0", "0"]):
+        for words in (["write", "0", "0", "x"], ["list", "0"], ["plan"], ["read", "0", "0"]):
             self.refuse(2, "is about one grid", *words, map="missing", call=client)
         self.told(fleet_command.main, ["--map", "map", "begin", "a", "a.ini"])
         self.refuse(6, "a: none: No such file or directory", "get", "x", call=client)
@@ -689,6 +690,65 @@ class OverGrids(unittest.TestCase):
                 self.assertEqual(after.read(), text)
         for where in ("map", "copy", "link"):
             self.assertEqual([self.client("get", f"name {number}", where=("--map", where)) for number in range(20)], list(map(str, range(20))))
+
+
+    def spread(self, count):
+        """Names at both grids, with their contents; some of these stand in slots."""
+        self.fleet("add", "west", "west.ini")
+        self.fleet("spread")
+        held = {f"folder/name {number}": f"{number} " * (1 + 40 * (number % 3)) for number in range(count)}
+        for name, text in held.items():
+            self.put(name, text)
+        return held
+
+    def files_in(self, folder):
+        found = {}
+        for inside, _, names in os.walk(folder):
+            for name in names:
+                with open(os.path.join(inside, name)) as file:
+                    found[os.path.relpath(os.path.join(inside, name), folder)] = file.read()
+        return found
+
+    def test_mirror(self):
+        """A backup of all grids, brought up to date and put back: by a map from before the last move too. The fleet's own copy of its map stays what it is."""
+        held = self.spread(24)
+        self.assertIn("got 24, removed 0; 0 the same", self.client("mirror", "grid:", "backup"))
+        self.assertEqual(self.files_in("backup"), held)
+        shutil.copy("map", "older")
+        self.fleet("move", "40000-50000", "east")
+        self.put("folder/name 3", "another")
+        self.client("rm", "folder/name 5")
+        held |= {"folder/name 3": "another"}
+        del held["folder/name 5"]
+        self.assertIn("would get 1, remove 1; 22 the same", self.client("mirror", "--dry-run", "--delete", "grid:", "backup", where=("--map", "older")))
+        self.assertIn("got 1, removed 1; 22 the same", self.client("mirror", "--delete", "grid:", "backup", where=("--map", "older")))
+        self.assertEqual(self.files_in("backup"), held)
+        self.assertIn("removed 23", self.client("rm", "-r", "folder"))
+        self.assertNotIn("folder/", self.client("ls"))
+        for file, text in ((".fleet", "x"), ("folder/name 3", "the last")):
+            with open(f"backup/{file}", "w") as out:
+                out.write(text)
+        told = self.client("mirror", "--delete", "backup", "grid:", status=2)
+        self.assertIn("skipped backup/.fleet: .fleet: the fleet's copy of its map", told)
+        self.assertIn("put 23, removed 0; 0 the same", told)
+        self.assertEqual({name: self.client("get", name) for name in held}, held | {"folder/name 3": "the last"})
+        self.assertIn("grid:nothing/: no name begins so", self.client("mirror", "grid:nothing", "empty", status=1))
+
+    def test_status(self):
+        self.spread(12)
+        told = json.loads(self.client("status", "--json"))
+        self.assertEqual(set(told["grids"]), {"east", "west"})
+        each = [told["grids"][label] for label in ("east", "west")]
+        self.assertTrue(all(grid["goes_on"] and grid["names"] for grid in each), told)
+        self.assertEqual(told["names"], sum(grid["names"] for grid in each))
+        self.assertEqual(told["bytes"]["free"], sum(grid["bytes"]["free"] for grid in each))
+        self.assertIn(f"all: {told['names']} names, ", self.client("status"))
+        os.unlink("west.ini")
+        with open("west.ini", "w") as out:
+            out.write(SETTINGS)
+        told = self.client("status", status=6)
+        self.assertIn("west:\n  names, pages, slots, bytes: left out: none: No such file or directory", told)
+        self.assertIn("not all is told: west: none: No such file or directory", told)
 
 
 if __name__ == "__main__":

@@ -7,7 +7,8 @@ import signal
 import sys
 import time
 from collections.abc import Callable, Iterator
-from contextlib import closing, contextmanager
+from concurrent.futures import ThreadPoolExecutor
+from contextlib import AbstractContextManager, closing, contextmanager
 from dataclasses import replace
 from functools import cached_property, partial
 from typing import IO, Any, TypeVar
@@ -16,8 +17,8 @@ from . import __version__
 from .answers import PlanTold
 from .asking import SILENCE, ask_all, ask_plan, why_unanswered
 from .carriers import Carrier
-from .errors import BadFile, BadName, BadSettings, ClientError, Refused, Silent, Skipped, Unanswered
-from .fleet import MAP_NAME, FleetFiles
+from .errors import BadFile, BadSettings, ClientError, Refused, Silent, Skipped, Unanswered
+from .fleet import MAP_NAME, FleetFiles, expect_no_map
 from .fleet_map import read_map
 from .grid import Nodes, listed
 from .layout import BLOCK, layout_of
@@ -127,6 +128,12 @@ class Opened:
                 names = self.names(session)
                 again()
 
+    def prepare(self) -> None:
+        """Before names are moved one after another by `names_for`."""
+
+    def turn_of(self, name: str) -> int:
+        return turn_of(name, len(self.sessions.numbers))
+
     @contextmanager
     def names_for(self, name: str) -> Iterator[NamedFiles]:
         """The names by a session of their own, the one that depends on the name if that is free; others may have it again afterwards."""
@@ -159,6 +166,15 @@ class OpenedFleet:
         result = call(names)
         names.close()
         return result
+
+    def prepare(self) -> None:
+        self.grids.take_latest_map()
+
+    def turn_of(self, name: str) -> int:
+        return self.grids.turn_of(name)
+
+    def names_for(self, name: str) -> AbstractContextManager[FleetFiles]:
+        return self.grids.files_for(name)
 
 
 def number_of(word: str) -> int:
@@ -233,8 +249,8 @@ def tell(args: argparse.Namespace, value: object, *lines: str) -> None:
 
 
 def put(opened: Opened | OpenedFleet, args: argparse.Namespace) -> None:
-    if isinstance(opened, OpenedFleet) and args.name == MAP_NAME:
-        raise BadName(f"{MAP_NAME}: the fleet's copy of its map, which gridfs-fleet puts")
+    if isinstance(opened, OpenedFleet):
+        expect_no_map(args.name)
     with content_of(args.path) as given:
         content = rewindable(given)
         entry = opened.by_sessions(lambda names: names.put(args.name, content), partial(go_to, content, content.tell()) if content.seekable() else None)
@@ -278,11 +294,11 @@ def ls(opened: Opened | OpenedFleet, args: argparse.Namespace) -> None:
 
 
 def rm(opened: Opened | OpenedFleet, args: argparse.Namespace) -> None:
-    if args.is_whole and isinstance(opened, Opened):
+    if args.is_whole:
         remove_whole(opened, args)
         return
-    if args.is_whole or args.dry_run:
-        raise BadSettings("-r is about one grid: leave `map` out" if args.is_whole else "--dry-run goes with -r")
+    if args.dry_run:
+        raise BadSettings("--dry-run goes with -r")
     left = list(args.names)
 
     def remove(names: NamedFiles | FleetFiles) -> None:
@@ -294,13 +310,13 @@ def rm(opened: Opened | OpenedFleet, args: argparse.Namespace) -> None:
     tell(args, {"removed": args.names})
 
 
-def remove_whole(opened: Opened, args: argparse.Namespace) -> None:
+def remove_whole(opened: Opened | OpenedFleet, args: argparse.Namespace) -> None:
     """Takes all names with these prefixes away, and tells each, and how many there were."""
     prefixes = [prefix_of(name if name.startswith(GRID) else GRID + name) or "" for name in args.names]
     removed: list[str] = []
-    turns = partial(turn_of, count=len(opened.sessions.numbers))
+    opened.prepare()
     for prefix in prefixes:
-        removed += Removal("", prefix, opened.names_for, turns, line_teller(args), complain, is_dry=args.dry_run).run().removed
+        removed += Removal("", prefix, opened.names_for, opened.turn_of, line_teller(args), complain, is_dry=args.dry_run).run().removed
     value = {"dry_run": args.dry_run, "removed": removed}
     tell(args, value, *([] if args.quiet else [f"{'would remove' if args.dry_run else 'removed'} {len(removed)}"]))
 
@@ -369,16 +385,16 @@ def line_teller(args: argparse.Namespace) -> Callable[[str, str], None]:
     return tell_line
 
 
-def mirror(opened: Opened, args: argparse.Namespace) -> None:
+def mirror(opened: Opened | OpenedFleet, args: argparse.Namespace) -> None:
     to_grid, from_grid = prefix_of(args.target), prefix_of(args.source)
     folder = args.source if from_grid is None else args.target
     if (to_grid is None) == (from_grid is None) or not folder:
         raise BadSettings(f"mirror wants a folder and {GRID}PREFIX, one as the source and the other one as the target")
 
-    count = len(opened.sessions.numbers)
+    opened.prepare()
     kind = ToFolder if to_grid is None else ToGrid
     prefix = from_grid if to_grid is None else to_grid
-    made = kind(folder, prefix or "", opened.names_for, partial(turn_of, count=count), line_teller(args), complain, args.delete, args.dry_run)
+    made = kind(folder, prefix or "", opened.names_for, opened.turn_of, line_teller(args), complain, args.delete, args.dry_run)
     report = made.run()
     value = {"dry_run": args.dry_run, made.word: report.moved, "removed": report.removed, "same": report.same, "skipped": report.skipped}
     moved, removed = (f"would {made.word}", "remove") if args.dry_run else (made.done, "removed")
@@ -388,13 +404,16 @@ def mirror(opened: Opened, args: argparse.Namespace) -> None:
         raise Skipped(f"{len(report.skipped)} skipped", report.status)
 
 
-def status(opened: Opened, args: argparse.Namespace) -> None:
+def status(opened: Opened | OpenedFleet, args: argparse.Namespace) -> None:
+    if isinstance(opened, OpenedFleet):
+        status_of_grids(opened.grids, args)
+        return
     said = opened.settings.shape()
     if said and said.nodes != opened.told.nodes:
         raise BadSettings(f"grid: {said.rows}x{said.columns} are {said.nodes} nodes, and there are {opened.told.nodes}")
     nodes = ask_all(opened.carrier, min(SILENCE, opened.sessions.pace.timeout), said)
     assert nodes
-    usage, fault = (None, Silent(nodes.summary())) if nodes.goes_on() is False else used(opened)
+    usage, fault = (None, Silent(nodes.summary())) if nodes.goes_on() is False else used(opened.names)
     left_out = str(fault) if fault else None
     value = {"tenant": opened.settings.tenant} | nodes_value(nodes) | usage_value(usage, left_out)
     tell(args, value, *nodes_lines(nodes), *usage_lines(usage, left_out))
@@ -402,12 +421,41 @@ def status(opened: Opened, args: argparse.Namespace) -> None:
         raise fault
 
 
-def used(opened: Opened) -> tuple[Usage | None, ClientError | None]:
+def used(names: Callable[[], NamedFiles]) -> tuple[Usage | None, ClientError | None]:
     """What the tenant has used, or why that can't be told: its volumes may be for no names."""
     try:
-        return usage_of(opened.names()), None
+        return usage_of(names()), None
     except ClientError as fault:
         return None, fault
+
+
+def status_of_grids(grids: OpenGrids, args: argparse.Namespace) -> None:
+    """What each grid of a fleet tells. The fault of the first that does not tell all is raised."""
+    with ThreadPoolExecutor(len(grids.map.grids)) as threads:
+        found = dict(zip(grids.map.grids, threads.map(partial(status_of_grid, grids), grids.map.grids)))
+    lines = [line for grid, (_, told, _) in found.items() for line in (f"{grid}:", *(f"  {each}" for each in told))]
+    usages = [value["bytes"] and (value["names"], value["bytes"]) for value, _, _ in found.values()]
+    known = [usage for usage in usages if usage]
+    whole = {"names": sum(names for names, _ in known), "bytes": {key: sum(size[key] for _, size in known) for key in ("used", "free")}}
+    lines.append(f"all: {whole['names']} names, {whole['bytes']['used']} bytes used, {whole['bytes']['free']} free")
+    tell(args, {"grids": {grid: value for grid, (value, _, _) in found.items()}} | whole, *lines)
+    for grid, (_, _, fault) in found.items():
+        if fault and not isinstance(fault, BadSettings):
+            raise Skipped(f"not all is told: {fault if str(fault).startswith(grid) else f'{grid}: {fault}'}", fault.status)
+
+
+def status_of_grid(grids: OpenGrids, grid: str) -> tuple[dict[str, Any], list[str], ClientError | None]:
+    """For JSON, in lines, and why not all of it is known."""
+    try:
+        nodes = grids.grid(grid).nodes()
+        if nodes is None:
+            raise Silent(f"{grid}: no node answers")
+    except ClientError as fault:
+        silent = str(fault).removeprefix(f"{grid}: ")
+        return usage_value(None, silent), usage_lines(None, silent), fault
+    usage, why = (None, Silent(nodes.summary())) if nodes.goes_on() is False else used(lambda: grids.files().grid(grid))
+    left_out = str(why) if why else None
+    return nodes_value(nodes) | usage_value(usage, left_out), [*nodes_lines(nodes), *usage_lines(usage, left_out)], why
 
 
 # The command
@@ -441,7 +489,7 @@ def run(words: list[str]) -> None:
 
 def run_over_grids(args: argparse.Namespace, settings: Settings) -> None:
     """A command about the names of several grids."""
-    if args.call not in (put, get, ls, rm, stat, sweep):
+    if args.call not in (put, get, ls, rm, stat, mirror, status, sweep):
         raise BadSettings(f"{args.word} is about one grid: leave `map` out, and name the settings of that grid")
     name = vars(args).get("name") or vars(args).get("names", [""])[0]
     is_shown = sys.stderr is not None and sys.stderr.isatty() and not args.quiet

@@ -12,7 +12,7 @@ from . import core, ways
 from .buckets import OLDER, Bucket, Held, held_of
 from .contents import Content, Inline
 from .core import Knows, Line, Version
-from .errors import BadSettings, ClientError, Damaged, NoRoom, NoSuchName, Replaced
+from .errors import BadName, BadSettings, ClientError, Damaged, NoRoom, NoSuchName, Replaced
 from .fleet_map import FleetMap
 from .layout import Layout
 from .listing import Listing
@@ -23,6 +23,11 @@ from .ways import Found, Ground, Opens, Walk, slice_of
 
 TRIES = 20  # of a change whose name goes to another grid in its midst
 MAP_NAME = ".fleet"
+
+
+def expect_no_map(name: str) -> None:
+    if name == MAP_NAME:
+        raise BadName(f"{MAP_NAME}: the fleet's copy of its map, which gridfs-fleet puts")
 
 
 def ground_of(fleet_map: FleetMap, grid: str) -> Ground:
@@ -71,6 +76,16 @@ class FleetFiles:
 
     def ground(self, grid: str) -> Ground:
         return ground_of(self.map, grid)
+
+    @property
+    def has_asked(self) -> bool:
+        """Whether other sessions help at some grid."""
+        return any(files.has_asked for files in self.grids.values())
+
+    @property
+    def is_bound(self) -> bool:
+        """Whether nobody else may begin anew what a call did that got no answer, as at one grid."""
+        return any(files.is_bound for files in self.grids.values())
 
     def bucket(self, grid: str, name: str) -> Bucket:
         return self.grid(grid).bucket(name)

@@ -13,7 +13,6 @@ from dataclasses import dataclass, replace
 from typing import IO
 
 from . import __version__
-from .asking import SILENCE, ask_all
 from .core import Page
 from .errors import BadSettings, ClientError, Silent
 from .fleet_map import FleetMap, Move, new_map, read_map
@@ -143,7 +142,7 @@ class Report:
 def report_of(grids: OpenGrids, grid: str, slices: int) -> Report:
     try:
         opened = grids.grid(grid)
-        nodes = ask_all(opened.carrier, min(SILENCE, opened.settings.seconds("timeout")), opened.settings.shape())
+        nodes = opened.nodes()
         text = f"{grid}: {slices} slices, {nodes.summary() if nodes else 'no node answers'}"
         if nodes is None or nodes.goes_on() is False:
             return Report(text, Silent.status)

@@ -19,6 +19,7 @@ from functools import partial
 from typing import TypeVar
 
 from .errors import BadFile, BadName, ClientError, Damaged, NoRoom, NoSuchName, Replaced, SourceChanged, Unanswered
+from .fleet import MAP_NAME, FleetFiles, expect_no_map
 from .local import UNFINISHED, to_target
 from .names import Entry, NamedFiles
 from .pages import check_name, check_words
@@ -27,7 +28,8 @@ GRID = "grid:"  # what a prefix begins with, so that no folder is taken for one
 LINK, NO_FILE = "a symbolic link is not followed", "it is not a regular file"
 WORDS = "user.gridfs"  # the attribute of a file: SHA-256 of the content whose words they are, and the words
 Result = TypeVar("Result")
-OpenNames = Callable[[str], AbstractContextManager[NamedFiles]]
+AnyFiles = NamedFiles | FleetFiles
+OpenNames = Callable[[str], AbstractContextManager[AnyFiles]]
 
 
 def prefix_of(word: str) -> str | None:
@@ -207,7 +209,9 @@ class Mirror(abc.ABC):
 
     def entries(self) -> dict[str, Entry]:
         with self.names("") as files:
-            return {entry.name: entry for entry in files.names(self.prefix)}
+            found = files.names(self.prefix)
+            own = MAP_NAME if isinstance(files, FleetFiles) else None  # (it is gridfs-fleet's, and none of the tenant's names)
+            return {entry.name: entry for entry in found if entry.name != own}
 
     def local(self, path: str) -> str:
         return os.path.join(self.folder, path)
@@ -232,20 +236,20 @@ class Mirror(abc.ABC):
             self.report.removed.append(name)
             self.tell("would remove" if self.is_dry else "removed", name)
 
-    def remove_name(self, files: NamedFiles, name: str) -> bool:
+    def remove_name(self, files: AnyFiles, name: str) -> bool:
         try:
             files.remove(name)
         except NoSuchName:
             return False
         return True
 
-    def move(self, names: Iterable[str], work: Callable[[NamedFiles, str], bool]) -> None:
+    def move(self, names: Iterable[str], work: Callable[[AnyFiles, str], bool]) -> None:
         """Moves contents; `work` tells whether there was one to move."""
         for name in self.in_turns(names, work):
             self.report.moved.append(name)
             self.tell(f"would {self.word}" if self.is_dry else self.done, name)
 
-    def in_turns(self, names: Iterable[str], work: Callable[[NamedFiles, str], bool]) -> Iterator[str]:
+    def in_turns(self, names: Iterable[str], work: Callable[[AnyFiles, str], bool]) -> Iterator[str]:
         """The names for which work was done, or for a dry run all of them. It is done by one session after another, and a session is given back
         once others have helped it: so other commands of this machine find some, and names are spread over the pages of all. Where its home dies or is
         silent, another one begins the name anew, once."""
@@ -315,15 +319,18 @@ class ToGrid(Mirror):
         path = os.fsdecode(name.removeprefix(self.prefix).encode())
         return name not in self.files and not any(path == unread or path.startswith(unread + "/") for unread in self.unread)
 
-    def put(self, files: NamedFiles, name: str) -> bool:
+    def put(self, files: AnyFiles, name: str) -> bool:
         def call() -> bool:
             with open_regular(path) as file:
                 words = words_of(file)
+                if isinstance(files, FleetFiles):
+                    expect_no_map(name)
                 files.put(name, file, lambda: words)
             return True
 
         path = self.local(self.files[name])
         return self.tried(path, call) is True
+
 
 class Removal(Mirror):
     """Takes the names with the prefix away."""
@@ -384,7 +391,7 @@ class ToFolder(Mirror):
         except BadName:
             return True
 
-    def get(self, files: NamedFiles, name: str) -> bool:
+    def get(self, files: AnyFiles, name: str) -> bool:
         def call() -> bool:
             make_folders(self.folder, self.paths[name])
             if kind_of(path) not in (None, stat.S_IFREG):

@@ -5,18 +5,19 @@ from collections.abc import Collection, Iterator
 from contextlib import ExitStack, closing, contextmanager
 from typing import IO
 
-from .asking import ask_plan
+from .answers import MOST_SESSIONS
+from .asking import SILENCE, ask_all, ask_plan
 from .errors import BadSettings, CarrierFault, ClientError, NoSuchName, SessionTaken, Unanswered
 from .fleet import MAP_NAME, FleetFiles, in_threads
 from .fleet_map import FleetMap, parse_map
-from .grid import listed
+from .grid import Nodes, listed
 from .layout import Layout, layout_of
 from .local import complain
 from .names import NamedFiles, Progress
-from .opening import AGAIN, OpenSessions
+from .opening import AGAIN, OpenSessions, turn_of
 from .sessions import Session
 from .settings import Settings
-from .ways import Ground
+from .ways import Ground, slice_of
 
 
 class OpenGrid:
@@ -33,9 +34,18 @@ class OpenGrid:
             raise
         self.sessions = OpenSessions(settings, self.told, self.carrier, name)
 
-    def files(self, progress: Progress | None, ground: Ground) -> NamedFiles:
-        sessions = self.sessions
+    def files(self, progress: Progress | None, ground: Ground, sessions: OpenSessions | None = None) -> NamedFiles:
+        """The files by these sessions, or by those that the command has."""
+        sessions = sessions or self.sessions
         return NamedFiles(sessions.first(), self.layout, progress, sessions.helpers, others=sessions.others, ground=ground)
+
+    def sessions_for(self, name: str) -> OpenSessions:
+        """Sessions of its own, that on which the name depends first."""
+        return OpenSessions(self.settings, self.carrier.told or self.told, self.carrier, name)
+
+    def nodes(self) -> Nodes | None:
+        """The nodes, as they answer now; None where none does."""
+        return ask_all(self.carrier, min(SILENCE, self.settings.seconds("timeout")), self.settings.shape())
 
     @contextmanager
     def session(self, numbers: Collection[int], ground: Ground) -> Iterator[NamedFiles]:
@@ -107,6 +117,35 @@ class OpenGrids:
     def files(self) -> FleetFiles:
         return FleetFiles(self.map, self.files_of, in_threads)
 
+    @contextmanager
+    def files_for(self, name: str) -> Iterator[FleetFiles]:
+        """The files by sessions of their own, those on which the name depends if they are free; others may have them again afterwards."""
+        with ExitStack() as taken:
+            all_sessions = list[OpenSessions]()
+
+            def open_files(grid: str, ground: Ground) -> NamedFiles:
+                opened = self.grid(grid)
+                with faults_of(grid):
+                    sessions = taken.enter_context(closing(opened.sessions_for(name)))
+                    all_sessions.append(sessions)
+                    return opened.files(self.progress, ground, sessions)
+
+            files = FleetFiles(self.map, open_files, in_threads)
+            try:
+                yield files
+            except Unanswered as fault:
+                for sessions in all_sessions:
+                    if fault.home is not None and fault.home in map(sessions.told.home_of, sessions.locks):
+                        sessions.leave(fault.home)
+                raise
+            files.close()
+
+    def turn_of(self, name: str) -> int:
+        """The same number for names that begin at one grid, with one session there."""
+        grid = self.map.stop(slice_of(name)).grid
+        sessions = self.grid(grid).sessions.numbers
+        return list(self.map.grids).index(grid) * MOST_SESSIONS + turn_of(name, len(sessions))
+
     def files_of(self, grid: str, ground: Ground) -> NamedFiles:
         opened = self.grid(grid)
         with faults_of(grid):
@@ -126,10 +165,18 @@ class OpenGrids:
         if latest.age <= self.map.age:
             return files
         files.close()
-        for grid in self.open.values():
-            grid.sessions.close()
+        self.leave_sessions()
         self.map = latest
         return self.files()
+
+    def take_latest_map(self) -> None:
+        """Goes by the fleet's own copy of the map, where that is a later one, and has no session afterwards."""
+        self.with_latest_map().close()
+        self.leave_sessions()
+
+    def leave_sessions(self) -> None:
+        for grid in self.open.values():
+            grid.sessions.close()
 
     def stop(self, why: str) -> None:
         for grid in self.open.values():
