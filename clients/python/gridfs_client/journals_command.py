@@ -1,0 +1,161 @@
+"""The command `gridfs-journals`: what an operator reads from journals of nodes, without tenants' keys."""
+
+import argparse
+import os
+import sys
+import tempfile
+from collections.abc import Callable, Iterator, Sequence
+from contextlib import closing, contextmanager
+from functools import partial
+
+from . import __version__
+from .errors import ClientError, Damaged, NoSuchName, Skipped
+from .journals import Journals
+from .layout import BLOCK
+from .local import OUTPUT, complain, json_of, out, out_lines, standard
+from .mirror import ToFolder, shown
+from .names import NamedFiles
+from .status import usage_value
+from .usage import Usage, usage_of
+
+PROGRAM = "gridfs-journals"
+EPILOG = """\
+examples, on a node's machine and for copies of the journals of nodes 0 and 1, which are a row of two by two:
+  gridfs-journals room /var/lib/gridfs/0/journal               how full each tenant is, as node 0 has it
+  gridfs-journals room --metrics /run/gridfs/room.prom 0.pages 1.pages
+  gridfs-journals pages /var/lib/gridfs/0/journal > 0.pages    the little that `room` wants, to be brought elsewhere
+  gridfs-journals get ann backup journal.0 journal.1           ann's names, with their contents, into the folder backup
+
+A journal may be that of a node that runs, or a copy: it is read as far as its batches are whole. The journals of a whole row of nodes have all that was
+acknowledged before the first one was copied. Of fewer some of the last changes may be missing. The status is 0, 1 where a tenant has no name, 2 for wrong words, 5 where
+a journal is damaged or copies don't go together, 6 for other faults of files, and that of the first name which was skipped."""
+METRICS: dict[str, tuple[str, Callable[[Usage], float]]] = {
+    "names": ("names that hold a content", lambda usage: usage.names),
+    "used_bytes": ("bytes of these contents", lambda usage: usage.bytes_used),
+    "free_bytes": ("bytes that free slots have room for", lambda usage: usage.bytes_free),
+    "slots_used": ("slots that are taken", lambda usage: usage.slots_taken),
+    "slots_free": ("slots that are free", lambda usage: usage.slots_free),
+    "fullest_page_ratio": ("how full the fullest page is", lambda usage: usage.fullest.bytes / usage.fullest.most),
+}
+
+
+def parser() -> argparse.ArgumentParser:
+    main = argparse.ArgumentParser(
+        prog=PROGRAM, description="What tenants have, read from journals of nodes.", epilog=EPILOG, formatter_class=argparse.RawDescriptionHelpFormatter
+    )
+    main.add_argument("--version", action="version", version=f"%(prog)s {__version__}")
+    words = main.add_subparsers(dest="word", required=True, metavar="COMMAND")
+    sub = words.add_parser("room", help="how full each tenant is", description="How full each tenant is.")
+    sub.add_argument("--json", action="store_true", help="the answer as JSON, one value")
+    sub.add_argument("--metrics", metavar="FILE", help="write metrics for Prometheus' textfile collector in place of telling")
+    sub.add_argument("journals", nargs="+", metavar="JOURNAL")
+    sub.set_defaults(call=room)
+    sub = words.add_parser("pages", help="what `room` wants of a journal, to standard output", description="Writes what `room` wants of a journal to standard output: some MB at most, which are read as a journal.")
+    sub.add_argument("journals", nargs=1, metavar="JOURNAL")
+    sub.set_defaults(call=pages)
+    sub = words.add_parser("get", help="a tenant's names into a folder", description="Gets a tenant's names, with their contents, into a folder; gridfs-client mirror puts them back.")
+    sub.add_argument("tenant")
+    sub.add_argument("folder")
+    sub.add_argument("journals", nargs="+", metavar="JOURNAL")
+    sub.set_defaults(call=get)
+    return main
+
+
+def used(journals: Journals, tenant: str) -> tuple[Usage | None, str | None]:
+    """What a tenant has used, or why that can't be told."""
+    try:
+        return usage_of(journals.files(tenant, as_they_are=True)), None
+    except ClientError as fault:
+        return None, str(fault)
+
+
+def room(args: argparse.Namespace) -> None:
+    with closing(Journals(args.journals)) as journals:
+        found = {tenant: used(journals, tenant) for tenant in journals.plan.tenants}
+        shares = {tenant: told.share * BLOCK for tenant, told in journals.plan.tenants.items()}
+        nodes, is_whole = sorted(journals.nodes), journals.has_whole_row
+    if args.metrics:
+        write_whole(args.metrics, "".join(metrics({tenant: usage for tenant, (usage, _) in found.items() if usage}, ",".join(map(str, nodes)))))
+        return
+    if args.json:
+        tenants = {tenant: {"share": shares[tenant]} | usage_value(*each) for tenant, each in found.items()}
+        out(json_of({"nodes": nodes, "has_whole_row": is_whole, "tenants": tenants}).encode() + b"\n")
+        return
+    lines = [f"{'tenant':<16} {'names':>7} {'bytes used':>14} {'bytes free':>14} {'slots free':>10} {'of':>6} {'fullest page':>12}"]
+    for tenant, (usage, why) in found.items():
+        lines.append(f"{tenant:<16} {row_of(usage)}" if usage else f"{tenant:<16} left out: {why}")
+    if not is_whole:
+        lines.append("(no whole row of nodes: some of what was written last may be missing)")
+    out_lines(lines)
+
+
+def row_of(usage: Usage) -> str:
+    slots = usage.slots_free + usage.slots_taken
+    return f"{usage.names:>7} {usage.bytes_used:>14} {usage.bytes_free:>14} {usage.slots_free:>10} {slots:>6} {usage.fullest.percent:>11}%"
+
+
+def metrics(usages: dict[str, Usage], nodes: str) -> Iterator[str]:
+    for name, (meaning, number) in METRICS.items():
+        yield f"# HELP gridfs_tenant_{name} {meaning}\n# TYPE gridfs_tenant_{name} gauge\n"
+        for tenant, usage in usages.items():
+            yield f'gridfs_tenant_{name}{{node="{nodes}",tenant="{tenant}"}} {number(usage):g}\n'
+
+
+def write_whole(path: str, text: str) -> None:
+    """Writes a file beside and renames it, so that nobody reads a half of it. Everybody may read it."""
+    with tempfile.NamedTemporaryFile("w", dir=os.path.dirname(path) or ".", prefix=".room.", delete=False) as beside:
+        try:
+            beside.write(text)
+            beside.flush()
+            os.fchmod(beside.fileno(), 0o644)
+            os.rename(beside.name, path)
+        except BaseException:
+            os.unlink(beside.name)
+            raise
+
+
+def pages(args: argparse.Namespace) -> None:
+    with closing(Journals(args.journals)) as journals:
+        out_file = standard(sys.stdout, OUTPUT)
+        journals.write_pages(out_file)
+        out_file.flush()
+
+
+def get(args: argparse.Namespace) -> None:
+    with closing(Journals(args.journals)) as journals:
+        if not journals.has_whole_row:
+            complain("no whole row of nodes: some of what was written last may be missing", PROGRAM)
+
+        @contextmanager
+        def names_for(_: str) -> Iterator[NamedFiles]:
+            yield journals.files(args.tenant)
+
+        made = ToFolder(args.folder, "", names_for, lambda _: 0, lambda word, name: out_lines([f"{word} {shown(name)}"]), partial(complain, who=PROGRAM))
+        try:
+            report = made.run()
+        except Damaged as fault:
+            raise Damaged(f"{fault}. Where the copies were made one after another, copy what has changed once more") from None
+        except NoSuchName:
+            raise NoSuchName(f"{args.tenant} has no name") from None
+        out_lines([f"got {len(report.moved)}; {report.same} the same"])
+        if report.skipped:
+            raise Skipped(f"{len(report.skipped)} skipped", report.status)
+
+
+def main(words: Sequence[str] | None = None) -> int:
+    """Runs the command; its status."""
+    args = parser().parse_args(words)
+    try:
+        args.call(args)
+        return 0
+    except ClientError as fault:
+        complain(str(fault), PROGRAM)
+        return fault.status
+    except BrokenPipeError:
+        os.dup2(os.open(os.devnull, os.O_WRONLY), 1)  # whoever read the answer has gone
+        return 141
+    except OSError as fault:
+        complain(f"{fault.filename or 'a file'}: {fault.strerror or fault}", PROGRAM)
+        return ClientError.status
+    except KeyboardInterrupt:
+        return 130
