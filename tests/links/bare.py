@@ -93,6 +93,15 @@ def is_bare(folder, program, carry):
         machine.end()
 
 
+def wrong_in_namespace(words):
+    """What is wrong with a program in the current folder, where folders there stand in place of /etc, /var/lib, /usr/local and /run."""
+    folders = [os.path.join(HERE, *names) for names in ((), ("..",), ("..", "nodes"), ("..", "..", "clients", "python"))]
+    mounts = ["cp -a /etc etc", "mkdir lib local", "mount --bind etc /etc", "mount --bind lib /var/lib", "mount --bind local /usr/local", "mount -t tmpfs none /run"]
+    inside = ["unshare", "-m", "sh", "-ec", "; ".join([*mounts, 'exec "$@"']), "sh", *words]
+    done = subprocess.run(inside, env={**os.environ, "PYTHONPATH": os.pathsep.join(folders)}, capture_output=True, text=True)
+    return [done.stderr.strip()[-600:]] if done.returncode else []
+
+
 def told(program, carry):
     if os.getuid():
         return "not tried: only root can", []
@@ -102,11 +111,7 @@ def told(program, carry):
         at = lambda what: os.path.join(links, what)
         settings = {"tenant": "ann", "hosts": at("hosts"), "ca-file": at("ca.crt"), "certificate": at("secret/ann.crt"), "key": at("secret/ann.key"), "locks": "locks"}
         out.write("[gridfs]\n" + "".join(f"{key} = {value}\n" for key, value in settings.items()))
-    folders = [os.path.join(HERE, *words) for words in ((), ("..",), ("..", "nodes"), ("..", "..", "clients", "python"))]
-    inside = [sys.executable, "-B", os.path.abspath(__file__), folder, program, carry]
-    mounts = ["cp -a /etc etc", "mkdir lib local", "mount --bind etc /etc", "mount --bind lib /var/lib", "mount --bind local /usr/local", "mount -t tmpfs none /run"]
-    done = subprocess.run(["unshare", "-m", "sh", "-ec", "; ".join([*mounts, 'exec "$@"']), "sh", *inside], env={**os.environ, "PYTHONPATH": os.pathsep.join(folders)}, capture_output=True, text=True)
-    return "a node's machine, and one more", [done.stderr.strip()[-600:]] if done.returncode else []
+    return "a node's machine, and one more", wrong_in_namespace([sys.executable, "-B", os.path.abspath(__file__), folder, program, carry])
 
 
 if __name__ == "__main__":

@@ -1,0 +1,201 @@
+"""What deploy/links/operate does, on a machine of folders of its own, as bare.py has it: four nodes there are set up, restarted one after another with a
+later plan, and looked at; systemctl is a script that starts their units' words."""
+
+import json
+import os
+import shlex
+import shutil
+import stat
+import subprocess
+import sys
+
+from bare import Machine, wrong_in_namespace
+from carrying import DEPLOY, HERE, check
+from gridfs_grid.links import free_ports
+from gridfs_grid.places import CLIENT
+
+TOP = os.path.join(HERE, "..", "..")
+JOURNALS = os.path.join(os.path.dirname(CLIENT), "gridfs-journals")
+NODES = ("0", "1", "2", "3")
+PLAN = "grid 2 2\nblocks 4096\ntenant ann 2000 4 1000\ngo\n" + "ann open 16 16\n" * 4 + "ann open 64 4\n"
+LATER = PLAN.replace("go\n", "tenant bob 1000 4 1000\ngo\n") + "bob open 8 16\n" * 2 + "bob open 16 4\n"
+WRONG = PLAN.replace("ann 2000 4", "ann 2000 5")
+# It starts, ends and reloads what is in /run/words, and notes what it was asked.
+SYSTEMCTL = """#!/bin/sh
+echo "$@" >>/run/asked
+node=${2#gridfs-linked@}
+is_there() { [ -f /run/pid.$node ] && kill -0 "$(cat /run/pid.$node)" 2>/dev/null; }
+case $1 in
+daemon-reload | enable) exit ;;
+reload-or-restart) is_there && exec kill -HUP "$(cat /run/pid.$node)" ;;
+esac
+if is_there; then
+    kill "$(cat /run/pid.$node)"
+    while is_there; do sleep 0.05; done
+fi
+setsid sh /run/words.$node </dev/null >>/run/log.$node 2>&1 &
+echo $! >/run/pid.$node
+"""
+RUN = """#!/bin/sh
+exec sh -c "$(printf %s "$1" | sed 's|^tar -C / |tar -C /run/root |')"
+"""
+
+
+def asked(*words):
+    done = subprocess.run([os.path.join(DEPLOY, "operate"), *words], stdin=subprocess.DEVNULL, capture_output=True, text=True, timeout=200)
+    return done.returncode, done.stdout, done.stderr
+
+
+def does(*words):
+    status, told, why = asked(*words)
+    check(status == 0, f"{words}: {status} {told} {why}")
+    return told
+
+
+def refuses(status, says, *words):
+    seen = asked(*words)
+    check(seen[0] == status and says in seen[2], f"{words}: {seen}")
+
+
+def client(name, *words, given=None):
+    done = subprocess.run([CLIENT, "--config", f"desk/tenants/{name}/{name}.ini", *words], input=given, capture_output=True, timeout=120)
+    check(done.returncode == 0, f"{name}, {words}: {done.stderr}")
+    return done.stdout
+
+
+def write(path, text, mode=0o644):
+    with open(path, "w", encoding="ascii") as out:
+        out.write(text)
+    os.chmod(path, mode)
+
+
+def asked_of_systemd(word):
+    """The nodes for which systemctl was asked that, in their order; all is forgotten then."""
+    with open("/run/asked", encoding="ascii") as file:
+        found = [line.split()[1].removeprefix("gridfs-linked@") for line in file if line.startswith(word)]
+    write("/run/asked", "")
+    return found
+
+
+def words_for(node):
+    words = Machine("").words_of(node)
+    write(f"/run/words.{node}", f"exec setpriv --reuid gridfs --regid gridfs --clear-groups {shlex.join(words)}\n")
+
+
+def bundles_are_whole():
+    write("plan", PLAN)
+    refuses(1, "hosts: No such file", "bundles", "desk", "plan")
+    port = free_ports(8)
+    hosts = "".join(f"{node} 127.0.0.1:{port + 2 * int(node)} 127.0.0.1:{port + 2 * int(node) + 1}\n" for node in NODES)
+    write("desk/hosts", hosts.partition("\n3 ")[0] + "\n")
+    refuses(1, "it has no line of node 3", "bundles", "desk", "plan")
+    check(os.listdir("desk") == ["hosts"], f"{os.listdir('desk')}")
+    write("desk/hosts", hosts)
+    write("desk/operate.ini", f"[operate]\nrun = {os.path.abspath('run')} {{command}}\nthere = /run/bundle\ncustomer = {os.path.abspath('desk/tenants')}\n")
+    does("bundles", "desk", "plan", "--days", "30")
+    for node in NODES:
+        files = sorted(os.path.relpath(os.path.join(inside, name), f"desk/nodes/{node}") for inside, _, names in os.walk(f"desk/nodes/{node}") for name in names)
+        check(files == ["ca.crt", "denied", "hosts", "plan", f"secret/{node}.crt", f"secret/{node}.key"], f"node {node}: {files}")
+    check(sorted(os.listdir("desk/tenants/ann")) == ["ann.crt", "ann.ini", "ann.key", "ca.crt", "hosts"], "ann's files")
+    check(stat.S_IMODE(os.stat("desk/tenants/ann/ann.key").st_mode) == 0o600, "her key may be read")
+
+
+def nodes_begin():
+    os.makedirs("tree/usr/share/hello", mode=0o755)
+    os.chmod("tree", 0o700)
+    does("bring", "--new", "--programs", "tree", "desk")
+    check(stat.S_IMODE(os.stat("/run/root").st_mode) == 0o755 and os.path.isdir("/run/root/usr/share/hello"), "the folder of programs, or the mode of /")
+    check(not os.path.exists("/run/bundle"), "the bundle stays")
+    check(asked_of_systemd("enable") == list(NODES), "not all are enabled")
+    client("ann", "put", "-", "name", given=b"hello" * 60)
+    refuses(1, "journal: there is one", "bring", "--new", "desk", "0")
+
+
+def plans_go_on():
+    before = {name: os.stat(f"desk/{name}").st_mtime_ns for name in ("plan", "nodes", "tenants")}
+    write("wrong", WRONG)
+    refuses(1, "line 3: ann had 4 sessions", "bundles", "desk", "wrong")
+    check({name: os.stat(f"desk/{name}").st_mtime_ns for name in before} == before, "a plan that does not go on changed something")
+    write("later", LATER)
+    does("bundles", "desk", "later", "--days", "30")
+    told = does("bring", "--restart", "desk")
+    check(asked_of_systemd("restart") == list(NODES), "not all were restarted, or in another order")
+    steps = [f"operate: node {node}{what}" for node in NODES for what in (": files", ": restarts", " answers")]
+    lines = told.splitlines()
+    check(len(lines) == len(steps) and all(map(str.startswith, lines, steps)), told)
+    client("bob", "put", "-", "his", given=b"bob")
+    check(client("ann", "get", "name") == b"hello" * 60, "the content is another one")
+
+
+def a_node_that_does_not_come():
+    write("/run/words.1", "exec sleep 1000\n")
+    refuses(1, "node 1 does not answer after 1 s", "bring", "--restart", "--wait", "1", "desk")
+    check(asked_of_systemd("restart") == ["0", "1"], "nodes after one that does not come were touched")
+    refuses(1, "node 1 does not answer, so node 0 is not touched", "bring", "--restart", "--wait", "5", "desk")
+    check(asked_of_systemd("re") == [], "node 0 was touched")
+    words_for("1")
+    does("bring", "--restart", "desk", "1")
+    with open("/run/pid.2", encoding="ascii") as file:
+        before = file.read()
+    does("bring", "desk", "2")
+    with open("/run/pid.2", encoding="ascii") as file:
+        check(file.read() == before, "a node was restarted")
+    refuses(1, "the plan has no node 7", "bring", "desk", "7")
+
+
+def journals_tell():
+    told, wanted = json.loads(does("room", "--json", "desk")), json.loads(client("ann", "status", "--json"))
+    found = told["tenants"]["ann"]
+    check(told["has_whole_row"] and {key: found[key] for key in ("names", "slots", "bytes")} == {key: wanted[key] for key in ("names", "slots", "bytes")}, f"{found}, not {wanted}")
+    does("room", "--metrics", "metrics", "desk")
+    with open("metrics", encoding="ascii") as file:
+        check('gridfs_tenant_names{node="0,1",tenant="bob"} 1\n' in file.read(), "the metrics")
+    does("copy", "desk", "kept")
+    for row in (("0", "1"), ("2", "3")):
+        paths = [f"kept/journal.{node}" for node in row]
+        if row == ("2", "3"):
+            os.rename("/var/lib/gridfs/0/journal", "/var/lib/gridfs/0/away")
+            status, told, why = asked("copy", "desk", "kept")
+            os.rename("/var/lib/gridfs/0/away", "/var/lib/gridfs/0/journal")
+            check(status == 0 and "row 0 is left out" in why, why)
+        done = subprocess.run([JOURNALS, "get", "ann", f"out{row[0]}", *paths], capture_output=True, text=True)
+        check(done.returncode == 0, done.stderr)
+        with open(f"out{row[0]}/name", "rb") as file:
+            check(file.read() == b"hello" * 60, "another content was kept")
+
+
+def is_operated(folder, program, carry):
+    """(In the namespace.)"""
+    for path in ("/run/systemd/system", "/run/root", "/usr/local/bin", "desk", "/run/gridfs"):
+        os.makedirs(path)
+    os.chmod("/run/root", 0o755)
+    for path, name in ((program, "gridfs"), (carry, "gridfs-carry-links"), (os.path.join(DEPLOY, "machine"), "gridfs-machine")):
+        shutil.copy(path, f"/usr/local/bin/{name}")
+        os.chmod(f"/usr/local/bin/{name}", 0o755)
+    write("/usr/local/bin/gridfs-journals", f'#!/bin/sh\nexec {JOURNALS} "$@"\n', 0o755)
+    write("/usr/local/bin/systemctl", SYSTEMCTL, 0o755)
+    write("run", RUN, 0o755)
+    os.environ["PATH"] = f"/usr/local/bin:{os.environ['PATH']}"
+    os.chmod("/run/gridfs", 0o777)
+    for node in NODES:
+        words_for(node)
+    try:
+        for step in (bundles_are_whole, nodes_begin, plans_go_on, a_node_that_does_not_come, journals_tell):
+            step()
+    finally:
+        for node in NODES:
+            if os.path.exists(f"/run/pid.{node}"):
+                with open(f"/run/pid.{node}", encoding="ascii") as file:
+                    subprocess.run(["kill", file.read().strip()], stderr=subprocess.DEVNULL)
+
+
+def told(program, carry):
+    if os.getuid():
+        return "not tried: only root can", []
+    inside = [sys.executable, "-B", os.path.abspath(__file__), os.getcwd(), program, carry]
+    return "four nodes of one machine", wrong_in_namespace(inside)
+
+
+if __name__ == "__main__":
+    del os.environ["PYTHONPATH"]  # (the client has its own)
+    is_operated(*sys.argv[1:])
