@@ -27,7 +27,7 @@ node=${2#gridfs-linked@}
 is_there() { [ -f /run/pid.$node ] && kill -0 "$(cat /run/pid.$node)" 2>/dev/null; }
 case $1 in
 daemon-reload | enable) exit ;;
-reload-or-restart) is_there && exec kill -HUP "$(cat /run/pid.$node)" ;;
+reload | reload-or-restart) is_there && exec kill -HUP "$(cat /run/pid.$node)" ;;
 esac
 if is_there; then
     kill "$(cat /run/pid.$node)"
@@ -143,6 +143,37 @@ def a_node_that_does_not_come():
     refuses(1, "the plan has no node 7", "bring", "desk", "7")
 
 
+def ann_by(folder, *words, **how):
+    """A command of ann's by files that she was given earlier."""
+    with open("desk/tenants/ann/ann.ini", encoding="ascii") as file:
+        write("earlier.ini", file.read().replace(os.path.abspath("desk/tenants/ann"), os.path.abspath(folder)))
+    return subprocess.run([CLIENT, "--config", "earlier.ini", "--timeout", "5", *words], capture_output=True, timeout=120, **how)
+
+
+def authorities_change():
+    """By the steps of docs/MACHINES.md: nodes and customers answer at each of them, and at the end the old authority is believed by nobody."""
+    shutil.copytree("desk/tenants/ann", "first")
+    os.makedirs("away")
+    for name in ("ca.crt", "ca.key"):
+        os.rename(f"desk/{name}", f"away/{name}")
+    does("bundles", "desk", "later", "--days", "30")
+    with open("desk/trusted.crt", "wb") as out:
+        for path in ("desk/ca.crt", "away/ca.crt"):
+            with open(path, "rb") as file:
+                out.write(file.read())
+    does("bring", "--authorities", "desk")
+    check(ann_by("first", "get", "name").stdout == b"hello" * 60, "the old authority is not believed any more")
+    does("bundles", "desk", "later", "--days", "30")
+    shutil.copytree("desk/tenants/ann", "second")
+    does("bring", "desk")
+    check(ann_by("second", "get", "name").stdout == b"hello" * 60, "the new certificate is not taken")
+    os.unlink("desk/trusted.crt")
+    does("bundles", "desk", "later", "--days", "30")
+    does("bring", "desk")
+    check(client("ann", "get", "name") == b"hello" * 60, "the content is another one")
+    check(ann_by("first", "get", "name").returncode in (4, 6), "the old authority is believed")
+
+
 def journals_tell():
     told, wanted = json.loads(does("room", "--json", "desk")), json.loads(client("ann", "status", "--json"))
     found = told["tenants"]["ann"]
@@ -180,7 +211,7 @@ def is_operated(folder, program, carry):
     for node in NODES:
         words_for(node)
     try:
-        for step in (bundles_are_whole, nodes_begin, plans_go_on, a_node_that_does_not_come, journals_tell):
+        for step in (bundles_are_whole, nodes_begin, plans_go_on, a_node_that_does_not_come, authorities_change, journals_tell):
             step()
     finally:
         for node in NODES:
