@@ -37,7 +37,7 @@ setsid sh /run/words.$node </dev/null >>/run/log.$node 2>&1 &
 echo $! >/run/pid.$node
 """
 RUN = """#!/bin/sh
-exec sh -c "$(printf %s "$1" | sed 's|^tar -C / |tar -C /run/root |')"
+exec sh -c "$(printf %s "$1" | sed 's|tar -C / |tar -C /run/root |')"
 """
 
 
@@ -101,10 +101,15 @@ def bundles_are_whole():
 
 
 def nodes_begin():
-    os.makedirs("tree/usr/share/hello", mode=0o755)
+    os.makedirs("tree/usr/share/hello")
+    write("tree/usr/share/hello/file", "hello", 0o755)
     os.chmod("tree", 0o700)
+    os.makedirs("/run/root/usr")
+    before = os.stat("/run/root").st_ctime_ns
     does("bring", "--new", "--programs", "tree", "desk")
-    check(stat.S_IMODE(os.stat("/run/root").st_mode) == 0o755 and os.path.isdir("/run/root/usr/share/hello"), "the folder of programs, or the mode of /")
+    check(os.stat("/run/root").st_ctime_ns == before, "/ had another mode, if only for a moment")
+    modes = [stat.S_IMODE(os.stat(f"/run/root/usr/share/{name}").st_mode) for name in (".", "hello", "hello/file")]
+    check(modes == [0o755] * 3, f"the modes of programs are {modes}")
     check(not os.path.exists("/run/bundle"), "the bundle stays")
     check(asked_of_systemd("enable") == list(NODES), "not all are enabled")
     client("ann", "put", "-", "name", given=b"hello" * 60)
