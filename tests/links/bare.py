@@ -97,7 +97,7 @@ def wrong_in_namespace(words):
     """What is wrong with a program in the current folder, where folders there stand in place of /etc, /var/lib, /usr/local and /run."""
     folders = [os.path.join(HERE, *names) for names in ((), ("..",), ("..", "nodes"), ("..", "..", "clients", "python"))]
     mounts = ["cp -a /etc etc", "mkdir lib local", "mount --bind etc /etc", "mount --bind lib /var/lib", "mount --bind local /usr/local", "mount -t tmpfs none /run"]
-    inside = ["unshare", "-m", "sh", "-ec", "; ".join([*mounts, 'exec "$@"']), "sh", *words]
+    inside = ["unshare", "--mount", "--pid", "--fork", "--kill-child", "sh", "-ec", "; ".join([*mounts, '"$@"; exit $?']), "sh", *words]
     done = subprocess.run(inside, env={**os.environ, "PYTHONPATH": os.pathsep.join(folders)}, capture_output=True, text=True)
     return [done.stderr.strip()[-600:]] if done.returncode else []
 
