@@ -617,10 +617,10 @@ def hosts_amid_a_write(program, folder):
 
 
 def its_own_ports(program, folder):
-    """Of whatever length, it does not say that they are others where they are the same."""
+    """Of whatever length, and whatever the stack has, it does not say that they are others where they are the same."""
     first = next(port for port in range(9_000, 9_990) if not any(can_connect(each) for each in range(port, port + 4)))
     set_up(folder, PLAN, "--local", str(first))
-    carry = Carry(program, folder).ready()
+    carry = Carry(wrapped(program, folder, "fclose", "used_stack"), folder).ready()
     try:
         for number in range(2):
             with open(os.path.join(carry.links, "denied"), "w") as out:
@@ -693,13 +693,13 @@ def ends_soon(program, folder):
         carry.end()
 
 
-def with_names(program, folder):
-    """A carrier whose names are those of slow_name.c."""
-    made = os.path.join(folder, "names")
+def wrapped(program, folder, call, source):
+    """A carrier with another function in the place of this one."""
+    made = os.path.join(folder, source)
     planted = os.path.join(os.path.dirname(program), "sources")  # (those of a program with a planted fault)
     of = planted if os.path.exists(planted) else os.path.join(DEPLOY, "..", "carrier")
     sources = [os.path.join(of, f"{name}.c") for name in ("node", "metrics", "links", "loop", "stream")]
-    words = ["-std=c11", "-Wl,--wrap=getaddrinfo", *sources, os.path.join(HERE, "slow_name.c"), "-o", made, "-lssl", "-lcrypto", "-lpthread"]
+    words = ["-std=c11", f"-Wl,--wrap={call}", *sources, os.path.join(HERE, f"{source}.c"), "-o", made, "-lssl", "-lcrypto", "-lpthread"]
     subprocess.run([os.environ.get("CC", "cc"), *words], check=True)
     return made
 
@@ -711,7 +711,7 @@ def linked_by_name(program, folder, name, other):
         lines = file.read().replace("1 127.0.0.1:", f"1 {name}:", 1)
     with open(os.path.join(links, "hosts"), "w", encoding="ascii") as out:
         out.write(lines)
-    nodes = [Carry(with_names(program, folder), folder), Carry(program, folder, other)]
+    nodes = [Carry(wrapped(program, folder, "getaddrinfo", "slow_name"), folder), Carry(program, folder, other)]
     try:
         for node in nodes:
             node.ready()

@@ -145,6 +145,9 @@ def a_node_that_does_not_come():
     does("bring", "desk", "2")
     with open("/run/pid.2", encoding="ascii") as file:
         check(file.read() == before, "a node was restarted")
+    for node in NODES:
+        with open(f"/run/log.{node}", encoding="utf-8", errors="replace") as file:
+            check("has other ports" not in file.read(), f"node {node} tells of other ports behind a reload, and has the same")
     refuses(1, "the plan has no node 7", "bring", "desk", "7")
 
 

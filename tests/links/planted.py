@@ -43,6 +43,7 @@ FAULTS = {
     "a node that does not end is waited for": ("a_node_that_does_not_end", "node.c", "if (now() > until) say(", "if (false) say("),
     "lines of one who is denied are given": ("what_a_denied_one_said", "links.c", "    forget(peer->queue, held(peer->queue));\n", ""),
     "other ports are taken for one's own": ("hosts_amid_a_write", "links.c", "memcmp(before, own_ports, sizeof before)) say", "false) say"),
+    "ports are compared with what was on the stack": ("its_own_ports", "links.c", "ports[2][6] = {{0}};", "ports[2][6];"),
     "a lost link is told to be up": ("metrics_are_true", "links.c", "peer && peer->many)", "peer != NULL)"),
     "a node that has ended is told to be ready": ("metrics_are_true", "node.c", "it->fd = -1, node_ready = false;", "it->fd = -1;"),
     "waits of a tenant are not counted": ("metrics_are_true", "node.c", "queue->tally->over_rate += queue->paid_until - over;", "(void)over;"),

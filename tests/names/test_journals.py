@@ -137,6 +137,10 @@ class Cases(unittest.TestCase):
                 out.write(text)
             with self.assertRaisesRegex(BadFile, why):
                 self.read(4)
+        with open(self.memory.path(4), "wb") as out:
+            out.write(b"journal 2 more\n")
+        with self.assertRaisesRegex(BadFile, "form 2, of a later program"):
+            self.read(4)
         for number, plan in enumerate(("grid 2 2\ntenant eve 9 1 9\ngo\n", "grid 1 2\ntenant bob 9 1 9\ntenant ann 9 1 9\ngo\n"), 5):
             Node(self.memory.path(number), 0, plan)
             with self.assertRaisesRegex(BadFile, "of another grid"):

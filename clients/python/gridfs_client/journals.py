@@ -23,6 +23,7 @@ from .ways import Ground
 
 SEAL = re.compile(rb"sync ([1-9][0-9]*) ([0-9]+) [0-9a-f]{16}\n")
 NODE = re.compile(rb"node ([0-9]+) of ([0-9]+) by ([0-9]+)\n")
+FORM = re.compile(rb"journal ([0-9]+)[ \n]")  # how one of a later form begins
 COPIES = (b"kept ", b"had ")
 HEAD = re.compile(rb"(names 2 [0-9]+)[0-9 ]*")  # of a page: its number, and those that others need
 NO_COPY = Tag(0, 0)
@@ -45,11 +46,13 @@ class Place:
 
 
 def batches(file: BinaryIO, path: str) -> Iterator[list[tuple[int, bytes]]]:
-    """The lines of each whole batch, each with its offset. Damaged where a wrong one is followed by anything."""
+    """The lines of each whole batch, each with its offset. Damaged where a wrong one is followed by anything, BadFile for a journal of a later form."""
     lines, start, offset, count = list[tuple[int, bytes]](), 0, 0, 1
     for line in file:
         if not line.endswith(b"\n"):
             return  # (it is being written, or was when the node ended)
+        if offset == 0 and (form := FORM.match(line)):
+            raise BadFile(f"{path}: form {int(form[1])}, of a later program: this one reads form 1")
         seal = SEAL.fullmatch(line)
         if seal is None:
             lines.append((offset, line))
