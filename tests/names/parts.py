@@ -175,7 +175,44 @@ def package():
     told = subprocess.run(words, capture_output=True, text=True)
     wrong += [f"pip: {told.stderr}"] if told.returncode else helped("venv/bin/gridfs-client")
     done.append("pip")
-    return ", ".join(done), wrong
+    return ", ".join(done), [*wrong, *installs_unproved()]
+
+
+KEEP = "import record; record.keep_record(record.digests('a kit')['gridfs'], 'a kit', 'a commit')"
+
+
+def installs_unproved():
+    """What is wrong with tools/install where a program is not known to be proved: one that was put there, one that is not that of its record, and one of other
+    sources. One with a record of these is installed."""
+    for name in ("tools", "docs", "deploy", "clients", "crates", "crates.txt", "HANDLES"):
+        at, copied = os.path.join(TOP, name), os.path.join("tree", name)
+        os.makedirs("tree", exist_ok=True)
+        shutil.copytree(at, copied, ignore=shutil.ignore_patterns("out", "__pycache__")) if os.path.isdir(at) else shutil.copy(at, copied)
+    program, wrong = "tree/crates/gridfs/out/gridfs", []
+    os.makedirs(os.path.dirname(program))
+
+    def write(path, text):
+        with open(path, "a", encoding="ascii") as out:
+            out.write(text)
+        os.chmod(path, 0o755)
+
+    def expect(status, says):
+        done = subprocess.run(["tree/tools/install", os.path.abspath("whole")], capture_output=True, text=True)
+        if done.returncode != status or says not in done.stdout + done.stderr or os.path.exists("whole") != (status == 0):
+            wrong.append(f"install, {says}: {done.returncode}: {done.stdout}{done.stderr}")
+
+    expect(1, "not built")
+    write(program, "#!/bin/sh\n")
+    expect(1, "no record of a proof is beside it")
+    subprocess.run([sys.executable, "-B", "-c", KEEP], cwd="tree/tools", check=True)
+    write(program, "exit\n")
+    expect(1, "the record beside it is of another program")
+    subprocess.run([sys.executable, "-B", "-c", KEEP], cwd="tree/tools", check=True)
+    write("tree/HANDLES", "\n")
+    expect(1, "of other sources")
+    shutil.copy(os.path.join(TOP, "HANDLES"), "tree/HANDLES")
+    expect(0, "whole/bin/gridfs-journals")
+    return wrong
 
 
 def helped(command):
