@@ -92,7 +92,8 @@ def bundles_are_whole():
     check(os.listdir("desk") == ["hosts"], f"{os.listdir('desk')}")
     write("desk/hosts", hosts)
     write("desk/operate.ini", f"[operate]\nrun = {os.path.abspath('run')} {{command}}\nthere = /run/bundle\ncustomer = {os.path.abspath('desk/tenants')}\n")
-    does("bundles", "desk", "plan", "--days", "30")
+    does("bundles", "--days", "30", "desk", "plan")
+    refuses(2, "unrecognized arguments: --dayz", "bundles", "desk", "plan", "--dayz")
     for node in NODES:
         files = sorted(os.path.relpath(os.path.join(inside, name), f"desk/nodes/{node}") for inside, _, names in os.walk(f"desk/nodes/{node}") for name in names)
         check(files == ["ca.crt", "denied", "hosts", "plan", f"secret/{node}.crt", f"secret/{node}.key"], f"node {node}: {files}")
