@@ -43,6 +43,7 @@ BUGS = {
     "a copy onto itself minds no grid": ("over_grids.py once", "store.py", "        if seen.version.grid != self.grid:\n            return None\n", ""),
     "who asks for much is served before others": ("test_forms.py Sessions.test_who_has_fewest_is_next", "sessions.py", "has[wanted.who] if wanted.number is None else 0", "0"),
     "all copies that are asked for are held": ("test_slow.py Slow.test_copies", "copying.py", "        async with self.objects.small:\n", "        if True:\n"),
+    "what nobody waits for any more is done": ("test_slow.py Slow.test_who_leaves", "grids.py", "(request.transport is None or request.transport.is_closing())", "False"),
     "a client that leaves is a fault": ("test_malformed.py Malformed.test_a_client_that_leaves", "connections.py", " or isinstance(exc, (ConnectionError, RequestPayloadError)):", ":"),
 }
 

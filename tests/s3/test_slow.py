@@ -4,6 +4,7 @@ before it that takes slow clients off."""
 import asyncio
 import contextlib
 import os
+import signal
 import socket
 import sys
 import threading
@@ -22,8 +23,10 @@ SOON = 20  # seconds that a small request may take on a machine that does much e
 
 
 def setUpModule():
-    global GATEWAY, S3
-    room = unittest.enterModuleContext(endpoint.stand_in())
+    global GATEWAY, GRID, S3
+    processes = {}
+    room = unittest.enterModuleContext(endpoint.stand_in(processes=processes))
+    (GRID,) = processes.values()
     (GATEWAY,) = unittest.enterModuleContext(endpoint.gateways(room, keys=KEYS))
     test_malformed.GATEWAY, S3 = GATEWAY, GATEWAY.client()
     for name in ("one", "two"):
@@ -102,12 +105,19 @@ class Slow(unittest.TestCase):
         self.assertLess(self.grown(), before + 150)
 
     def test_who_leaves(self):
-        """What nobody waits for any more is not done, where it was not begun."""
-        for _ in range(300):
-            with socket.create_connection(("127.0.0.1", GATEWAY.port)) as made:
-                made.sendall(test_malformed.signed("PUT", "/one/copy", {"x-amz-copy-source": "one/long"}, access="carol.one") + b"Content-Length: 0\r\n\r\n")
-        time.sleep(0.5)
+        """What nobody waits for any more is not done, where it was not begun: the grid stands still while they ask and leave."""
+        S3.put_object(Bucket="one", Key="left", Body=b"left")
+        GRID.send_signal(signal.SIGSTOP)
+        try:
+            for number in range(200):
+                with socket.create_connection(("127.0.0.1", GATEWAY.port)) as made:
+                    made.sendall(test_malformed.signed("PUT", f"/one/left-{number}", {"x-amz-copy-source": "one/left"}, access="carol.one") + b"Content-Length: 0\r\n\r\n")
+            time.sleep(0.5)
+        finally:
+            GRID.send_signal(signal.SIGCONT)
         self.served()
+        time.sleep(1)
+        self.assertLess(S3.list_objects_v2(Bucket="one", Prefix="left-")["KeyCount"], 50)
 
     def test_copies(self):
         """Many at once of contents that are copied in memory: of these few are there at a time."""
