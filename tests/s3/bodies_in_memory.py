@@ -12,5 +12,8 @@ class Body(io.BytesIO):
     def rewind(self):
         self.seek(0)
 
+    def checksum(self, algorithm):
+        return None
+
     def digest(self):
         return hashlib.md5(self.getvalue()).hexdigest()

@@ -25,14 +25,14 @@ from gridfs_client.contents import Inline
 from gridfs_client.core import Version
 from gridfs_client.buckets import Held
 from gridfs_client.pages import check_words
-from gridfs_s3 import markup, setting_up, signing
+from gridfs_s3 import checksums, markup, setting_up, signing
 from gridfs_s3.bodies import Body
 from gridfs_s3.copying import range_to_copy
 from gridfs_s3.errors import S3Error
 from gridfs_s3.front import instances_of, make_keys
 from gridfs_s3.keys import BadKeys, Key, parse_keys, read_keys
 from gridfs_s3.listing import Cut
-from gridfs_s3.places import Object, check_bucket, name_of, object_of, of_words, to_words
+from gridfs_s3.places import Object, Part, check_bucket, name_of, object_of, of_words, parts_of, to_words
 from gridfs_s3.requests import Asked, http_date, judge, range_of, range_wanted, seconds_of_date
 from gridfs_s3.sessions import Pool
 from gridfs_s3.shared import Turns
@@ -336,6 +336,25 @@ class Bodies(Case):
             told = base64.b64encode(bytes.fromhex(digest)).decode()
             for sent, found in ((told, b"123456789"), (told[::-1], "BadDigest")):
                 self.assertEqual(self.told(b"123456789", "UNSIGNED-PAYLOAD", content_length="9", **{f"x_amz_checksum_{name}": sent}), found, name)
+
+    def test_checksums_of_parts(self):
+        """A CRC of contents one after another, by theirs."""
+        draw = random.Random(7)
+        parts = [draw.randbytes(size) for size in (1, 0, 5_000, 1, 70_000, 0)]
+        for name in checksums.CRCS:
+            found = checksums.joined([(checksums.computed(name, [part]), len(part)) for part in parts])
+            self.assertEqual(found, checksums.computed(name, parts), name)
+        found = checksums.of_parts([checksums.computed("sha256", [part]) for part in parts])
+        self.assertEqual(found.told, base64.b64encode(hashlib.sha256(b"".join(hashlib.sha256(part).digest() for part in parts)).digest()).decode() + "-6")
+
+    def test_checksums_among_words(self):
+        for text in ("crc32.AAAAAA==", "crc64nvme.AAAAAAAAAAA=", "sha256." + "+/" * 21 + "A=-10000"):
+            self.assertEqual(checksums.of_text(text).text(), text)
+        for text in ("", "crc32", "md5.AAAAAA==", "crc32.AAAAAA==-", "crc32.\u0661AAAAA==", "crc32.AAAAAA==\r\nA: b"):
+            self.assertIsNone(checksums.of_text(text), text)
+        for one in (None, checksums.Checksum("sha1", "+/" * 13 + "+=")):
+            part = Part(3, "0" * 32, 9, 12, one)
+            self.assertEqual(parts_of(of_words(to_words({"p": f"{part.text()},{part.text()}"}))), [part, part])
 
     def test_chunks_that_lie(self):
         good = b"5\r\nhello\r\n0\r\n\r\n"

@@ -247,7 +247,8 @@ class Malformed(unittest.TestCase):
         in_parts = f"/two/k?uploadId={upload['UploadId']}"
         empty, body = b"Content-Length: 0\r\n\r\n", b"Content-Length: 1\r\n\r\nx"
         of_parts = f"<CompleteMultipartUpload><Part><PartNumber>1</PartNumber><ETag>{etag}</ETag></Part></CompleteMultipartUpload>".encode()
-        completion = b"Content-Length: %d\r\n\r\n" % len(of_parts) + of_parts
+        sized = lambda content: b"Content-Length: %d\r\n\r\n" % len(content) + content
+        completion = sized(of_parts)
         removal = lambda more: (f"Content-Length: {75 + len(more)}\r\n\r\n<Delete><Object><Key>k</Key>{more}</Object><Object><Key>l</Key></Object></Delete>").encode()
         for method, path, headers, rest in [
             ("PUT", "/two/k?renameObject", {}, empty), ("PUT", "/two/k?anything", {}, body), ("PUT", "/two/k?partNumber=1", {}, body), ("PUT", "/two/k?acl", {}, body), ("PUT", "/two?anything=1", {}, empty),
@@ -258,7 +259,12 @@ class Malformed(unittest.TestCase):
             ("DELETE", "/two/k", {"x-amz-if-match-size": "9"}, empty), ("DELETE", "/two/k", {"x-amz-if-match-last-modified-time": "Mon, 01 Jan 2001 00:00:00 GMT"}, empty),
             ("PUT", in_parts + "&partNumber=1", {"If-Match": "*"}, body), ("DELETE", in_parts, {"If-None-Match": "*"}, empty), ("DELETE", "/empty", {"If-Match": "x"}, empty),
             ("PUT", "/three", {"x-amz-bucket-object-lock-enabled": "true"}, empty), ("PUT", "/two/k", {"x-amz-server-side-encryption-aws-kms-key-id": "x"}, body),
-            ("POST", "/two?delete", {}, removal("<ETag>x</ETag>")), ("POST", "/two?delete", {}, removal("<Size>9</Size>")), ("POST", in_parts, {"x-amz-checksum-crc32": "AAAAAA=="}, completion),
+            ("POST", "/two?delete", {}, removal("<ETag>x</ETag>")), ("POST", "/two?delete", {}, removal("<Size>9</Size>")), ("POST", in_parts, {"x-amz-checksum-md5": "AAAAAA=="}, completion),
+            ("PUT", "/two/l", {"x-amz-copy-source": "two/k", "x-amz-copy-source-range": "bytes=0-0"}, empty), ("PUT", "/two/k", {"x-amz-copy-source-if-match": "x"}, body), ("PUT", "/two/k", {"x-amz-mp-object-size": "9"}, body),
+            ("PUT", in_parts + "&partNumber=1", {"x-amz-metadata-directive": "REPLACE"}, body), ("DELETE", "/two/k", {"x-amz-copy-source": "two/k"}, empty), ("PUT", "/two/k", {"x-amz-checksum-type": "COMPOSITE"}, body),
+            ("PUT", "/three", {}, sized(b"<CreateBucketConfiguration><Tags><Tag><Key>a</Key></Tag></Tags></CreateBucketConfiguration>")),
+            ("POST", "/two?delete", {}, sized(b"<Delete><Object><Key>k</Key></Object><BypassAll>true</BypassAll></Delete>")),
+            ("POST", in_parts, {}, sized(of_parts.replace(b"</Part>", b"<Size>4</Size></Part>"))), ("POST", in_parts, {}, sized(of_parts.replace(b"</ETag>", b"<x/></ETag>"))),
         ]:  # fmt: skip
             told = code_of(exchange(signed(method, path, headers) + rest))
             self.assertEqual(told, (501, "NotImplemented"), (method, path, headers))
@@ -278,7 +284,7 @@ class Malformed(unittest.TestCase):
     def test_long_xml(self):
         """Of many texts with elements between them: in time that goes with its length."""
         body, begun = b"<Delete>" + b"<a/>xxxxxxxxxxxxxxxxxxxxxxxxxxxxxxxxxxxxxx" * 95_000 + b"</Delete>", self.spent()
-        self.tells(400, "MalformedXML", signed("POST", "/one?delete", access="carol.one") + f"Content-Length: {len(body)}\r\n\r\n".encode() + body)
+        self.tells(501, "NotImplemented", signed("POST", "/one?delete", access="carol.one") + f"Content-Length: {len(body)}\r\n\r\n".encode() + body)
         self.assertLess(self.spent() - begun, 5)
 
     def test_odd_words(self):

@@ -17,6 +17,7 @@ from concurrent.futures import ThreadPoolExecutor
 from urllib.parse import urlsplit
 
 import boto3
+import crcmod.predefined
 from botocore.auth import S3SigV4Auth
 from botocore.awsrequest import AWSRequest
 from botocore.client import Config
@@ -78,6 +79,13 @@ class Case(unittest.TestCase):
             call(**words)
         self.assertEqual(fault.exception.response["Error"]["Code"], code)
         return fault.exception.response
+
+
+def told_sum(algorithm, content):
+    """A checksum as a header has it."""
+    sums = {"crc32": lambda: zlib.crc32(content).to_bytes(4, "big"), "crc32c": lambda: crcmod.predefined.mkPredefinedCrcFun("crc-32c")(content).to_bytes(4, "big"),
+            "crc64nvme": lambda: crcmod.mkCrcFun(0x1AD93D23594C93659, initCrc=0, xorOut=(1 << 64) - 1)(content).to_bytes(8, "big")}  # fmt: skip
+    return base64.b64encode(sums[algorithm]() if algorithm in sums else hashlib.new(algorithm, content).digest()).decode()
 
 
 def empty(s3, bucket):
@@ -372,6 +380,50 @@ class Uploads(Case):
         self.assertEqual(self.get("joined")["Body"].read(), content[6_000_000:10_000_000] + content[:100])
 
 
+class Checksums(Case):
+    """Kept with the object, and given back to whoever asks."""
+
+    def test_puts_and_copies(self):
+        content = os.urandom(min(MOST, 100_000))
+        crc, sha = (base64.b64encode(each).decode() for each in (zlib.crc32(content).to_bytes(4, "big"), hashlib.sha256(content).digest()))
+        for key, words, kept in (("crc", {"ChecksumAlgorithm": "CRC32"}, {"ChecksumCRC32": crc}), ("sha", {"ChecksumSHA256": sha}, {"ChecksumSHA256": sha}), ("none", {}, {})):
+            self.assertEqual(sums_in(self.put(key, content, **words)), kept)
+            for call in (self.get, lambda key, **more: self.s3.head_object(Bucket=self.bucket, Key=key, **more)):
+                self.assertEqual(sums_in(call(key, ChecksumMode="ENABLED")), kept)
+                self.assertEqual(sums_in(call(key)), {})
+            self.assertEqual(sums_in(self.get(key, ChecksumMode="ENABLED", Range="bytes=1-5")), {})  # (it is not of these bytes)
+            for more, found in (({}, kept), ({"ChecksumAlgorithm": "SHA256"}, {"ChecksumSHA256": sha})):
+                self.s3.copy_object(Bucket=self.bucket, Key="copy", CopySource=f"{self.bucket}/{key}", **more)
+                self.assertEqual(sums_in(self.get("copy", ChecksumMode="ENABLED")), found)
+            self.s3.copy_object(Bucket=self.bucket, Key=key, CopySource=f"{self.bucket}/{key}", MetadataDirective="REPLACE", Metadata={"a": "b"})
+            self.assertEqual(sums_in(self.get(key, ChecksumMode="ENABLED")), kept)
+        self.put("crc", b"other")
+        self.assertEqual(sums_in(self.get("crc", ChecksumMode="ENABLED")), {})
+
+    @is_long
+    def test_long_copies(self):
+        content = os.urandom(3_000_000)
+        sha = base64.b64encode(hashlib.sha256(content).digest()).decode()
+        self.put("long", content)
+        self.s3.copy_object(Bucket=self.bucket, Key="copy", CopySource=f"{self.bucket}/long", ChecksumAlgorithm="SHA256")
+        found = self.get("copy", ChecksumMode="ENABLED")
+        self.assertEqual((found["ChecksumSHA256"], found["Body"].read()), (sha, content))
+
+    def test_attributes(self):
+        self.put("known", b"hello", ChecksumAlgorithm="SHA1")
+        told = self.s3.get_object_attributes(Bucket=self.bucket, Key="known", ObjectAttributes=["ETag", "Checksum", "ObjectSize", "StorageClass", "ObjectParts"])
+        sha = base64.b64encode(hashlib.sha1(b"hello").digest()).decode()
+        self.assertEqual((told["ETag"], told["Checksum"], told["ObjectSize"], told["StorageClass"]), (hashlib.md5(b"hello").hexdigest(), {"ChecksumSHA1": sha}, 5, "STANDARD"))
+        told = self.s3.get_object_attributes(Bucket=self.bucket, Key="known", ObjectAttributes=["ObjectSize"])
+        self.assertEqual((told["ObjectSize"], "ETag" in told, "Checksum" in told), (5, False, False))
+        self.fails("NoSuchKey", self.s3.get_object_attributes, Bucket=self.bucket, Key="none", ObjectAttributes=["ETag"])
+        self.fails("InvalidArgument", self.s3.get_object_attributes, Bucket=self.bucket, Key="known", ObjectAttributes=["Anything"])
+
+
+def sums_in(told):
+    return {name: value for name, value in told.items() if name.startswith("Checksum") and name != "ChecksumType"}
+
+
 class Heads(Case):
     def test_long_ones(self):
         """What a put takes beside a content is told again, through nginx too; and a signed URL may ask for long headers."""
@@ -499,6 +551,64 @@ class Requests(Case):
             found = self.ask("PUT", f"/{self.bucket}/trailed", b"", headers, "STREAMING-UNSIGNED-PAYLOAD-TRAILER", data=body)
             self.assertEqual(self.code(found), told)
         self.assertEqual(self.get("trailed")["Body"].read(), content)
+
+    def in_parts(self, key, headers, parts, algorithm=None):
+        """An upload by requests as SDKs of today make them; its path, and the XML that completes it."""
+        status, told, _ = self.ask("POST", f"/{self.bucket}/{key}?uploads", b"", headers)
+        self.assertEqual(status, 200, told)
+        path, listed = f"/{self.bucket}/{key}?uploadId={told.decode().partition('<UploadId>')[2].partition('</UploadId>')[0]}", ""
+        for number, content in enumerate(parts, 1):
+            sums = {f"x-amz-checksum-{algorithm}": told_sum(algorithm, content)} if algorithm else {}
+            status, told, _ = self.ask("PUT", f"{path}&partNumber={number}", content, sums)
+            self.assertEqual(status, 200, told)
+            inner = f"<Checksum{algorithm.upper()}>{sums[f'x-amz-checksum-{algorithm}']}</Checksum{algorithm.upper()}>" if algorithm else ""
+            listed += f"<Part><ETag>&quot;{hashlib.md5(content).hexdigest()}&quot;</ETag>{inner}<PartNumber>{number}</PartNumber></Part>"
+        return path, f"<CompleteMultipartUpload>{listed}</CompleteMultipartUpload>".encode()
+
+    def told_with(self, key):
+        """The headers of checksums that an object is told with."""
+        address, request = urlsplit(URL), AWSRequest("HEAD", f"{URL}/{self.bucket}/{key}", {"x-amz-checksum-mode": "ENABLED"})
+        S3SigV4Auth(Credentials(ACCESS, SECRET), "s3", "us-east-1").add_auth(request)
+        connection = http.client.HTTPConnection(address.hostname, address.port, timeout=120)
+        connection.request("HEAD", f"/{self.bucket}/{key}", None, dict(request.headers))
+        return {name.lower()[15:]: value for name, value in connection.getresponse().getheaders() if name.lower().startswith("x-amz-checksum-")}
+
+    def test_checksums_of_the_whole(self):
+        """Of an upload in parts, as SDKs of today complete it."""
+        parts = [os.urandom(70_000), b"", os.urandom(10)]
+        whole = b"".join(parts)
+        for algorithm in ("crc32", "crc32c", "crc64nvme"):
+            begun = {"x-amz-checksum-algorithm": algorithm.upper(), "x-amz-checksum-type": "FULL_OBJECT"}
+            path, listed = self.in_parts("whole", begun, parts, algorithm)
+            for headers, code in [
+                ({f"x-amz-checksum-{algorithm}": told_sum(algorithm, b"other")}, "BadDigest"), ({"x-amz-checksum-type": "COMPOSITE"}, "InvalidRequest"),
+                ({"x-amz-checksum-sha1": told_sum("sha1", whole)}, "InvalidRequest"), ({"x-amz-checksum-md5": "x"}, "NotImplemented"),
+            ]:  # fmt: skip
+                self.assertEqual(self.code(self.ask("POST", path, listed, headers)), code, headers)
+            other = listed.replace(told_sum(algorithm, parts[0]).encode(), told_sum(algorithm, parts[2]).encode())
+            self.assertEqual(self.code(self.ask("POST", path, other)), "InvalidPart")
+            self.assertIn(f"<Checksum{algorithm.upper()}>{told_sum(algorithm, parts[2])}<".encode(), self.ask("GET", path)[1])
+            status, told, _ = self.ask("POST", path, listed, {f"x-amz-checksum-{algorithm}": told_sum(algorithm, whole), "x-amz-checksum-type": "FULL_OBJECT"})
+            self.assertEqual(status, 200, told)
+            self.assertIn(f"<Checksum{algorithm.upper()}>{told_sum(algorithm, whole)}</Checksum{algorithm.upper()}><ChecksumType>FULL_OBJECT<".encode(), told)
+            self.assertEqual(self.told_with("whole"), {algorithm: told_sum(algorithm, whole), "type": "FULL_OBJECT"})
+            self.assertEqual(self.get("whole")["Body"].read(), whole)
+
+    def test_checksums_of_parts(self):
+        """Of checksums, where the whole's is not asked for; and of parts that came without one."""
+        parts = [os.urandom(100), os.urandom(10)]
+        for algorithm in ("crc32", "sha256"):
+            for sent in (algorithm, None):
+                path, listed = self.in_parts("composite", {"x-amz-checksum-algorithm": algorithm.upper()}, parts, sent)
+                self.assertEqual(self.ask("POST", path, listed)[0], 200)
+                digests = b"".join(base64.b64decode(told_sum(algorithm, part)) for part in parts)
+                self.assertEqual(self.told_with("composite"), {algorithm: told_sum(algorithm, digests) + "-2", "type": "COMPOSITE"})
+        path, listed = self.in_parts("none", {}, parts)
+        self.assertEqual(self.code(self.ask("POST", path, listed, {"x-amz-checksum-crc32": told_sum("crc32", b"".join(parts))})), "InvalidRequest")
+        self.assertEqual(self.ask("POST", path, listed)[0], 200)
+        self.assertEqual(self.told_with("none"), {})
+        for headers in ({"x-amz-checksum-algorithm": "SHA1", "x-amz-checksum-type": "FULL_OBJECT"}, {"x-amz-checksum-algorithm": "CRC64NVME", "x-amz-checksum-type": "COMPOSITE"}, {"x-amz-checksum-type": "COMPOSITE"}):
+            self.assertEqual(self.code(self.ask("POST", f"/{self.bucket}/none?uploads", b"", headers)), "InvalidRequest")
 
     def test_xml_that_is_none(self):
         bomb = b'<!DOCTYPE x [<!ENTITY a "aaaa">]><Delete><Object><Key>&a;</Key></Object></Delete>'

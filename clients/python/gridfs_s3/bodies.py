@@ -2,20 +2,18 @@
 
 import asyncio
 import base64
-import functools
 import hashlib
 import hmac
 import re
 import time
-import zlib
-from collections.abc import AsyncIterator, Callable, Mapping
-from typing import Any
+from collections.abc import AsyncIterator, Mapping, Sequence
 
-import crcmod
 from aiohttp.http_exceptions import BadHttpMessage
 from aiohttp.streams import StreamReader
 
+from . import checksums
 from .bounds import BODY_PIECE, IDLE, Spool, is_too_slow
+from .checksums import Checksum
 from .errors import S3Error
 from .requests import Asked
 from .signing import DIGEST, UNSIGNED, Signed
@@ -25,64 +23,18 @@ CHUNKED = re.compile(r"STREAMING-(AWS4-HMAC-SHA256|UNSIGNED)-PAYLOAD(-TRAILER)?"
 CHUNK = re.compile(rb"([0-9a-fA-F]{1,8})(?:;chunk-signature=([0-9a-f]{64}))?")
 
 
-class Crc32:
-    """CRC-32 with the calls of hashlib."""
-
-    def __init__(self) -> None:
-        self.value = 0
-
-    def update(self, data: bytes) -> None:
-        self.value = zlib.crc32(data, self.value)
-
-    def digest(self) -> bytes:
-        return self.value.to_bytes(4, "big")
-
-
-class Crc:
-    """A CRC of crcmod with the calls of hashlib."""
-
-    def __init__(self, polynomial: int, bits: int):
-        self.length, self.value = bits // 8, 0
-        self.go_on = crc_of(polynomial, bits)
-
-    def update(self, data: bytes) -> None:
-        self.value = self.go_on(data, self.value)
-
-    def digest(self) -> bytes:
-        return self.value.to_bytes(self.length, "big")
-
-
-@functools.cache
-def crc_of(polynomial: int, bits: int) -> Callable[[bytes, int], int]:
-    found: Callable[[bytes, int], int] = crcmod.mkCrcFun(polynomial, initCrc=0, rev=True, xorOut=(1 << bits) - 1)
-    return found
-
-
-NO_CHECKSUMS = ("x-amz-checksum-algorithm", "x-amz-checksum-mode", "x-amz-checksum-type")
-CHECKSUMS: dict[str, Callable[[], Any]] = {
-    "x-amz-checksum-crc32": Crc32,
-    "x-amz-checksum-crc32c": lambda: Crc(0x11EDC6F41, 32),
-    "x-amz-checksum-crc64nvme": lambda: Crc(0x1AD93D23594C93659, 64),
-    "x-amz-checksum-sha1": hashlib.sha1,
-    "x-amz-checksum-sha256": hashlib.sha256,
-}
-
-
 class Checks:
     """What a body is said to be: looked at with every byte of it, and judged at its end."""
 
-    def __init__(self, headers: Mapping[str, str], payload: str):
+    def __init__(self, headers: Mapping[str, str], payload: str, is_of_content: bool = True):
         self.md5, self.size = hashlib.md5(), 0
         self.wanted_md5 = self.of_base64(headers.get("content-md5"), 16)
         self.wanted_sha256 = payload if DIGEST.fullmatch(payload) else None
         self.sha256 = hashlib.sha256() if self.wanted_sha256 else None
-        wanted = {name: value for name, value in headers.items() if name.startswith("x-amz-checksum-") and name not in NO_CHECKSUMS}
+        self.wanted = checksums.given(headers) if is_of_content else {}
         trailers = [name.strip().lower() for name in headers.get("x-amz-trailer", "").split(",") if name.strip()]
-        for name in [*wanted, *trailers]:
-            if name not in CHECKSUMS:
-                raise S3Error("NotImplemented", f"The checksum {name} is not known here; known are {', '.join(CHECKSUMS)}.")
-        self.sums = {name: CHECKSUMS[name]() for name in {*wanted, *trailers}}
-        self.wanted, self.trailers = wanted, trailers
+        self.trailers = checksums.by_headers(trailers)
+        self.sums = {name: checksums.ALGORITHMS[name]() for name in (*self.wanted, *self.trailers.values())}
 
     def of_base64(self, text: str | None, length: int) -> bytes | None:
         if text is None:
@@ -111,17 +63,25 @@ class Checks:
         for name in self.trailers:
             if name not in trailers:
                 raise S3Error("InvalidRequest", f"The trailer {name} is missing.")
-        for name, value in {**self.wanted, **{each: trailers[each] for each in self.trailers}}.items():
-            if base64.b64encode(self.sums[name].digest()).decode() != value.strip():
-                raise S3Error("BadDigest", f"The content has another {name}.")
+        told = [*self.wanted.items(), *((algorithm, trailers[name]) for name, algorithm in self.trailers.items())]
+        for algorithm, value in told:
+            if self.checksum(algorithm).told != value.strip():
+                raise S3Error("BadDigest", f"The content has another {checksums.HEADER}{algorithm}.")
+
+    def checksum(self, algorithm: str) -> Checksum:
+        return checksums.of_digest(algorithm, self.sums[algorithm].digest())
+
+    def told(self) -> list[Checksum]:
+        """The checksums that the content came with, once they were judged."""
+        return [self.checksum(algorithm) for algorithm in self.sums]
 
 
 class Body:
     """The content of a request, as long as `told_size`."""
 
-    def __init__(self, stream: StreamReader, headers: Mapping[str, str], signed: Signed):
+    def __init__(self, stream: StreamReader, headers: Mapping[str, str], signed: Signed, is_of_content: bool = True):
         self.stream, self.signed = stream, signed
-        self.checks = Checks(headers, signed.payload)
+        self.checks = Checks(headers, signed.payload, is_of_content)
         self.trailers: dict[str, str] = {}
         payload, chunked = signed.payload, CHUNKED.fullmatch(signed.payload)
         length = headers.get("x-amz-decoded-content-length" if chunked else "content-length")
@@ -259,44 +219,60 @@ class Body:
             self.expect(self.signed.chunk_signature(before, hashlib.sha256(text.encode()).hexdigest(), "TRAILER"), told)
 
 
-def body_of(asked: Asked) -> Body:
-    """The body of a request. 411 MissingContentLength; 400 InvalidArgument, InvalidDigest."""
+def body_of(asked: Asked, is_of_content: bool = True) -> Body:
+    """The body of a request. Where it is no content, checksums are of something else. 411 MissingContentLength; 400 InvalidArgument, InvalidDigest."""
     if not asked.request.can_read_body and "content-length" not in asked.headers and "transfer-encoding" not in asked.headers:
         asked.headers.setdefault("content-length", "0")
-    return Body(asked.request.content, asked.headers, asked.signed)
+    return Body(asked.request.content, asked.headers, asked.signed, is_of_content)
 
 
-class Whole:
-    """A content that is there already, as one that is read by a thread."""
+class Here:
+    """A content that is here already, as one that is read by a thread."""
 
-    def __init__(self, data: bytes, md5: str):
-        self.data, self.told_size, self.md5, self.at = data, len(data), md5, 0
+    def __init__(self, size: int, md5: str, told: Sequence[Checksum] = ()):
+        self.told_size, self.md5, self.at = size, md5, 0
+        self.told = {each.algorithm: each for each in told}
+
+    def piece(self, at: int, length: int) -> bytes:
+        raise NotImplementedError
 
     def rewind(self) -> None:
         self.at = 0
 
     def read(self, length: int) -> bytes:
-        found = self.data[self.at : self.at + length]
+        found = self.piece(self.at, length)
         self.at += len(found)
         return found
 
     def digest(self) -> str:
         return self.md5
 
+    def checksum(self, algorithm: str) -> Checksum | None:
+        """That of this algorithm; without one the first that it came with, if any."""
+        if not algorithm:
+            return next(iter(self.told.values()), None)
+        if algorithm not in self.told:
+            self.told[algorithm] = checksums.computed(algorithm, (self.piece(at, BODY_PIECE) for at in range(0, self.told_size, BODY_PIECE)))
+        return self.told[algorithm]
 
-class Spooled:
-    """A content that is in a file already."""
 
-    def __init__(self, spool: Spool, md5: str):
-        self.spool, self.told_size, self.md5, self.at = spool, spool.size, md5, 0
+class Whole(Here):
+    """One in memory."""
 
-    def rewind(self) -> None:
-        self.at = 0
+    def __init__(self, data: bytes, md5: str, told: Sequence[Checksum] = ()):
+        super().__init__(len(data), md5, told)
+        self.data = data
 
-    def read(self, length: int) -> bytes:
-        found = self.spool.read(self.at, length)
-        self.at += len(found)
-        return found
+    def piece(self, at: int, length: int) -> bytes:
+        return self.data[at : at + length]
 
-    def digest(self) -> str:
-        return self.md5
+
+class Spooled(Here):
+    """One in a file."""
+
+    def __init__(self, spool: Spool, md5: str, told: Sequence[Checksum] = ()):
+        super().__init__(spool.size, md5, told)
+        self.spool = spool
+
+    def piece(self, at: int, length: int) -> bytes:
+        return self.spool.read(at, length)

@@ -3,9 +3,9 @@
 import asyncio
 import hashlib
 import re
-from collections.abc import Callable, Generator
+from collections.abc import Callable, Generator, Sequence
 from contextlib import closing
-from typing import TypeVar
+from typing import Any, TypeVar
 from urllib.parse import unquote
 
 from aiohttp import web
@@ -14,11 +14,12 @@ from gridfs_client.buckets import Held
 
 from .bodies import Whole
 from .bounds import LONG
+from .checksums import ALGORITHMS, Checksum, of_digest
 from .errors import S3Error
 from .gateway import TURNS, NotSettled, Operations
 from .grids import Want
 from .markup import document, element
-from .objects import Objects, values_of
+from .objects import Objects, algorithm_wanted, values_by, values_of
 from .places import KEYS, Object, Values, name_of
 from .requests import Asked, answer, iso, judge
 from .store import Body, Condition, NoLine, PageFull, Store
@@ -31,8 +32,9 @@ Told = TypeVar("Told")
 class Copied:
     """A content as another session reads it, for who puts it."""
 
-    def __init__(self, data: bytes, parts: Generator[bytes, None, None], size: int):
+    def __init__(self, data: bytes, parts: Generator[bytes, None, None], size: int, told: Sequence[Checksum] = ()):
         self.ahead, self.parts, self.told_size, self.md5 = bytearray(data), parts, size, hashlib.md5()
+        self.told, self.sums = {each.algorithm: each for each in told}, dict[str, Any]()
         self.is_begun = False
 
     def rewind(self) -> None:
@@ -45,11 +47,26 @@ class Copied:
             self.ahead += data
         found = bytes(memoryview(self.ahead)[:length])
         del self.ahead[:length]
-        self.md5.update(found)
+        for each in (self.md5, *self.sums.values()):
+            each.update(found)
         return found
 
     def digest(self) -> str:
         return self.md5.hexdigest()
+
+    def checksum(self, algorithm: str) -> Checksum | None:
+        """As Body has it. It has to be asked for once before it is read."""
+        if not algorithm or algorithm in self.told:
+            return self.told.get(algorithm) or next(iter(self.told.values()), None)
+        if algorithm not in self.sums:
+            assert not self.is_begun
+            self.sums[algorithm] = ALGORITHMS[algorithm]()
+        return of_digest(algorithm, self.sums[algorithm].digest())
+
+
+def known_of(found: Object, part: tuple[int, int]) -> list[Checksum]:
+    """The checksum of a part of an object, where it is known already."""
+    return [found.checksum] if found.checksum and not found.checksum.count and part == (0, found.size) else []
 
 
 class Copies(Operations):
@@ -108,7 +125,7 @@ class Copies(Operations):
         async with self.objects.small:
             whole = await self.gateway.look(name, small)
             if whole is not None:
-                source = Whole(whole, hashlib.md5(whole).hexdigest())
+                source = Whole(whole, hashlib.md5(whole).hexdigest(), known_of(found[0], part))
                 return await self.gateway.change(target, lambda store: put(store, source, found[0]), number=number, condition=condition)
         wants = Want(name), Want(target, number)
         for _ in range(TURNS):
@@ -117,7 +134,7 @@ class Copies(Operations):
                 is_writing, rest, page = False, None, None
                 try:
                     data, rest = await reader.run(begin, keep=True)
-                    copied = Copied(data, rest, part[1] - part[0])
+                    copied = Copied(data, rest, part[1] - part[0], known_of(found[0], part))
                     is_writing = True
                     besides = tuple(worker for _, worker in (*reader.workers, *writer.workers))
                     return await writer.run(lambda store: put(store, copied, found[0]), besides=besides)
@@ -151,23 +168,23 @@ class Copies(Operations):
             raise S3Error("InvalidArgument", "x-amz-metadata-directive is COPY or REPLACE.")
         if (bucket, key) == (asked.bucket, asked.key) and directive == "COPY":
             raise S3Error("InvalidRequest", "A copy onto itself has to change something: REPLACE.")
-        new = values_of(asked)
+        new, algorithm = values_of(asked), algorithm_wanted(asked)
 
-        def values_for(found: Object, md5: str | None) -> Values:
+        def values_for(found: Object, source: Body | None) -> Values:
             old = found.values
-            kept = new if directive == "REPLACE" else {each: value for each, value in old.items() if each not in ("k", "u", "n", "m", "t")}
+            kept = new if directive == "REPLACE" else {each: value for each, value in old.items() if each not in ("k", "u", "n", "m", "s", "t")}
             values = {**kept, **({"k": asked.key} if name.startswith(KEYS) else {})}
-            if md5 is None:  # (the content stays where it is)
-                return {**values, **{each: old[each] for each in ("m", "n") if each in old}}
-            return {**values, "m": md5}
+            if source is None:  # (the content stays where it is)
+                return {**values, **{each: old[each] for each in ("m", "n", "s") if each in old}}
+            return {**values, **values_by(source, algorithm or (found.checksum.algorithm if found.checksum else ""))}
 
         condition = await self.gateway.condition_of(asked, name)
-        if (bucket, key) == (asked.bucket, asked.key) and not condition:
+        if (bucket, key) == (asked.bucket, asked.key) and not condition and not algorithm:
             if held := await self.touched(asked, name, lambda found: values_for(found, None)):
                 return self.result("CopyObjectResult", Object(asked.key, held))
 
         def put(store: Store, source: Body, found: Object) -> Held:
-            return store.put_object(name, source, lambda: values_for(found, source.digest()), condition)
+            return store.put_object(name, source, lambda: values_for(found, source), condition)
 
         held = await self.copied(asked, put, lambda found: (0, found.size), name, condition=condition)
         return self.result("CopyObjectResult", Object(asked.key, held))
@@ -188,7 +205,8 @@ class Copies(Operations):
         return None
 
     def result(self, name: str, found: Object) -> web.Response:
-        return answer(document(name, element("LastModified", iso(found.time)), element("ETag", f'"{found.etag}"')))
+        inner = found.checksum.elements() if found.checksum else []
+        return answer(document(name, element("LastModified", iso(found.time)), element("ETag", f'"{found.etag}"'), *inner))
 
 
 def range_to_copy(text: str | None, size: int) -> tuple[int, int]:

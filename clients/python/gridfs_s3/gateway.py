@@ -259,15 +259,15 @@ class Gateway:
         if all(pool.is_open for pool in pools) and size > max(pool.slot_bytes for pool in pools):
             raise S3Error("InsufficientStorage", "The tenant has no room for so long a content.")
 
-    async def document(self, asked: Asked, name: str) -> Element:
-        """The root of the XML of a request's body. The errors of a body; 400 MalformedXML."""
-        body, loop = body_of(asked), asyncio.get_running_loop()
+    async def document(self, asked: Asked, name: str, is_of_content: bool = True) -> Element:
+        """The root of the XML of a request's body. The errors of a body; 400 MalformedXML; 501 NotImplemented for an element that is not known."""
+        body, loop = body_of(asked, is_of_content), asyncio.get_running_loop()
         if body.told_size > LONGEST_XML:
             raise S3Error("EntityTooLarge")
         await let_body_come(asked)
         with closing(await body.spooled()) as spool:
             async with self.documents:
-                return await loop.run_in_executor(None, lambda: parse(spool.read(0, spool.size), name))
+                return await loop.run_in_executor(None, lambda: parse(spool.read(0, spool.size), name, asked.elements))
 
     # Buckets
 

@@ -1,6 +1,7 @@
 """XML: reading what requests bring, with no entities and within limits; and writing answers."""
 
 import re
+from collections.abc import Mapping, Set
 from urllib.parse import quote
 from xml.parsers import expat
 
@@ -30,9 +31,9 @@ class Element:
         return next((each.text if name == "Key" else each.text.strip() for each in self.all(name)), None)
 
 
-def parse(text: bytes, name: str) -> Element:
+def parse(text: bytes, name: str, known: Mapping[str, Set[str]] | None = None) -> Element:
     """The root of a document, which has to have this name. MalformedXML for any other, for a document type, and so for entities, and for more
-    than such a document can have."""
+    than such a document can have. NotImplemented for an element that is not known inside of another one, where that is told."""
     root, path, count = Element(""), list[Element](), 0
 
     def refuse(*_: object) -> None:
@@ -63,7 +64,16 @@ def parse(text: bytes, name: str) -> Element:
         raise S3Error("MalformedXML") from None
     if root.inner[0].name != name:
         raise S3Error("MalformedXML", f"The element {name} is required.")
+    if known is not None:
+        expect_known(root.inner[0], known)
     return root.inner[0]
+
+
+def expect_known(found: Element, known: Mapping[str, Set[str]]) -> None:
+    for each in found.inner:
+        if each.name not in known.get(found.name, ()):
+            raise S3Error("NotImplemented", f"The element {legible(each.name)} of {found.name} is not known here.")
+        expect_known(each, known)
 
 
 ESCAPED = re.compile(r"[&<>\"\r\x00-\x08\x0b\x0c\x0e-\x1f\x7f]")

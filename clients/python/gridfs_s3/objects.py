@@ -9,20 +9,22 @@ from aiohttp import web
 
 from gridfs_client.buckets import Held
 
-from . import metrics
-from .bodies import Body, Spooled, Whole, body_of
+from . import bodies, metrics
+from .bodies import Spooled, Whole, body_of
 from .bounds import BODY_PIECE, IDLE, IN_HAND, IN_MEMORY, LONG, Spool, is_too_slow
 from .buckets import Buckets
+from .checksums import HEADER, algorithm_of
 from .errors import S3Error, error_of, tell
 from .gateway import Gateway, Operations, let_body_come
 from .markup import document, element, many
 from .places import KEYS, MOST_KEPT, MOST_METADATA, Object, Values, name_of
 from .requests import SERVER, Asked, answer, http_date, judge, range_wanted
-from .store import Condition, Store
+from .store import Body, Condition, Store
 
 MANY = 4 << 20  # bytes from which on idle sessions help
 HELPERS = 3
 LONGEST_PUT = 5 << 30
+ATTRIBUTES = {"Checksum", "ETag", "ObjectParts", "ObjectSize", "StorageClass"}
 KEPT_HEADERS = ("cache-control", "content-disposition", "content-encoding", "content-language", "expires")
 
 
@@ -53,6 +55,18 @@ def values_of(asked: Asked) -> Values:
     return values
 
 
+def algorithm_wanted(asked: Asked) -> str:
+    """The algorithm of the checksum that is to be kept; empty where none is named. 501 NotImplemented."""
+    word = asked.headers.get(f"{HEADER}algorithm", "")
+    return algorithm_of(word) if word else ""
+
+
+def values_by(source: Body, algorithm: str) -> Values:
+    """What is kept beside a content that comes from this source."""
+    checksum = source.checksum(algorithm)
+    return {"m": source.digest(), **({"s": checksum.text()} if checksum else {})}
+
+
 def headers_of(found: Object, asked: Asked) -> dict[str, str]:
     """The headers that an object is told with."""
     told = {
@@ -77,6 +91,8 @@ def begun(asked: Asked, found: Object, part: tuple[int, int] | None) -> web.Stre
     first, end = part or (0, found.size)
     # (in a browser an object is no page of this host, whatever it is: other tenants have their pages here)
     headers = {**headers_of(found, asked), "x-amz-request-id": asked.id, "Server": SERVER, "Content-Security-Policy": "sandbox"}
+    if found.checksum and not part and asked.headers.get(f"{HEADER}mode", "").upper() == "ENABLED":
+        headers |= found.checksum.headers()
     if part:
         headers["Content-Range"] = f"bytes {first}-{end - 1}/{found.size}"
     response = web.StreamResponse(status=206 if part else 200, headers=headers)
@@ -250,8 +266,26 @@ class Objects(Operations):
         await self.found(asked)
         return answer(document("Tagging", many("TagSet")))
 
+    async def get_object_attributes(self, asked: Asked) -> web.Response:
+        """200: those that are asked for, and that the object has. 400 InvalidArgument; 404 NoSuchBucket, NoSuchKey."""
+        wanted = {word.strip() for word in asked.headers.get("x-amz-object-attributes", "").split(",")}
+        if not wanted <= ATTRIBUTES:
+            raise S3Error("InvalidArgument", f"x-amz-object-attributes names some of {', '.join(sorted(ATTRIBUTES))}.")
+        await self.gateway.need_bucket(asked.bucket)
+        found = await self.found(asked)
+        count = found.values.get("n")
+        told = {
+            "ETag": element("ETag", found.etag),
+            "Checksum": many("Checksum", *found.checksum.elements()) if found.checksum else None,
+            "ObjectParts": many("ObjectParts", element("PartsCount", count)) if count else None,
+            "StorageClass": element("StorageClass", "STANDARD"),
+            "ObjectSize": element("ObjectSize", found.size),
+        }
+        inner = [each for name, each in told.items() if name in wanted]
+        return answer(document("GetObjectAttributesResponse", *inner), headers={"Last-Modified": http_date(found.time)})
+
     @asynccontextmanager
-    async def source_of(self, asked: Asked, body: Body) -> AsyncIterator[Whole | Spooled]:
+    async def source_of(self, asked: Asked, body: bodies.Body) -> AsyncIterator[Whole | Spooled]:
         """A body as a session reads it: once it is here and judged."""
         metrics.taken.labels(self.gateway.tenant).inc(body.told_size)
         if body.told_size > IN_MEMORY:
@@ -259,10 +293,10 @@ class Objects(Operations):
         async with self.gateway.places.one(asked) if body.told_size > LONG else nullcontext():
             await let_body_come(asked)
             if body.told_size <= IN_MEMORY:
-                yield Whole(await body.all(IN_MEMORY), body.checks.md5.hexdigest())
+                yield Whole(await body.all(IN_MEMORY), body.checks.md5.hexdigest(), body.checks.told())
                 return
             with closing(await body.spooled()) as spool:
-                yield Spooled(spool, body.checks.md5.hexdigest())
+                yield Spooled(spool, body.checks.md5.hexdigest(), body.checks.told())
 
     async def put_object(self, asked: Asked) -> web.Response:
         """200. With If-None-Match or If-Match: 412 PreconditionFailed, 404 NoSuchKey. 404 NoSuchBucket; 411 MissingContentLength; 507
@@ -272,15 +306,16 @@ class Objects(Operations):
         name, body = name_of(asked.bucket, asked.key), body_of(asked)
         if body.told_size > LONGEST_PUT:
             raise S3Error("EntityTooLarge")
-        values, condition = values_of(asked), await self.gateway.condition_of(asked, name)
+        values, condition, algorithm = values_of(asked), await self.gateway.condition_of(asked, name), algorithm_wanted(asked)
         async with self.source_of(asked, body) as source:
 
             def put(store: Store) -> Held:
-                return store.put_object(name, source, lambda: {**values, "m": source.digest()}, condition)
+                return store.put_object(name, source, lambda: {**values, **values_by(source, algorithm)}, condition)
 
             await self.gateway.need_bucket(asked.bucket)  # (it may have been removed while the content came)
             held = await self.gateway.change(name, put, HELPERS if body.told_size >= MANY else 0, condition=condition)
-        return answer(headers={"ETag": f'"{Object(asked.key, held).etag}"'})
+        found = Object(asked.key, held)
+        return answer(headers={"ETag": f'"{found.etag}"', **(found.checksum.headers() if found.checksum else {})})
 
     async def delete_object(self, asked: Asked) -> web.Response:
         """204, also where there is no such key. With If-Match: 412 PreconditionFailed. 404 NoSuchBucket."""
@@ -301,8 +336,6 @@ class Objects(Operations):
             raise S3Error("MalformedXML")
         if any(each.told("VersionId") not in (None, "", "null") for each in wanted.all("Object")):
             raise S3Error("NotImplemented", "There are no versions here.")
-        if any(inner.name not in ("Key", "VersionId") for each in wanted.all("Object") for inner in each.inner):
-            raise S3Error("NotImplemented", "Keys are removed here without conditions.")
         at_once = asyncio.Semaphore(max(1, self.grids.workers))
         removed: Callable[[str], str | None] = lambda key: None if wanted.told("Quiet") == "true" else many("Deleted", element("Key", key))
 

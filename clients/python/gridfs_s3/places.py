@@ -13,7 +13,8 @@ quoted as in a URL:
     m    its MD5, or of an upload in parts MD5 of the parts' MD5   h-NAME   Content-Encoding and others that are told again
     n    how many parts it was uploaded in                         x-NAME   metadata of the client
     k    its key, where the name does not tell it                  u    the upload by which it came
-    p    of an upload: NUMBER.MD5.SIZE.TIME of each part, with , between
+    s    its checksum, as `crc32.BASE64`, of an upload also -N     a    of an upload: the algorithm that was named, and its kind, as `crc32.FULL_OBJECT`
+    p    of an upload: NUMBER.MD5.SIZE.TIME of each part, with , between; and .ALGORITHM.BASE64URL, where a checksum of it is kept
 """
 
 import re
@@ -26,13 +27,15 @@ from gridfs_client.contents import digest_in_hex, digest_of
 from gridfs_client.errors import BadName, Damaged
 from gridfs_client.pages import check_name
 
+from .checksums import Checksum, of_text
 from .errors import S3Error
 
 BUCKET = re.compile(r"(?!xn--)(?!.*\.\.)(?!\d+\.\d+\.\d+\.\d+$)[a-z0-9][a-z0-9.-]{1,61}[a-z0-9]", re.ASCII)
-PART = re.compile(r"([0-9]{1,5})\.([0-9a-f]{32})\.([0-9]{1,19})\.([0-9]{1,13})")
+PART = re.compile(r"([0-9]{1,5})\.([0-9a-f]{32})\.([0-9]{1,19})\.([0-9]{1,13})(?:\.([a-z0-9]+\.[A-Za-z0-9_-]+))?")
 LONGEST_KEY, MOST_METADATA, MOST_KEPT = 1_024, 2_048, 8_192
 Values = dict[str, str]  # what stands beside a content, by its letters above
 BUCKETS, KEYS, UPLOADS = ".s3/bucket/", ".s3/key/", ".s3/up/"
+PLAIN = str.maketrans("+/", "-_")  # of base64
 
 
 def check_bucket(bucket: str) -> None:
@@ -81,9 +84,12 @@ class Part:
     md5: str
     size: int
     time: int
+    checksum: Checksum | None = None
 
     def text(self) -> str:
-        return f"{self.number}.{self.md5}.{self.size}.{self.time}"
+        text = f"{self.number}.{self.md5}.{self.size}.{self.time}"
+        # (letters that words don't quote)
+        return text + (f".{self.checksum.text().translate(PLAIN).rstrip('=')}" if self.checksum else "")
 
 
 # Words stand in lines of pages, which other clients of the tenant write too: what has no form must not hinder what is done with other names.
@@ -101,7 +107,13 @@ def parts_of(values: Values) -> list[Part]:
     found = [PART.fullmatch(word) for word in words]
     if not all(found):
         raise Damaged("the words of an upload have no form")
-    return [Part(int(each[1]), each[2], int(each[3]), int(each[4])) for each in found if each]
+    return [Part(int(each[1]), each[2], int(each[3]), int(each[4]), of_plain(each[5])) for each in found if each]
+
+
+def of_plain(text: str | None) -> Checksum | None:
+    """A checksum as it stands in the words of a part."""
+    algorithm, _, value = (text or "").partition(".")
+    return of_text(f"{algorithm}.{value.replace('-', '+').replace('_', '/')}{'=' * (-len(value) % 4)}")
 
 
 @dataclass(frozen=True)
@@ -126,6 +138,10 @@ class Object:
         if re.fullmatch(r"[0-9a-f]{32}", md5) and re.fullmatch(r"[0-9]{1,5}", count or "1"):
             return md5 + (f"-{count}" if count else "")
         return digest_in_hex(self.held.content.digest)[:32] + "-1"
+
+    @property
+    def checksum(self) -> Checksum | None:
+        return of_text(self.values.get("s", ""))
 
     @property
     def time(self) -> int:

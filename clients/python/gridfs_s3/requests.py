@@ -4,7 +4,7 @@ import email.utils
 import re
 import secrets
 import time
-from collections.abc import Mapping
+from collections.abc import Mapping, Set
 from urllib.parse import unquote
 
 from aiohttp import web
@@ -55,6 +55,7 @@ class Asked:
         self.operation = "Unknown"
         self.is_expecting = self.headers.get("expect", "").lower() == "100-continue"
         self.signed: signing.Signed
+        self.elements: Mapping[str, Set[str]] = {}  # that the XML of its body may have, by the element around them
 
     def number(self, name: str, default: int, most: int) -> int:
         text = self.query.get(name, str(default))

@@ -2,14 +2,15 @@
 
 import asyncio
 import time
-from collections.abc import Awaitable, Callable, Set
-from dataclasses import dataclass
+from collections.abc import Awaitable, Callable, Mapping, Set
+from dataclasses import dataclass, field
 
 from aiohttp import web
 from aiohttp.web_protocol import RequestPayloadError
 
 from . import metrics, signing
 from .buckets import NEVER_GIVEN, Buckets
+from .checksums import ALGORITHMS, HEADER
 from .connections import Connection, error_answer
 from .copying import Copies
 from .errors import S3Error, error_of, tell
@@ -28,16 +29,23 @@ READS = ("GET", "HEAD")
 # What a read may ask for that is not here. Other words that are not known mean nothing to a read.
 NOT_HERE = (
     "accelerate", "analytics", "inventory", "legal-hold", "logging", "metrics", "notification", "policyStatus", "requestPayment", "restore", "retention", "select",
-    "torrent", "versions", "intelligent-tiering", "attributes", *NEVER_GIVEN,
+    "torrent", "versions", "intelligent-tiering", *NEVER_GIVEN,
 )  # fmt: skip
-# The headers of Amazon's that a change may have. One that is not known may be a condition, or want something else than what would be done.
+# The headers of Amazon's that any change may have, and those that some may have besides. One that is not known may be a condition, or want something else than
+# what would be done.
 OF_ANY_CHANGE = {
-    "x-amz-acl", "x-amz-bypass-governance-retention", "x-amz-content-sha256", "x-amz-copy-source", "x-amz-copy-source-if-match", "x-amz-copy-source-if-modified-since",
-    "x-amz-copy-source-if-none-match", "x-amz-copy-source-if-unmodified-since", "x-amz-copy-source-range", "x-amz-date", "x-amz-decoded-content-length",
-    "x-amz-expected-bucket-owner", "x-amz-metadata-directive", "x-amz-mp-object-size", "x-amz-object-ownership", "x-amz-request-payer", "x-amz-sdk-checksum-algorithm",
-    "x-amz-security-token", "x-amz-source-expected-bucket-owner", "x-amz-storage-class", "x-amz-te", "x-amz-trailer", "x-amz-user-agent",
+    "x-amz-acl", "x-amz-bypass-governance-retention", "x-amz-content-sha256", "x-amz-date", "x-amz-decoded-content-length", "x-amz-expected-bucket-owner", "x-amz-request-payer",
+    "x-amz-sdk-checksum-algorithm", "x-amz-security-token", "x-amz-storage-class", "x-amz-te", "x-amz-trailer", "x-amz-user-agent", *(HEADER + name for name in ALGORITHMS),
 }  # fmt: skip
-PREFIXES_OF_ANY_CHANGE = ("x-amz-meta-", "x-amz-checksum-")
+OF_A_COPY = {
+    "x-amz-copy-source", "x-amz-copy-source-if-match", "x-amz-copy-source-if-modified-since", "x-amz-copy-source-if-none-match", "x-amz-copy-source-if-unmodified-since",
+    "x-amz-source-expected-bucket-owner",
+}  # fmt: skip
+BY, KIND = f"{HEADER}algorithm", f"{HEADER}type"
+# The elements of the XML that a change may have, by the element around them.
+OF_BUCKETS = {"CreateBucketConfiguration": {"LocationConstraint"}}
+OF_REMOVALS = {"Delete": {"Object", "Quiet"}, "Object": {"Key", "VersionId"}}
+OF_PARTS = {"CompleteMultipartUpload": {"Part"}, "Part": {"ETag", "PartNumber", *(f"Checksum{name.upper()}" for name in ALGORITHMS)}}
 # In the query of a signed URL there are these besides, and those that begin with X-Amz-.
 OF_ANY_URL = {"x-id", "x-amz-sdk-checksum-algorithm", "x-amz-user-agent"}
 CONDITIONS, NEVER_JUDGED = {"if-match", "if-none-match"}, {"if-modified-since", "if-range", "if-unmodified-since"}
@@ -45,13 +53,19 @@ CONDITIONS, NEVER_JUDGED = {"if-match", "if-none-match"}, {"if-modified-since", 
 
 @dataclass(frozen=True)
 class Change:
-    """A request that changes something: the words of its query, those that it may have besides, and the conditions that are judged."""
+    """A request that changes something: the words of its query, those that it may have besides, the conditions that are judged, the headers that it knows, and
+    the elements of its XML."""
 
     operation: Operation
     words: Set[str] = frozenset()
     besides: Set[str] = frozenset()
     conditions: Set[str] = frozenset()
-    is_copy: bool = False
+    headers: Set[str] = frozenset()
+    elements: Mapping[str, Set[str]] = field(default_factory=dict)
+
+    @property
+    def is_copy(self) -> bool:
+        return "x-amz-copy-source" in self.headers
 
 
 class Endpoint:
@@ -136,10 +150,6 @@ class Endpoint:
                 raise S3Error("AccessDenied", "The bucket has another owner.")
         if asked.query.get("versionId", "null") != "null":
             raise S3Error("NotImplemented", "There are no versions here.")
-        if asked.method not in READS:
-            for name in asked.headers:
-                if name.startswith("x-amz-") and name not in OF_ANY_CHANGE and not name.startswith(PREFIXES_OF_ANY_CHANGE):
-                    raise S3Error("NotImplemented", f"The header {name} is not taken here.")
 
     def operation_of(self, asked: Asked) -> Operation:
         if not asked.bucket:
@@ -157,19 +167,22 @@ class Endpoint:
         upload, part = {"uploadId"}, {"partNumber"}
         if not is_of_object:
             of_buckets = {
-                "PUT": [Change(self.buckets.create_bucket)],
+                "PUT": [Change(self.buckets.create_bucket, headers={"x-amz-object-ownership"}, elements=OF_BUCKETS)],
                 "DELETE": [Change(self.buckets.delete_bucket)],
-                "POST": [Change(self.objects.delete_objects, {"delete"})],
+                "POST": [Change(self.objects.delete_objects, {"delete"}, elements=OF_REMOVALS)],
             }
             return of_buckets.get(method, [])
         of_objects = {
             "PUT": [
-                Change(self.objects.put_object, conditions=CONDITIONS),
-                Change(self.copies.copy_object, conditions=CONDITIONS, is_copy=True),
-                Change(self.uploads.upload_part, upload, part),
-                Change(self.uploads.upload_part_copy, upload, part, is_copy=True),
+                Change(self.objects.put_object, conditions=CONDITIONS, headers={BY}),
+                Change(self.copies.copy_object, conditions=CONDITIONS, headers={*OF_A_COPY, "x-amz-metadata-directive", BY}),
+                Change(self.uploads.upload_part, upload, part, headers={BY}),
+                Change(self.uploads.upload_part_copy, upload, part, headers={*OF_A_COPY, "x-amz-copy-source-range"}),
             ],
-            "POST": [Change(self.uploads.create_multipart_upload, {"uploads"}), Change(self.uploads.complete_multipart_upload, upload, conditions=CONDITIONS)],
+            "POST": [
+                Change(self.uploads.create_multipart_upload, {"uploads"}, headers={BY, KIND}),
+                Change(self.uploads.complete_multipart_upload, upload, conditions=CONDITIONS, headers={"x-amz-mp-object-size", KIND}, elements=OF_PARTS),
+            ],
             "DELETE": [Change(self.objects.delete_object, besides={"versionId"}, conditions=CONDITIONS), Change(self.uploads.abort_multipart_upload, upload)],
         }
         return of_objects.get(method, [])
@@ -177,7 +190,7 @@ class Endpoint:
     def change_of(self, asked: Asked) -> Operation:
         """501 NotImplemented, 405 MethodNotAllowed."""
         words = {name for name in asked.query if name not in OF_ANY_URL and not name.startswith(signing.IN_QUERY)}
-        conditions = (CONDITIONS | NEVER_JUDGED) & asked.headers.keys()
+        conditions, headers = (CONDITIONS | NEVER_JUDGED) & asked.headers.keys(), {name for name in asked.headers if name.startswith("x-amz-") and not name.startswith("x-amz-meta-")}
         found = self.changes(asked.method, bool(asked.key))
         if not found:
             raise S3Error("MethodNotAllowed")
@@ -185,6 +198,9 @@ class Endpoint:
             if change.words <= words <= change.words | change.besides and change.is_copy == ("x-amz-copy-source" in asked.headers):
                 if conditions - change.conditions:
                     raise S3Error("NotImplemented", f"The header {min(conditions - change.conditions)} is not judged here.")
+                if unknown := headers - OF_ANY_CHANGE - change.headers:
+                    raise S3Error("NotImplemented", f"The header {min(unknown)} is not taken here.")
+                asked.elements = change.elements
                 return change.operation
         raise S3Error("NotImplemented", f"There is no {asked.method} with {'?' + '&'.join(sorted(words)) if words else 'these words'} here.")
 
@@ -212,7 +228,12 @@ class Endpoint:
 
     def read_of_object(self, asked: Asked) -> Operation:
         method, query = asked.method, asked.query
-        by_word: dict[str, Operation] = {"acl": self.objects.get_object_acl, "tagging": self.objects.get_object_tagging, "uploadId": self.uploads.list_parts}
+        by_word: dict[str, Operation] = {
+            "acl": self.objects.get_object_acl,
+            "attributes": self.objects.get_object_attributes,
+            "tagging": self.objects.get_object_tagging,
+            "uploadId": self.uploads.list_parts,
+        }
         for word, operation in by_word.items():
             if method == "GET" and word in query:
                 return operation

@@ -23,6 +23,7 @@ from gridfs_client.streams import Source
 from gridfs_client.ways import Ground
 from gridfs_client.writers import Writer
 
+from .checksums import Checksum
 from .errors import S3Error
 from .places import Part, Values, number_of, of_words, parts_of, to_words, upload_name
 from .reading import Reader
@@ -60,6 +61,9 @@ class Body(Protocol):
 
     def rewind(self) -> None:
         """Begins anew. An S3Error where some was read that can't be read again."""
+
+    def checksum(self, algorithm: str) -> Checksum | None:
+        """That of what was read until now, by this algorithm; without one the one that the content has already, if any."""
 
 
 class FewSearches(Placing):
@@ -322,8 +326,8 @@ class Store(Reader):
 
         return self.change(name, placed, lambda: words, is_the_same)
 
-    def put_part(self, name: str, number: int, body: Body, now: int) -> str:
-        """Adds a part, or puts another one in its place; its MD5. NoSuchUpload (404)."""
+    def put_part(self, name: str, number: int, body: Body, now: int, algorithm: str = "") -> str:
+        """Adds a part, or puts another one in its place; its MD5. Its checksum by this algorithm is kept, or the one that it came with. NoSuchUpload (404)."""
         bucket = self.bucket(name)
         body.rewind()
         values: Values = {}
@@ -332,6 +336,7 @@ class Store(Reader):
 
         def placed(_: Bucket, held: Held | None) -> Content:
             self.expect_own(found_upload(held))
+            body.checksum(algorithm)  # (which is computed from here on)
             source = Source(cast(IO[bytes], body))
             added: InSlots | None = None
             if source.size:
@@ -340,7 +345,7 @@ class Store(Reader):
                 source.expect_end()
             now_held = found_upload(bucket.held(name))
             parts = {part.number: (part, slots) for part, slots in self.uploaded(now_held)}
-            parts[number] = Part(number, body.digest(), added.size if added else 0, now), added
+            parts[number] = Part(number, body.digest(), added.size if added else 0, now, body.checksum(algorithm)), added
             values.update(values_beside(now_held))
             values["p"] = ",".join(parts[each][0].text() for each in sorted(parts))
             return joined([parts[each][1] for each in sorted(parts)])

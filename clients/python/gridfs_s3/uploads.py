@@ -8,13 +8,15 @@ from aiohttp import web
 from gridfs_client.buckets import Held
 from gridfs_client.errors import ClientError
 
-from .bodies import NO_CHECKSUMS, body_of
+from . import checksums
+from .bodies import body_of
+from .checksums import HEADER, Checksum
 from .copying import Copies, range_to_copy
 from .errors import S3Error, tell
 from .gateway import Operations
-from .markup import document, element, many
-from .objects import HELPERS, LONGEST_PUT, MANY, Objects, values_of
-from .places import KEYS, Object, name_of, of_words, parts_of, upload_name
+from .markup import Element, document, element, many
+from .objects import HELPERS, LONGEST_PUT, MANY, Objects, algorithm_wanted, values_of
+from .places import KEYS, Object, Part, name_of, of_words, parts_of, upload_name
 from .requests import Asked, answer, iso
 from .sessions import now_ms
 from .store import Body, Store
@@ -33,6 +35,49 @@ def part_number(asked: Asked) -> int:
     if not 1 <= number <= 10_000:
         raise S3Error("InvalidArgument", "A part's number is from 1 to 10,000.")
     return number
+
+
+def kind_wanted(asked: Asked, algorithm: str) -> str:
+    """The kind of checksum that an upload is to have. 400 InvalidRequest where this algorithm can't have that."""
+    usual = checksums.FULL if algorithm == "crc64nvme" else checksums.OF_PARTS
+    kind = asked.headers.get(f"{HEADER}type", usual).upper()
+    if not algorithm and f"{HEADER}type" in asked.headers:
+        raise S3Error("InvalidRequest", f"{HEADER}type is wanted with {HEADER}algorithm.")
+    if kind not in (checksums.FULL, checksums.OF_PARTS) or (algorithm == "crc64nvme" and kind != usual) or (algorithm.startswith("sha") and kind != usual):
+        raise S3Error("InvalidRequest", f"{algorithm.upper()} is not had as {kind}.")
+    return kind
+
+
+def whole_of(parts: list[Part], algorithm: str, kind: str) -> Checksum | None:
+    """The checksum of an object in these parts; None where not all of them have one."""
+    found = [(part.checksum, part.size) for part in parts if part.checksum and part.checksum.algorithm == algorithm]
+    if not algorithm or len(found) < len(parts) or (kind == checksums.FULL and algorithm not in checksums.CRCS):
+        return None
+    return checksums.joined(found) if kind == checksums.FULL else checksums.of_parts([each for each, _ in found])
+
+
+def is_part(part: Part, told: Element) -> bool:
+    """Whether a part is the one that a completion means, by all that it says of it."""
+    sums = {each.name: each.text.strip() for each in told.inner if each.name.startswith("Checksum")}
+    return part.md5 == (told.told("ETag") or "").strip('"') and sums.items() <= ({part.checksum.element: part.checksum.value} if part.checksum else {}).items()
+
+
+def judged(asked: Asked, given: dict[str, str], named: str, parts: list[Part]) -> Checksum | None:
+    """The checksum of a whole object in these parts, which is compared with the one that is given; None where it is not known. 400 BadDigest, InvalidRequest."""
+    begun_by, _, kind = named.partition(".")
+    algorithm, value = next(iter(given.items()), (begun_by, ""))
+    kind = kind or (checksums.OF_PARTS if "-" in value else checksums.FULL)
+    told_kind = asked.headers.get(f"{HEADER}type", kind).upper()
+    if len(given) > 1 or (named and (algorithm, told_kind) != (begun_by, kind)):
+        raise S3Error("InvalidRequest", f"The upload was begun for a checksum by {begun_by.upper()}, {kind}." if named else "One checksum of the whole is judged.")
+    if value and algorithm.startswith("sha") and kind == checksums.FULL:
+        raise S3Error("InvalidRequest", f"{algorithm.upper()} of a whole object in parts can't be known.")
+    whole = whole_of(parts, algorithm, kind)
+    if value and not whole:
+        raise S3Error("InvalidRequest", f"Not all parts came with a checksum by {algorithm.upper()}, so that of the whole can't be judged.")
+    if value and whole and value not in (whole.told, whole.value):
+        raise S3Error("BadDigest", f"The parts have another {HEADER}{algorithm} together.")
+    return whole
 
 
 class Uploads(Operations):
@@ -57,9 +102,14 @@ class Uploads(Operations):
         """200. 400 KeyTooLongError, MetadataTooLarge; 404 NoSuchBucket; 507 InsufficientStorage."""
         await self.gateway.need_bucket(asked.bucket)
         name, values = name_of(asked.bucket, asked.key), {**values_of(asked), "k": asked.key, "i": str(now_ms())}
+        algorithm, headers = algorithm_wanted(asked), dict[str, str]()
+        kind = kind_wanted(asked, algorithm)
+        if algorithm:
+            values["a"] = f"{algorithm}.{kind}"
+            headers = {f"{HEADER}algorithm": algorithm.upper(), f"{HEADER}type": kind}
         upload = await self.gateway.change(name, lambda store: store.begin_upload(asked.bucket, name, values))
         inner = [element("Bucket", asked.bucket), element("Key", asked.key), element("UploadId", upload)]
-        return answer(document("InitiateMultipartUploadResult", *inner))
+        return answer(document("InitiateMultipartUploadResult", *inner), headers=headers)
 
     async def upload_part(self, asked: Asked) -> web.Response:
         """200; a part that is there already is replaced. The errors of PutObject for the body; 400 InvalidArgument; 404 NoSuchBucket, NoSuchUpload."""
@@ -70,7 +120,7 @@ class Uploads(Operations):
         put = PutPart(asked, self.name_of(asked), number)
         async with self.objects.source_of(asked, body) as source:
             md5 = await self.gateway.change(put.name, lambda store: put(store, source), HELPERS if body.told_size >= MANY else 0, session)
-        return answer(headers={"ETag": f'"{md5}"'})
+        return answer(headers={"ETag": f'"{md5}"', **{HEADER + each.algorithm: each.value for each in put.checksums}})
 
     async def upload_part_copy(self, asked: Asked) -> web.Response:
         """200. 400 InvalidArgument; 404 NoSuchBucket, NoSuchKey, NoSuchUpload; 412 PreconditionFailed; 416 InvalidRange."""
@@ -80,24 +130,23 @@ class Uploads(Operations):
         md5 = await self.copies.copied(
             asked, lambda store, source, _: put(store, source), lambda found: range_to_copy(text, found.size), put.name, session
         )
-        return answer(document("CopyPartResult", element("LastModified", iso(now_ms())), element("ETag", f'"{md5}"')))
+        inner = [element(each.element, each.value) for each in put.checksums]
+        return answer(document("CopyPartResult", element("LastModified", iso(now_ms())), element("ETag", f'"{md5}"'), *inner))
 
     async def complete_multipart_upload(self, asked: Asked) -> web.Response:
-        """200, also where it is asked again. 400 InvalidPart, InvalidPartOrder, InvalidRequest (of another size than was told), MalformedXML; 404 NoSuchBucket,
-        NoSuchUpload; 412 PreconditionFailed; 501 NotImplemented for a checksum of the whole; 507 InsufficientStorage. The object is there with all parts at
-        once, or is as it was."""
+        """200, also where it is asked again. 400 BadDigest (another checksum of the whole), InvalidPart, InvalidPartOrder, InvalidRequest (of another size than was
+        told, or a checksum that can't be judged), MalformedXML; 404 NoSuchBucket, NoSuchUpload; 412 PreconditionFailed; 507 InsufficientStorage. The object is
+        there with all parts at once, or is as it was."""
         await self.gateway.need_bucket(asked.bucket)
-        if given := [name for name in asked.headers if name.startswith("x-amz-checksum-") and name not in NO_CHECKSUMS]:
-            raise S3Error("NotImplemented", f"{given[0]} of a whole object in parts is not checked here.")
+        given = checksums.given(asked.headers)
         size = asked.headers.get("x-amz-mp-object-size")
         if size is not None and not re.fullmatch(r"[0-9]{1,19}", size):
             raise S3Error("InvalidArgument", "x-amz-mp-object-size is no number.")
         session = self.session_of(asked)
-        parts = (await self.gateway.document(asked, "CompleteMultipartUpload")).all("Part")
-        wanted = [(each.told("PartNumber") or "", (each.told("ETag") or "").strip('"')) for each in parts]
-        if not wanted or not all(re.fullmatch(r"[0-9]{1,5}", number) for number, _ in wanted):
+        listed = (await self.gateway.document(asked, "CompleteMultipartUpload", is_of_content=False)).all("Part")
+        if not listed or not all(re.fullmatch(r"[0-9]{1,5}", each.told("PartNumber") or "") for each in listed):
             raise S3Error("MalformedXML")
-        numbers = [int(number) for number, _ in wanted]
+        numbers = [int(each.told("PartNumber") or "") for each in listed]
         if any(one >= two for one, two in zip(numbers, numbers[1:])):
             raise S3Error("InvalidPartOrder")
         name, upload, place = name_of(asked.bucket, asked.key), asked.query["uploadId"], self.name_of(asked)
@@ -113,12 +162,15 @@ class Uploads(Operations):
                 raise
             expect_key(asked, held)
             found = {part.number: (part, slots) for part, slots in store.uploaded(held)}
-            for number, (_, etag) in zip(numbers, wanted):
-                if number not in found or found[number][0].md5 != etag:
+            for number, told in zip(numbers, listed):
+                if number not in found or not is_part(found[number][0], told):
                     raise S3Error("InvalidPart", PartNumber=str(number))
             if size is not None and int(size) != sum(found[number][0].size for number in numbers):
                 raise S3Error("InvalidRequest", "The parts are not as long together as x-amz-mp-object-size says.")
-            values = {each: value for each, value in of_words(held.words).items() if each not in ("p", "k", "i", "t")}
+            words = of_words(held.words)
+            values = {each: value for each, value in words.items() if each not in ("a", "p", "k", "i", "t")}
+            if whole := judged(asked, given, words.get("a", ""), [found[number][0] for number in numbers]):
+                values["s"] = whole.text()
             if name.startswith(KEYS):
                 values["k"] = asked.key
             md5 = hashlib.md5(b"".join(bytes.fromhex(found[number][0].md5) for number in numbers)).hexdigest()
@@ -129,7 +181,8 @@ class Uploads(Operations):
         if self.grids.map:
             await self.remove(place)
         inner = [element("Location", f"/{asked.bucket}/{asked.key}"), element("Bucket", asked.bucket), element("Key", asked.key)]
-        return answer(document("CompleteMultipartUploadResult", *inner, element("ETag", f'"{Object(asked.key, held).etag}"')))
+        done = Object(asked.key, held)
+        return answer(document("CompleteMultipartUploadResult", *inner, element("ETag", f'"{done.etag}"'), *(done.checksum.elements() if done.checksum else [])))
 
     async def remove(self, name: str) -> None:
         """Has an upload go whose object is there. (Where that fails it is told to whoever runs the gateway, since the completion was done.)"""
@@ -157,7 +210,8 @@ class Uploads(Operations):
         name = self.name_of(asked)
         held = await self.gateway.look(name, lambda store: store.upload(name))
         expect_key(asked, held)
-        parts = [part for part in parts_of(of_words(held.words)) if part.number > after]
+        words = of_words(held.words)
+        parts = [part for part in parts_of(words) if part.number > after]
         rows = [
             many(
                 "Part",
@@ -165,6 +219,7 @@ class Uploads(Operations):
                 element("LastModified", iso(part.time)),
                 element("ETag", f'"{part.md5}"'),
                 element("Size", part.size),
+                element(part.checksum.element, part.checksum.value) if part.checksum else None,
             )
             for part in parts[:most]
         ]
@@ -180,7 +235,9 @@ class Uploads(Operations):
             element("MaxParts", most),
             element("IsTruncated", "true" if len(parts) > most > 0 else "false"),
         ]
-        return answer(document("ListPartsResult", *head, *rows))
+        algorithm, _, kind = words.get("a", "").partition(".")
+        tail = [element("ChecksumAlgorithm", algorithm.upper()), element("ChecksumType", kind)] if algorithm else []
+        return answer(document("ListPartsResult", *head, *rows, *tail))
 
 
 class PutPart:
@@ -188,8 +245,13 @@ class PutPart:
 
     def __init__(self, asked: Asked, name: str, number: int):
         self.asked, self.name, self.number = asked, name, number
+        self.checksums: list[Checksum] = []
 
     def __call__(self, store: Store, source: Body) -> str:
         """The part's MD5."""
-        expect_key(self.asked, store.upload(self.name))
-        return store.put_part(self.name, self.number, source, now_ms())
+        held = store.upload(self.name)
+        expect_key(self.asked, held)
+        algorithm = of_words(held.words).get("a", "").partition(".")[0]
+        told = store.put_part(self.name, self.number, source, now_ms(), algorithm)
+        self.checksums = [each for each in (source.checksum(algorithm),) if each]
+        return told
