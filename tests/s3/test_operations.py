@@ -14,7 +14,8 @@ import unittest
 import urllib.request
 import zlib
 from concurrent.futures import ThreadPoolExecutor
-from urllib.parse import urlsplit
+from urllib.parse import urlencode, urlsplit
+from xml.etree import ElementTree
 
 import boto3
 import crcmod.predefined
@@ -110,6 +111,28 @@ class Buckets(Case):
         self.fails("NoSuchBucket", self.s3.delete_bucket, Bucket="no-such-bucket")
         self.put("a")
         self.fails("BucketNotEmpty", self.s3.delete_bucket, Bucket=self.bucket)
+
+    def test_some_buckets(self):
+        """By their prefix, and so many at a time."""
+        names = [f"{self.bucket}-{letter}" for letter in "abc"]
+        for name in names:
+            self.s3.create_bucket(Bucket=name)
+        found, words = [], {"prefix": f"{self.bucket}-", "max-buckets": "2"}
+        while words:
+            status, told, _ = Requests.ask(self, "GET", "/?" + urlencode(words))
+            self.assertEqual(status, 200, told)
+            tree = ElementTree.fromstring(told)
+            text = lambda path: [each.text for each in tree.iterfind("/".join(f"{{*}}{name}" for name in path.split("/")))]
+            found.append(text("Buckets/Bucket/Name"))
+            self.assertEqual(text("Prefix"), [f"{self.bucket}-"])
+            token = text("ContinuationToken")
+            words = {**words, "continuation-token": token[0]} if token else None
+        self.assertEqual(found, [names[:2], names[2:]])
+        for query, code in (("max-buckets=0", "InvalidArgument"), ("continuation-token=%C3%BC", "InvalidArgument")):
+            self.assertIn(f"<Code>{code}<".encode(), Requests.ask(self, "GET", f"/?{query}")[1])
+        self.assertNotIn(names[0].encode(), Requests.ask(self, "GET", "/?bucket-region=elsewhere")[1])
+        for name in names:
+            self.s3.delete_bucket(Bucket=name)
 
     def test_what_is_not_done(self):
         for call, words in [
@@ -609,6 +632,38 @@ class Requests(Case):
         self.assertEqual(self.told_with("none"), {})
         for headers in ({"x-amz-checksum-algorithm": "SHA1", "x-amz-checksum-type": "FULL_OBJECT"}, {"x-amz-checksum-algorithm": "CRC64NVME", "x-amz-checksum-type": "COMPOSITE"}, {"x-amz-checksum-type": "COMPOSITE"}):
             self.assertEqual(self.code(self.ask("POST", f"/{self.bucket}/none?uploads", b"", headers)), "InvalidRequest")
+
+    def test_elements_in_their_order(self):
+        """That of S3's schema, which some clients check."""
+        for key in ("order/a", "order/b/c", "order/b/d"):
+            self.put(key)
+        self.s3.create_multipart_upload(Bucket=self.bucket, Key="order/begun")
+        of_object, owner = ["Key", "LastModified", "ETag", "Size"], ["Owner", "ID", "DisplayName"]
+        row, group = ["Contents", *of_object, "StorageClass"], ["CommonPrefixes", "Prefix"]
+        head, tail = ["Name", "Prefix"], ["MaxKeys", "Delimiter", "EncodingType", "IsTruncated"]
+        query = "prefix=order%2F&delimiter=%2F&encoding-type=url&max-keys=1"
+        for path, wanted in [
+            (f"?{query}", ["ListBucketResult", *head, "Marker", "NextMarker", *tail, *row[:-1], *owner, "StorageClass"]),
+            (f"?{query}&marker=order%2Fa", ["ListBucketResult", *head, "Marker", *tail, *group]),
+            (f"?list-type=2&{query}&start-after=a", ["ListBucketResult", *head, "NextContinuationToken", "StartAfter", "KeyCount", *tail, *row]),
+            (f"?versions&{query}", ["ListVersionsResult", *head, "KeyMarker", "VersionIdMarker", "NextKeyMarker", "NextVersionIdMarker", *tail, "Version", "Key", "VersionId", "IsLatest", *of_object[1:], *owner, "StorageClass"]),
+            ("?uploads&prefix=order%2F&delimiter=%2F&encoding-type=url", ["ListMultipartUploadsResult", "Bucket", "KeyMarker", "UploadIdMarker", "Delimiter", "Prefix", "MaxUploads", "EncodingType", "IsTruncated",
+                                                                      "Upload", "Key", "UploadId", "Initiator", *owner[1:], *owner, "StorageClass", "Initiated"]),
+        ]:  # fmt: skip
+            status, told, _ = self.ask("GET", f"/{self.bucket}{path}")
+            self.assertEqual((status, [each.tag.rpartition("}")[2] for each in ElementTree.fromstring(told).iter()]), (200, wanted), path)
+
+    def test_what_browsers_ask(self):
+        """Who sign nothing: a form, and leave to ask from another page."""
+        form, origin = {"Content-Type": "multipart/form-data; boundary=x"}, {"Origin": "http://a", "Access-Control-Request-Method": "PUT"}
+        self.assertEqual(self.code(self.ask("POST", f"/{self.bucket}", b"--x--", form, sign=False)), "NotImplemented")
+        self.assertEqual(self.code(self.ask("OPTIONS", f"/{self.bucket}/a", b"", origin, sign=False)), "AccessForbidden")
+        self.assertEqual(self.code(self.ask("POST", f"/{self.bucket}", b"x", sign=False)), "AccessDenied")
+
+    def test_faults_of_a_head(self):
+        """They have no body, and the kind that one would have."""
+        told = self.fails("404", self.s3.head_object, Bucket=self.bucket, Key="no-such-key")["ResponseMetadata"]
+        self.assertEqual((told["HTTPHeaders"]["content-type"], told["HTTPHeaders"].get("content-length", "0")), ("application/xml", "0"))
 
     def test_xml_that_is_none(self):
         bomb = b'<!DOCTYPE x [<!ENTITY a "aaaa">]><Delete><Object><Key>&a;</Key></Object></Delete>'

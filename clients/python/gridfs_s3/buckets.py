@@ -12,10 +12,11 @@ from .errors import S3Error
 from .gateway import Operations
 from .markup import document, element, escape, many
 from .places import BUCKETS, KEYS, UPLOADS, check_bucket, number_of, of_words, upload_of
-from .requests import Asked, answer, iso
+from .requests import Asked, answer, iso, place_of, token_of
 from .store import Store
 
 
+MOST_BUCKETS = 10_000  # in one answer
 NEVER_GIVEN = {
     "cors": "NoSuchCORSConfiguration", "encryption": "ServerSideEncryptionConfigurationNotFoundError", "lifecycle": "NoSuchLifecycleConfiguration",
     "object-lock": "ObjectLockConfigurationNotFoundError", "ownershipControls": "OwnershipControlsNotFoundError", "policy": "NoSuchBucketPolicy",
@@ -26,14 +27,21 @@ NEVER_GIVEN = {
 
 class Buckets(Operations):
     async def list_buckets(self, asked: Asked) -> web.Response:
-        """200: those that the access key sees."""
-        found = await self.gateway.all(lambda every: [held for held in every if held.name.startswith(BUCKETS)])
-        rows = [
-            many("Bucket", element("Name", held.name[len(BUCKETS) :]), element("CreationDate", iso(number_of(of_words(held.words), "t"))))
-            for held in sorted(found, key=lambda held: held.name)
-            if asked.signed.key.sees(held.name[len(BUCKETS) :])
+        """200: those that the access key sees, of a prefix and of this region, so many at a time. 400 InvalidArgument."""
+        query, most = asked.query, asked.number("max-buckets", MOST_BUCKETS, MOST_BUCKETS)
+        if not most:
+            raise S3Error("InvalidArgument", "max-buckets is at least 1.")
+        token, prefix = query.get("continuation-token"), query.get("prefix", "")
+        after = place_of(token) if token else ""
+        found = await self.gateway.all(lambda every: {held.name[len(BUCKETS) :]: held for held in every if held.name.startswith(BUCKETS)})
+        names = sorted(name for name in found if name.startswith(prefix) and name > after and asked.signed.key.sees(name))
+        names = names if query.get("bucket-region", self.gateway.region) == self.gateway.region else []
+        rows = [many("Bucket", element("Name", name), element("CreationDate", iso(number_of(of_words(found[name].words), "t")))) for name in names[:most]]
+        tail = [
+            element("ContinuationToken", token_of(names[most - 1])) if len(names) > most else None,
+            element("Prefix", prefix) if "prefix" in query else None,
         ]
-        return answer(document("ListAllMyBucketsResult", self.gateway.owner(), many("Buckets", *rows)))
+        return answer(document("ListAllMyBucketsResult", self.gateway.owner(), many("Buckets", *rows), *tail))
 
     async def create_bucket(self, asked: Asked) -> web.Response:
         """200. 409 BucketAlreadyOwnedByYou; 400 InvalidBucketName, InvalidArgument (another region), MalformedXML."""

@@ -8,6 +8,7 @@ from gridfs_client.local import visible
 
 ERRORS = {
     "AccessDenied": (403, "Access is denied."),
+    "AccessForbidden": (403, "Access is forbidden."),
     "AuthorizationHeaderMalformed": (400, "The header Authorization is malformed."),
     "AuthorizationQueryParametersError": (400, "The parameters of the signed URL are malformed."),
     "BadDigest": (400, "The content has another MD5 or checksum than the request says."),

@@ -35,6 +35,12 @@ http {{
         "~\\|(?<user>[a-z]{{1,16}})(\\.[A-Za-z0-9_-]{{1,40}})?$" $user;
         default "";
     }}
+    # who signs no request is a browser with a form, or one that asks for leave
+    map "$request_method $http_origin $content_type" $by_browser {{
+        "~^OPTIONS ." cors;
+        "~*^POST .*multipart/form-data" form;
+        default "";
+    }}
     # and of its gateways any, or the one that has the session of an upload
     map "$tenant:$arg_uploadId" $gateway {{
         default "";
@@ -46,6 +52,8 @@ http {{
         error_page 400 414 494 = @malformed;
         error_page 401 = @who;
         error_page 403 = @nobody;
+        error_page 402 = @cors;
+        error_page 501 = @form;
         error_page 502 504 = @away;
         proxy_http_version 1.1;
         proxy_set_header Host $http_host;
@@ -65,6 +73,9 @@ http {{
         proxy_read_timeout 600s;
         proxy_send_timeout 600s;
         location / {{
+            set $refused "$gateway $by_browser";
+            if ($refused = " form") {{ return 501; }}
+            if ($refused = " cors") {{ return 402; }}
             if ($gateway = "") {{ return 403; }}
             proxy_pass http://$gateway;
         }}
@@ -83,6 +94,14 @@ http {{
         location @nobody {{
             default_type application/xml;
             return 403 '<?xml version="1.0" encoding="UTF-8"?>\\n<Error><Code>AccessDenied</Code><Message>No tenant here has this access key.</Message></Error>';
+        }}
+        location @form {{
+            default_type application/xml;
+            return 501 '<?xml version="1.0" encoding="UTF-8"?>\\n<Error><Code>NotImplemented</Code><Message>Forms are not taken here: put by a signed URL.</Message></Error>';
+        }}
+        location @cors {{
+            default_type application/xml;
+            return 403 '<?xml version="1.0" encoding="UTF-8"?>\\n<Error><Code>AccessForbidden</Code><Message>CORS is not enabled here.</Message></Error>';
         }}
         location @away {{
             default_type application/xml;

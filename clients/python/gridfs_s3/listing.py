@@ -1,7 +1,6 @@
 """Listings of objects, in both versions, and of uploads."""
 
-import base64
-from collections.abc import Iterable
+from collections.abc import Callable, Iterable
 from urllib.parse import quote
 
 from aiohttp import web
@@ -12,7 +11,7 @@ from .errors import S3Error
 from .gateway import Operations
 from .markup import document, element, many
 from .places import UPLOADS, Object, number_of, object_of, of_words, upload_of
-from .requests import Asked, answer, iso
+from .requests import Asked, answer, iso, place_of, token_of
 
 
 def coding_of(asked: Asked) -> str | None:
@@ -68,31 +67,30 @@ class Listings(Operations):
     async def list_objects(self, asked: Asked) -> web.Response:
         """200. 400 InvalidArgument, 404 NoSuchBucket."""
         after = asked.query.get("marker", "")
-        cut, head, tail = await self.listing(asked, after, is_owned=True)
         coding = coding_of(asked)
-        head += [element("Marker", encoded(after, coding)), element("NextMarker", encoded(cut.last, coding)) if cut.is_cut else ""]
-        return answer(document("ListBucketResult", *head, *tail))
+
+        def marks(cut: Cut) -> list[str]:
+            return [element("Marker", encoded(after, coding)), element("NextMarker", encoded(cut.last, coding)) if cut.is_cut else ""]
+
+        return answer(document("ListBucketResult", *await self.listing(asked, after, True, marks)))
 
     async def list_objects_v2(self, asked: Asked) -> web.Response:
         """200. 400 InvalidArgument, also for a token that is not of this endpoint; 404 NoSuchBucket."""
         query, token = asked.query, asked.query.get("continuation-token")
-        after = query.get("start-after", "")
-        if token:
-            try:
-                after = base64.b64decode(token, b"-_", validate=True).decode()
-            except ValueError:
-                raise S3Error("InvalidArgument", "The continuation token is not of this endpoint.") from None
-        cut, head, tail = await self.listing(asked, after, query.get("fetch-owner") == "true")
-        head += [
-            element("KeyCount", len(cut.rows) + len(cut.groups)),
-            element("ContinuationToken", token) if token else "",
-            element("StartAfter", encoded(query["start-after"], coding_of(asked))) if "start-after" in query else "",
-            element("NextContinuationToken", base64.urlsafe_b64encode(cut.last.encode()).decode()) if cut.is_cut else "",
-        ]
-        return answer(document("ListBucketResult", *head, *tail))
+        after = place_of(token) if token else query.get("start-after", "")
 
-    async def listing(self, asked: Asked, after: str, is_owned: bool) -> tuple[Cut, list[str], list[str]]:
-        """What both versions tell."""
+        def marks(cut: Cut) -> list[str]:
+            return [
+                element("NextContinuationToken", token_of(cut.last)) if cut.is_cut else "",
+                element("ContinuationToken", token) if token else "",
+                element("StartAfter", encoded(query["start-after"], coding_of(asked))) if "start-after" in query else "",
+                element("KeyCount", len(cut.rows) + len(cut.groups)),
+            ]
+
+        return answer(document("ListBucketResult", *await self.listing(asked, after, query.get("fetch-owner") == "true", marks)))
+
+    async def listing(self, asked: Asked, after: str, is_owned: bool, marks: Callable[[Cut], list[str]], is_versions: bool = False) -> list[str]:
+        """What all listings of objects tell, in the order of S3's schema: there marks say where this one begins, and the next one."""
         await self.gateway.need_bucket(asked.bucket)
         prefix, delimiter, most = asked.query.get("prefix", ""), asked.query.get("delimiter", ""), asked.number("max-keys", 1_000, 1_000)
         coding = coding_of(asked)
@@ -100,6 +98,7 @@ class Listings(Operations):
         head = [
             element("Name", asked.bucket),
             element("Prefix", encoded(prefix, coding)),
+            *marks(cut),
             element("MaxKeys", most),
             element("Delimiter", encoded(delimiter, coding)) if delimiter else "",
             element("EncodingType", coding) if coding else "",
@@ -107,29 +106,29 @@ class Listings(Operations):
         ]
         rows = [
             many(
-                "Contents",
+                "Version" if is_versions else "Contents",
                 element("Key", encoded(each.key, coding)),
+                "<VersionId>null</VersionId><IsLatest>true</IsLatest>" if is_versions else None,
                 element("LastModified", iso(each.time)),
                 element("ETag", f'"{each.etag}"'),
                 element("Size", each.size),
-                element("StorageClass", "STANDARD"),
                 self.gateway.owner() if is_owned else None,
+                element("StorageClass", "STANDARD"),
             )
             for each in cut.rows
         ]
-        return cut, head, rows + [many("CommonPrefixes", element("Prefix", encoded(group, coding))) for group in cut.groups]
+        return head + rows + [many("CommonPrefixes", element("Prefix", encoded(group, coding))) for group in cut.groups]
 
     async def list_object_versions(self, asked: Asked) -> web.Response:
         """200: each object is the only version of its key, `null`. 400 InvalidArgument, 404 NoSuchBucket."""
         after = asked.query.get("key-marker", "")
-        cut, head, tail = await self.listing(asked, after, is_owned=True)
         coding = coding_of(asked)
-        marks = [element("KeyMarker", encoded(after, coding)), element("VersionIdMarker", asked.query.get("version-id-marker", ""))]
-        if cut.is_cut:
-            marks += [element("NextKeyMarker", encoded(cut.last, coding)), element("NextVersionIdMarker", "null")]
-        version = "<Version><VersionId>null</VersionId><IsLatest>true</IsLatest>"
-        rows = [row.replace("<Contents>", version).replace("</Contents>", "</Version>") for row in tail]
-        return answer(document("ListVersionsResult", *head, *marks, *rows))
+
+        def marks(cut: Cut) -> list[str]:
+            found = [element("KeyMarker", encoded(after, coding)), element("VersionIdMarker", asked.query.get("version-id-marker", ""))]
+            return found + ([element("NextKeyMarker", encoded(cut.last, coding)), element("NextVersionIdMarker", "null")] if cut.is_cut else [])
+
+        return answer(document("ListVersionsResult", *await self.listing(asked, after, True, marks, is_versions=True)))
 
     async def list_multipart_uploads(self, asked: Asked) -> web.Response:
         """200. 400 InvalidArgument, 404 NoSuchBucket."""
@@ -162,10 +161,10 @@ class Listings(Operations):
             element("UploadIdMarker", query.get("upload-id-marker", "")),
             element("NextKeyMarker", encoded(last[0], coding)) if is_cut else None,
             element("NextUploadIdMarker", last[1]) if is_cut else None,
-            element("Prefix", encoded(prefix, coding)),
             element("Delimiter", encoded(delimiter, coding)) if delimiter else None,
-            element("EncodingType", coding) if coding else None,
+            element("Prefix", encoded(prefix, coding)),
             element("MaxUploads", most),
+            element("EncodingType", coding) if coding else None,
             element("IsTruncated", "true" if is_cut else "false"),
         ]
         common = [many("CommonPrefixes", element("Prefix", encoded(group, coding))) for group in groups]

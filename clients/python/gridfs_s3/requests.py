@@ -1,5 +1,6 @@
 """One request taken apart: its bucket, key and parameters, its conditions and range; and the forms of answers."""
 
+import base64
 import email.utils
 import re
 import secrets
@@ -65,6 +66,19 @@ class Asked:
 
     def all_headers(self) -> list[tuple[str, str]]:
         return [(name.lower(), value) for name, value in self.request.headers.items()]
+
+
+def token_of(place: str) -> str:
+    """What a client goes on by with a listing that was cut at this place."""
+    return base64.urlsafe_b64encode(place.encode()).decode()
+
+
+def place_of(token: str) -> str:
+    """400 InvalidArgument."""
+    try:
+        return base64.b64decode(token, b"-_", validate=True).decode()
+    except ValueError:
+        raise S3Error("InvalidArgument", "The continuation token is not of this endpoint.") from None
 
 
 def answer(body: bytes = b"", status: int = 200, headers: Mapping[str, str] = {}, kind: str = "application/xml") -> web.Response:

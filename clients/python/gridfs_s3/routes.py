@@ -126,6 +126,8 @@ class Endpoint:
         if asked.path == "/-" or asked.path.startswith("/-/"):
             asked.operation = "Page"
             return await self.page.show(asked)
+        if not self.is_signed(asked):
+            self.refuse_browsers(asked)
         asked.signed = signing.check(asked.method, asked.path, asked.raw_query, asked.all_headers(), self.gateway.keys)
         who_asks.set(f"url {asked.signed.signature}" if signing.IN_QUERY + "Signature" in asked.query else f"key {asked.signed.key.access}")
         self.expect_known(asked)
@@ -136,6 +138,13 @@ class Endpoint:
 
     def is_signed(self, asked: Asked) -> bool:
         return "authorization" in asked.headers or "X-Amz-Signature" in asked.query or "Signature" in asked.query
+
+    def refuse_browsers(self, asked: Asked) -> None:
+        """What only browsers ask, who sign no request: 501 NotImplemented, 403 AccessForbidden."""
+        if asked.method == "POST" and asked.headers.get("content-type", "").lower().startswith("multipart/form-data"):
+            raise S3Error("NotImplemented", "Forms are not taken here: put by a signed URL.")
+        if asked.method == "OPTIONS" and "origin" in asked.headers:
+            raise S3Error("AccessForbidden", "CORS is not enabled here.")
 
     def expect_known(self, asked: Asked) -> None:
         """501 NotImplemented, 400 InvalidArgument, 403 AccessDenied."""
