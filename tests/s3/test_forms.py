@@ -24,6 +24,7 @@ from botocore.credentials import Credentials
 from gridfs_client.contents import Inline
 from gridfs_client.core import Version
 from gridfs_client.buckets import Held
+from gridfs_client.errors import Damaged
 from gridfs_client.pages import check_words
 from gridfs_s3 import checksums, markup, setting_up, signing
 from gridfs_s3.bodies import Body
@@ -32,7 +33,7 @@ from gridfs_s3.errors import S3Error
 from gridfs_s3.front import instances_of, make_keys
 from gridfs_s3.keys import BadKeys, Key, parse_keys, read_keys
 from gridfs_s3.listing import Cut
-from gridfs_s3.places import Object, Part, check_bucket, name_of, object_of, of_words, parts_of, to_words
+from gridfs_s3.places import Object, Part, check_bucket, name_of, object_of, of_words, parts_of, to_words, words_of
 from gridfs_s3.requests import Asked, http_date, judge, range_of, range_wanted, seconds_of_date
 from gridfs_s3.sessions import Pool
 from gridfs_s3.shared import Turns
@@ -352,9 +353,24 @@ class Bodies(Case):
             self.assertEqual(checksums.of_text(text).text(), text)
         for text in ("", "crc32", "md5.AAAAAA==", "crc32.AAAAAA==-", "crc32.\u0661AAAAA==", "crc32.AAAAAA==\r\nA: b"):
             self.assertIsNone(checksums.of_text(text), text)
-        for one in (None, checksums.Checksum("sha1", "+/" * 13 + "+=")):
-            part = Part(3, "0" * 32, 9, 12, one)
-            self.assertEqual(parts_of(of_words(to_words({"p": f"{part.text()},{part.text()}"}))), [part, part])
+
+    def test_parts_among_words(self):
+        """Few letters for each, and those of uploads that were begun before."""
+        begun = 1_700_000_000_000
+        for values in ({"i": str(begun)}, {"i": str(begun), "a": "sha1.COMPOSITE"}, {"i": "x"}):
+            start = begun if values["i"] != "x" else 0
+            parts = [Part(number, hashlib.md5(b"%d" % number).hexdigest(), size, start + 5_000 * number, one) for number, size, one in (
+                (1, 0, None), (70, 1 << 40, checksums.Checksum("sha1", "+/" * 13 + "+=")), (10_000, 7, checksums.Checksum("crc64nvme", "/" * 11 + "=")),
+            )]  # fmt: skip
+            words = to_words({**values, "p": words_of(parts, values)})
+            self.assertEqual(parts_of(of_words(words)), parts)
+            self.assertNotIn("%", words)
+        self.assertLess(len(words_of([Part(900, "0" * 32, 5 << 20, begun + 400_000)], {"i": str(begun)})), 40)
+        old = Part(3, "0" * 32, 9, begun)
+        self.assertEqual(parts_of(of_words(to_words({"i": "1", "p": f"3.{'0' * 32}.9.{begun},3.{'0' * 32}.9.{begun}"}))), [old, old])
+        for text in ("3", "3.x.9.1", f"3.{'0' * 22}.9.1.A.B.c", f"3.{'0' * 22}.9.1.", f"٣.{'0' * 22}.9.1"):
+            with self.assertRaises(Damaged, msg=text):
+                parts_of({"p": text})
 
     def test_chunks_that_lie(self):
         good = b"5\r\nhello\r\n0\r\n\r\n"

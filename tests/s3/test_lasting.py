@@ -99,6 +99,27 @@ class Lasting(unittest.TestCase):
                     s3.upload_part(**upload, PartNumber=1, Body=b"part")
                     s3.abort_multipart_upload(**upload)
 
+    def test_parts_in_a_page(self):
+        """How many parts an upload may have in a page of 8 KiB, by clients that tell checksums; and what it is told then, while there is room for contents."""
+        with tempfile.TemporaryDirectory() as folder:
+            plan = os.path.join(folder, "plan")
+            with open(plan, "w") as out:
+                out.write("grid 1 1\nroom 100000\ntenant carol 20000 2 1000 1024\ngo\n" + "carol open 4 128\n" * 2 + "carol open 400 8\ncarol open 4 64\n")
+            with endpoint.stand_in(plan) as room, endpoint.gateways(room) as (found,):
+                s3, parts = found.client(), []
+                s3.create_bucket(Bucket="one")
+                upload = {"Bucket": "one", "Key": "key", "UploadId": s3.create_multipart_upload(Bucket="one", Key="key", ChecksumAlgorithm="CRC32")["UploadId"]}
+                with self.assertRaises(s3.exceptions.ClientError) as fault:
+                    for number in range(1, 200):
+                        told = s3.upload_part(**upload, PartNumber=number, Body=b"part", ChecksumAlgorithm="CRC32")
+                        parts.append({"PartNumber": number, "ETag": told["ETag"], "ChecksumCRC32": told["ChecksumCRC32"]})
+                error = fault.exception.response["Error"]
+                self.assertEqual(error["Code"], "InsufficientStorage")
+                self.assertIn(f"the list of this upload's parts is full with {len(parts)}", error["Message"])
+                self.assertGreater(len(parts), 66)
+                s3.complete_multipart_upload(**upload, MultipartUpload={"Parts": parts})
+                self.assertEqual(s3.get_object(Bucket="one", Key="key")["Body"].read(), b"part" * len(parts))
+
     def test_two_gateways_of_a_machine(self):
         """With the same sessions, and locks in folders of their own, as units have them: the second one is refused, or goes on without these sessions. Once the
         first one is killed the second one can have them."""

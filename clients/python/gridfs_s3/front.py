@@ -177,14 +177,14 @@ def nginx_conf(folder: Path, gateways: Mapping[str, Sequence[Instance]], sockets
 def s3cmd_config(access: str, secret: str, host: str) -> str:
     return (
         f"[default]\naccess_key = {access}\nsecret_key = {secret}\nhost_base = {host}\nhost_bucket = {host}\nuse_https = False\n"
-        "signature_v2 = False\nmultipart_chunk_size_mb = 8\n"
+        "signature_v2 = False\nmultipart_chunk_size_mb = 32\n"
     )
 
 
 def rclone_config(access: str, secret: str, host: str) -> str:
     return (
         f"[grid]\ntype = s3\nprovider = Other\naccess_key_id = {access}\nsecret_access_key = {secret}\nendpoint = http://{host}\n"
-        "acl = private\nregion = us-east-1\nforce_path_style = true\n"
+        "acl = private\nregion = us-east-1\nforce_path_style = true\nchunk_size = 32Mi\n"
     )
 
 

@@ -14,16 +14,20 @@ quoted as in a URL:
     n    how many parts it was uploaded in                         x-NAME   metadata of the client
     k    its key, where the name does not tell it                  u    the upload by which it came
     s    its checksum, as `crc32.BASE64`, of an upload also -N     a    of an upload: the algorithm that was named, and its kind, as `crc32.FULL_OBJECT`
-    p    of an upload: NUMBER.MD5.SIZE.TIME of each part, with , between; and .ALGORITHM.BASE64URL, where a checksum of it is kept
+    i    of an upload: when it was begun
+    p    of an upload: NUMBER.MD5.SIZE.SECONDS of each part, with / between: MD5 is in base64url, SECONDS are since the upload was begun. Behind that
+         .CHECKSUM, where one is kept, in base64url, and its .ALGORITHM, where that is another one than was named. (Earlier uploads have NUMBER.MD5.SIZE.TIME,
+         with , between and MD5 in hexadecimal)
 """
 
 import re
+from collections.abc import Iterable
 from dataclasses import dataclass, field
 from functools import cached_property
 from urllib.parse import parse_qsl, quote
 
 from gridfs_client.buckets import Held
-from gridfs_client.contents import digest_in_hex, digest_of
+from gridfs_client.contents import digest_in_hex, digest_of, from_base64, to_base64
 from gridfs_client.errors import BadName, Damaged
 from gridfs_client.pages import check_name
 
@@ -31,11 +35,12 @@ from .checksums import Checksum, of_text
 from .errors import S3Error
 
 BUCKET = re.compile(r"(?!xn--)(?!.*\.\.)(?!\d+\.\d+\.\d+\.\d+$)[a-z0-9][a-z0-9.-]{1,61}[a-z0-9]", re.ASCII)
-PART = re.compile(r"([0-9]{1,5})\.([0-9a-f]{32})\.([0-9]{1,19})\.([0-9]{1,13})(?:\.([a-z0-9]+\.[A-Za-z0-9_-]+))?")
+PART = re.compile(r"([0-9]{1,5})\.([A-Za-z0-9_-]{22})\.([0-9]{1,19})\.([0-9]{1,9})(?:\.([A-Za-z0-9_-]+)(?:\.([a-z0-9]+))?)?")
+OLD_PART = re.compile(r"([0-9]{1,5})\.([0-9a-f]{32})\.([0-9]{1,19})\.([0-9]{1,13})")
 LONGEST_KEY, MOST_METADATA, MOST_KEPT = 1_024, 2_048, 8_192
 Values = dict[str, str]  # what stands beside a content, by its letters above
 BUCKETS, KEYS, UPLOADS = ".s3/bucket/", ".s3/key/", ".s3/up/"
-PLAIN = str.maketrans("+/", "-_")  # of base64
+PLAIN, FROM_PLAIN = str.maketrans("+/", "-_"), str.maketrans("-_", "+/")  # of base64
 
 
 def check_bucket(bucket: str) -> None:
@@ -86,11 +91,6 @@ class Part:
     time: int
     checksum: Checksum | None = None
 
-    def text(self) -> str:
-        text = f"{self.number}.{self.md5}.{self.size}.{self.time}"
-        # (letters that words don't quote)
-        return text + (f".{self.checksum.text().translate(PLAIN).rstrip('=')}" if self.checksum else "")
-
 
 # Words stand in lines of pages, which other clients of the tenant write too: what has no form must not hinder what is done with other names.
 
@@ -102,18 +102,37 @@ def number_of(values: Values, key: str) -> int:
 
 
 def parts_of(values: Values) -> list[Part]:
-    """Damaged where a word has no form."""
-    words = [word for word in values.get("p", "").split(",") if word]
-    found = [PART.fullmatch(word) for word in words]
+    """The parts of an upload. Damaged where a word has no form."""
+    words = [word for word in re.split("[,/]", values.get("p", "")) if word]
+    found = [PART.fullmatch(word) or OLD_PART.fullmatch(word) for word in words]
     if not all(found):
         raise Damaged("the words of an upload have no form")
-    return [Part(int(each[1]), each[2], int(each[3]), int(each[4]), of_plain(each[5])) for each in found if each]
+    return [part_of(each, values) for each in found if each]
 
 
-def of_plain(text: str | None) -> Checksum | None:
-    """A checksum as it stands in the words of a part."""
-    algorithm, _, value = (text or "").partition(".")
-    return of_text(f"{algorithm}.{value.replace('-', '+').replace('_', '/')}{'=' * (-len(value) % 4)}")
+def part_of(found: re.Match[str], values: Values) -> Part:
+    number, md5, size, time, *rest = found.groups()
+    if not rest:
+        return Part(int(number), md5, int(size), int(time))
+    checksum = rest[0] and of_text(f"{rest[1] or named_in(values)}.{rest[0].translate(FROM_PLAIN)}{'=' * (-len(rest[0]) % 4)}")
+    return Part(int(number), from_base64(md5).hex(), int(size), number_of(values, "i") + 1_000 * int(time), checksum or None)
+
+
+def words_of(parts: Iterable[Part], values: Values) -> str:
+    """These parts as the words of an upload have them: few letters for each, and none that words quote, since all of them stand in one line."""
+    words = []
+    for part in parts:
+        word = f"{part.number}.{to_base64(bytes.fromhex(part.md5))}.{part.size}.{max(0, part.time - number_of(values, 'i')) // 1_000}"
+        if part.checksum:
+            word += f".{part.checksum.value.rstrip('=').translate(PLAIN)}"
+            word += "" if part.checksum.algorithm == named_in(values) else f".{part.checksum.algorithm}"
+        words.append(word)
+    return "/".join(words)
+
+
+def named_in(values: Values) -> str:
+    """The algorithm that was named for the checksum of an upload; empty for none."""
+    return values.get("a", "").partition(".")[0]
 
 
 @dataclass(frozen=True)

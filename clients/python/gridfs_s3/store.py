@@ -25,7 +25,7 @@ from gridfs_client.writers import Writer
 
 from .checksums import Checksum
 from .errors import S3Error
-from .places import Part, Values, number_of, of_words, parts_of, to_words, upload_name
+from .places import Part, Values, number_of, of_words, parts_of, to_words, upload_name, words_of
 from .reading import Reader
 from .shared import Shared
 from .trips import Elsewhere
@@ -33,6 +33,7 @@ from .trips import Elsewhere
 Condition = Callable[[Held | None], None]  # judges what a name holds, right before it is changed
 AGAIN = 60.0  # seconds until a page that is full is swept again, and all pages of a session are searched for room
 MANY_AGAIN = 0.25  # seconds until a page is swept again that has many removals again
+MANY_PARTS = 30  # of an upload, from which on it is their list that finds no room in a page
 STAMP = "0" * 13  # as long as a time is
 
 
@@ -347,10 +348,16 @@ class Store(Reader):
             parts = {part.number: (part, slots) for part, slots in self.uploaded(now_held)}
             parts[number] = Part(number, body.digest(), added.size if added else 0, now, body.checksum(algorithm)), added
             values.update(values_beside(now_held))
-            values["p"] = ",".join(parts[each][0].text() for each in sorted(parts))
+            values["p"] = words_of((parts[each][0] for each in sorted(parts)), values)
             return joined([parts[each][1] for each in sorted(parts)])
 
-        self.change(name, placed, lambda: values)
+        try:
+            self.change(name, placed, lambda: values)
+        except NoLine:
+            count = len(parts_of(values))
+            if count < MANY_PARTS:
+                raise
+            raise NoLine(f"the list of this upload's parts is full with {count - 1:,}, since it stands in one page; longer parts are wanted") from None
         return body.digest()
 
     def uploaded(self, held: Held) -> list[tuple[Part, InSlots | None]]:

@@ -16,7 +16,7 @@ from .errors import S3Error, tell
 from .gateway import Operations
 from .markup import Element, document, element, many
 from .objects import HELPERS, LONGEST_PUT, MANY, Objects, algorithm_wanted, values_of
-from .places import KEYS, Object, Part, name_of, of_words, parts_of, upload_name
+from .places import KEYS, Object, Part, name_of, named_in, of_words, parts_of, upload_name
 from .requests import Asked, answer, iso
 from .sessions import now_ms
 from .store import Body, Store
@@ -251,7 +251,7 @@ class PutPart:
         """The part's MD5."""
         held = store.upload(self.name)
         expect_key(self.asked, held)
-        algorithm = of_words(held.words).get("a", "").partition(".")[0]
+        algorithm = named_in(of_words(held.words))
         told = store.put_part(self.name, self.number, source, now_ms(), algorithm)
         self.checksums = [each for each in (source.checksum(algorithm),) if each]
         return told
