@@ -8,25 +8,28 @@
 #include <stdlib.h>
 #include <string.h>
 
-enum { MEMBERS = 8, READ = 65536, WINDOW = 1 << 28, MOST_OPEN = 1000 };
+enum { MEMBERS = 8, READ = 65536, WINDOW = 1 << 28, MOST_OPEN = 1000, MOST_LONG = 330 };
 static const double AGAIN = 0.1;        /* seconds from one attempt at a connection, or at a request that failed, to the next */
 
 static struct connection {
     struct stream stream;
     nghttp2_session *http;
-    int member;
+    int member, open;           /* open: requests of which nobody waits for the answer */
     double next_try;
     bool is_wanted;
 } connections[TENANTS];
 static SSL_CTX *context;
 static struct { struct sockaddr_storage address; socklen_t length; } members[MEMBERS];
-static int members_many, flood_open;
+static int members_many;
+static const char LONG_KEY[] = "ann/long";
 
 /* A message of protobuf for Put or Range, after the five bytes that gRPC has before each. */
-struct message { size_t length, went; unsigned char bytes[32 + SIZE]; };
+enum { GRPC_HEAD = 5, KEY = 40, FIELD = 6 };     /* FIELD: bytes at most before those of a field */
+struct message { size_t length, went; unsigned char bytes[]; };
 
 static void add_field(struct message *it, int number, const void *bytes, size_t length) {
-    it->bytes[it->length++] = (unsigned char)(8 * number + 2), it->bytes[it->length++] = (unsigned char)length;       /* (below 128) */
+    it->bytes[it->length++] = (unsigned char)(8 * number + 2);
+    for (size_t left = length; it->bytes[it->length++] = (unsigned char)(left & 127) | (left > 127 ? 128 : 0), left > 127;) left >>= 7;
     memcpy(it->bytes + it->length, bytes, length), it->length += length;
 }
 
@@ -41,15 +44,13 @@ static ssize_t give(nghttp2_session *http, int32_t stream, uint8_t *to, size_t m
 
 #define HEADER(name, value) {(uint8_t *)(name), (uint8_t *)(value), strlen(name), strlen(value), NGHTTP2_NV_FLAG_NONE}
 
-static int32_t submit(struct connection *to, int tenant, int file, const unsigned char *content, struct client *client) {
-    char key[40];
-    snprintf(key, sizeof key, "%s/%d", tenants[tenant], file);
-    struct message *it = calloc(1, sizeof *it);
+static int32_t submit(struct connection *to, const char *key, const unsigned char *content, size_t size, struct client *client) {
+    struct message *it = calloc(1, sizeof *it + GRPC_HEAD + FIELD + KEY + FIELD + size);
     if (!it) return 0;
-    it->length = 5;
+    it->length = GRPC_HEAD;
     add_field(it, 1, key, strlen(key));
-    if (content) add_field(it, 2, content, SIZE);
-    it->bytes[4] = (unsigned char)(it->length - 5);
+    if (content) add_field(it, 2, content, size);
+    for (int i = 1; i < GRPC_HEAD; i++) it->bytes[i] = (unsigned char)((it->length - GRPC_HEAD) >> 8 * (GRPC_HEAD - 1 - i));
     const nghttp2_nv head[] = {HEADER(":method", "POST"), HEADER(":scheme", "https"), HEADER(":path", content ? "/etcdserverpb.KV/Put" : "/etcdserverpb.KV/Range"),
                                HEADER(":authority", "localhost"), HEADER("content-type", "application/grpc"), HEADER("te", "trailers")};
     const nghttp2_data_provider data = {.source.ptr = it, .read_callback = give};
@@ -65,8 +66,8 @@ static int header(nghttp2_session *http, const nghttp2_frame *frame, const uint8
 
 static int stream_closed(nghttp2_session *http, int32_t stream, uint32_t error, void *at) {
     struct client *it = nghttp2_session_get_stream_user_data(http, stream);
-    (void)error, (void)at;
-    if (!it) flood_open--;
+    (void)error;
+    if (!it) ((struct connection *)at)->open--, answers_many++;
     else if (it->stream == stream) {
         it->stream = 0;
         if (it->succeeded) done(it);
@@ -97,7 +98,7 @@ static void ready(struct stream *stream) {
 static void closed(struct stream *stream) {
     struct connection *it = (struct connection *)stream;
     it->member = (it->member + 1) % members_many, it->next_try = now() + AGAIN;
-    if (it == connections) flood_open = 0;
+    it->open = 0;
     for (int i = 0; i < clients_many; i++)
         if (&connections[clients[i].tenant] == it && clients[i].stream) clients[i].stream = 0, clients[i].again = it->next_try + AGAIN;
 }
@@ -153,16 +154,36 @@ bool engine_is_ready(void) {
 void engine_ask(struct client *client) {
     struct connection *it = &connections[client->tenant];
     if (client->stream || it->stream.state != OPEN) return;
+    char key[KEY];
     client->succeeded = false;
-    client->stream = submit(it, client->tenant, client->file, client->is_write ? client->content : NULL, client);
+    if (client->is_long) {
+        static const unsigned char content[LONG];
+        client->stream = submit(it, LONG_KEY, client->is_write ? content : NULL, LONG, client);
+        return;
+    }
+    snprintf(key, sizeof key, "%s/%d", tenants[client->tenant], client->file);
+    client->stream = submit(it, key, client->is_write ? client->content : NULL, SIZE, client);
+}
+
+/* Asks for a key more of which nobody waits for the answer. */
+static bool one_more(struct connection *it, const char *key, int most) {
+    if (it->stream.state != OPEN || it->open >= most || submit(it, key, NULL, 0, NULL) <= 0) return false;
+    it->open++;
+    return true;
 }
 
 bool engine_flood(void) {
     static int file;
-    struct connection *it = &connections[0];
-    if (it->stream.state != OPEN || flood_open >= MOST_OPEN || submit(it, 0, file = (file + 1) % FILES, NULL, NULL) <= 0) return false;
-    flood_open++;
-    return true;
+    char key[KEY];
+    snprintf(key, sizeof key, "%s/%d", tenants[0], file = (file + 1) % FILES);
+    return one_more(&connections[0], key, MOST_OPEN);
+}
+
+long engine_burst(void) {
+    long sent = 0;
+    for (struct connection *it = connections; it < connections + TENANTS; it++)
+        if (it->is_wanted) sent += one_more(it, LONG_KEY, MOST_LONG);
+    return sent;
 }
 
 void engine_turn(double time) {
@@ -176,5 +197,6 @@ void engine_turn(double time) {
             nghttp2_session_send(it->http);
             if (unwritten(&it->stream)) flush_stream(&it->stream);
         }
+        if (it->is_wanted && it->stream.paused != is_deaf) it->stream.paused = is_deaf, mind_stream(&it->stream);
     }
 }

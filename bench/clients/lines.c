@@ -23,9 +23,14 @@ int home_of(const struct client *it) { return (it->tenant * OF_A_TENANT + it->se
 size_t line_of(const struct client *it, char *line) {
     static const char digits[] = "0123456789abcdef";
     if (it->state == LEARNS) return (size_t)snprintf(line, LINE, "abandon %d %lu", it->session, it->number);
-    size_t length = (size_t)snprintf(line, LINE, "%s %d %lu 0 %d", it->is_write ? "write" : "read", it->session, it->number, it->file);
+    size_t length = (size_t)snprintf(line, LINE, "%s %d %lu %d %d", it->is_write ? "write" : "read", it->session, it->number, it->is_long, it->is_long ? 0 : it->file);
     if (!it->is_write) return length;
     line[length++] = ' ';
+    if (it->is_long) {
+        line[length++] = '=';
+        memset(line + length, 'x', LONG);
+        return length + LONG;
+    }
     for (int i = 0; i < SIZE; i++) line[length++] = digits[it->content[i] >> 4], line[length++] = digits[it->content[i] & 15];
     return length;
 }
@@ -36,9 +41,16 @@ size_t flood_line(char *line) {
     return (size_t)snprintf(line, LINE, "read %lu %lu 0 0", many % OF_A_TENANT + 1, many);
 }
 
+size_t burst_of(const struct client *it, char *lines) {
+    size_t length = line_of(it, lines);
+    lines[length++] = '\n';
+    for (int i = 1; i < BURST; i++) memcpy(lines + (size_t)i * length, lines, length);
+    return BURST * length;
+}
+
 /* A session's start: it asks under a number that is too high, is told the last one, gives that up, and reads once under the next. */
 static void go_on_starting(struct client *it, unsigned long last, bool has_ended) {
-    it->number = last, it->is_write = false, it->file = 0;
+    it->number = last, it->is_write = it->is_long = false, it->file = 0;
     if (has_ended || !last) it->state = TRIES, it->number++;
     engine_ask(it);
 }
@@ -50,7 +62,8 @@ static void hear_line(int tenant, const char *text, size_t length) {
     memcpy(head, text, length = length < sizeof head ? length : sizeof head - 1), head[length] = 0;
     bool is_done = sscanf(head, "done %11s %d %lu", kind, &session, &number) == 3, is_gone = sscanf(head, "gone %d %lu", &session, &number) == 2;
     if (!is_done && !is_gone && sscanf(head, "refused %11s %d %lu %lu", kind, &session, &number, &last) < 3) return;
-    struct client *it = &clients[tenant * OF_A_TENANT + session - 1];
+    answers_many += is_done;
+    struct client *it = &clients[(tenant - clients[0].tenant) * OF_A_TENANT + session - 1];
     if (session < 1 || session > OF_A_TENANT || it >= clients + clients_many || it->state == IS_FREE || it->number != number) return;
     bool is_old = !strcmp(kind, "old");
     if (it->state == LEARNS) go_on_starting(it, is_done || is_gone ? number : last, is_done || is_gone);

@@ -34,10 +34,7 @@ static void readable(struct stream *stream) {
         size_t held = it->held + (size_t)came;
         char *last = memrchr(it->part, '\n', held);
         size_t lines = last ? (size_t)(last + 1 - it->part) : 0;
-        if (held - lines > PART) {
-            close_stream(stream, "a line is too long");
-            return;
-        }
+        if (held - lines > PART) held = lines + PART;   /* (what is wanted of a line is at its head) */
         if (lines) hear(it->tenant, it->part, lines - 1);
         memmove(it->part, it->part + lines, it->held = held - lines);
     } while (stream->state == OPEN && stream->more);
@@ -91,7 +88,7 @@ bool engine_is_ready(void) { return all_free(); }
 
 void engine_ask(struct client *client) {
     struct stream *it = &links[client->tenant][home_of(client)].stream;
-    char line[LINE];
+    static char line[LINE + 1];
     size_t length = line_of(client, line);
     line[length++] = '\n';
     if (it->state == OPEN) write_later(it, line, length);
@@ -100,10 +97,19 @@ void engine_ask(struct client *client) {
 bool engine_flood(void) {
     static int node;
     struct stream *it = &links[0][node = (node + 1) % nodes_many].stream;
-    char line[LINE];
+    static char line[LINE + 1];
     size_t length = flood_line(line);
     line[length++] = '\n';
     return it->state == OPEN && unwritten(it) < MOST_WAITS && write_later(it, line, length);
+}
+
+long engine_burst(void) {
+    static char lines[LINE];
+    static int asked;           /* so many clients have asked */
+    if (asked == clients_many) return 0;
+    const struct client *client = &clients[asked++];
+    struct stream *it = &links[client->tenant][home_of(client)].stream;
+    return it->state == OPEN && write_later(it, lines, burst_of(client, lines)) ? BURST : 0;
 }
 
 void engine_turn(double time) {
@@ -115,5 +121,6 @@ void engine_turn(double time) {
             it->next_try = time + AGAIN;
             dial(&it->stream, (struct sockaddr *)&places[it->node].address, places[it->node].length, contexts[it->tenant], name);
         } else if (it->stream.state == OPEN && unwritten(&it->stream)) flush_stream(&it->stream);
+        if (it->stream.paused != is_deaf) it->stream.paused = is_deaf, mind_stream(&it->stream);
     }
 }

@@ -9,11 +9,13 @@
 #include <sys/resource.h>
 
 static const char usage[] =
-    "usage: load-ENGINE WHERE FOLDER CLIENTS SECONDS [--flood]\n"
+    "usage: load-ENGINE WHERE FOLDER CLIENTS SECONDS [--from-bob | --flood | --burst | --burst-unread]\n"
     "  So many clients, up to 16 of each of the tenants ann, bob, cid and dan, ask for operations on 16 files of 64 bytes, half of them writes.\n"
+    "  With --from-bob the first of them are bob's.\n"
     "  A line of JSON tells how many were done, and the milliseconds that each took. `gap` is the longest time in which nobody was answered,\n"
     "  `longest` the longest that one client waited for the end of its operation, also where that is not known (`lost`).\n"
-    "  With --flood ann's requests are sent as fast as they are taken, and no answer is waited for.\n"
+    "  With --flood ann's requests are sent as fast as they are taken, and no answer is waited for. With --burst each client reads a file of 1 MiB,\n"
+    "  and asks for that thousands of times more, at once; what comes is read, or with --burst-unread nothing. A line is told once it begins.\n"
     "  load-links: WHERE is the file of hosts, FOLDER has the certificates. load-mqtt: HOST:PORT, the broker's folder.\n"
     "  load-etcd: HOST:PORT,.., the folder of ca.crt.\n";
 
@@ -21,6 +23,8 @@ static const double SOON = 0.02, PATIENCE = 20, FIRST_WAIT = 0.5, LONGEST_WAIT =
 const char *const tenants[TENANTS] = {"ann", "bob", "cid", "dan"};
 struct client clients[CLIENTS];
 int clients_many;
+bool is_deaf;
+long answers_many;
 static double until, last_answer, longest_gap, longest_wait;
 static struct { double *took; size_t many, room; } kinds[2];    /* reads, writes */
 static long lost_many;
@@ -41,7 +45,7 @@ static void begin(struct client *it) {
     double time = now();
     it->state = IS_FREE;
     if (time >= until) return;
-    it->state = ASKS, it->number++, it->file = (int)(drand48() * FILES), it->is_write = drand48() < 0.5;
+    it->state = ASKS, it->number++, it->file = (int)(drand48() * FILES), it->is_write = drand48() < 0.5, it->is_long = false;
     for (int i = 0; i < SIZE && it->is_write; i++) it->content[i] = (unsigned char)lrand48();
     it->begun = time, it->wait = FIRST_WAIT;
     ask(it, time);
@@ -102,6 +106,29 @@ static int flood(double seconds) {
     return 0;
 }
 
+/* Has these clients do one operation each on the long file. */
+static void use_long(struct client *first, struct client *end, bool is_write) {
+    double time = now();
+    for (struct client *it = first; it < end; it++) {
+        it->state = ASKS, it->number++, it->is_write = is_write, it->is_long = true, it->begun = time, it->wait = PATIENCE;
+        ask(it, time);
+    }
+    while (has_asking())
+        if (turn(), now() > time + PATIENCE) fail("no answer in time");
+}
+
+static int burst(double seconds, bool is_read) {
+    long sent = 0;
+    use_long(clients, clients + 1, true);
+    use_long(clients, clients + clients_many, false);
+    is_deaf = !is_read;
+    answers_many = 0;
+    puts("begun"), fflush(stdout);
+    for (until = now() + seconds; now() < until; turn()) sent += engine_burst();
+    printf("{\"sent\": %ld, \"answers\": %ld}\n", sent, answers_many);
+    return 0;
+}
+
 static int load(double seconds) {
     double start = now();
     until = start + seconds, last_answer = start;
@@ -115,16 +142,19 @@ static int load(double seconds) {
 }
 
 int main(int argc, char **argv) {
-    bool is_flood = argc == 6 && !strcmp(argv[5], "--flood");
-    if (argc != 5 + is_flood || (clients_many = atoi(argv[3])) < 1 || clients_many > CLIENTS) {
+    const char *word = argc == 6 ? argv[5] : "";
+    bool is_flood = !strcmp(word, "--flood"), is_read = !strcmp(word, "--burst"), is_burst = is_read || !strcmp(word, "--burst-unread");
+    int first = !strcmp(word, "--from-bob");
+    if (argc != 5 + (is_flood || is_burst || first) || (clients_many = atoi(argv[3])) < 1 || clients_many > CLIENTS - OF_A_TENANT * first) {
         fputs(usage, stderr);
         return 2;
     }
-    for (int i = 0; i < clients_many; i++) clients[i] = (struct client){.tenant = i / OF_A_TENANT, .session = i % OF_A_TENANT + 1, .wait = FIRST_WAIT};
+    for (int i = 0; i < clients_many; i++) clients[i] = (struct client){.tenant = first + i / OF_A_TENANT, .session = i % OF_A_TENANT + 1, .wait = FIRST_WAIT};
     signal(SIGPIPE, SIG_IGN);
     srand48(is_flood);
     if (!loop_begin() || !engine_begin(argv[1], argv[2])) return 1;
     for (double end = now() + PATIENCE; !engine_is_ready(); turn())
         if (now() > end) fail("no connection in time, or no answer");
-    return is_flood ? flood(atof(argv[4])) : load(atof(argv[4]));
+    double seconds = atof(argv[4]);
+    return is_flood ? flood(seconds) : is_burst ? burst(seconds, is_read) : load(seconds);
 }

@@ -35,9 +35,9 @@ static void message(struct mosquitto *broker, void *at, const struct mosquitto_m
 
 static void use(struct connection *it, uint32_t events) {
     int result = MOSQ_ERR_SUCCESS;
-    if (events & EPOLLIN) result = mosquitto_loop_read(it->broker, MOST_MESSAGES);
+    if (events & EPOLLIN && !is_deaf) result = mosquitto_loop_read(it->broker, MOST_MESSAGES);
     if (!result && mosquitto_want_write(it->broker)) result = mosquitto_loop_write(it->broker, 1);
-    if (!result) result = mosquitto_loop_misc(it->broker);
+    if (!result && !is_deaf) result = mosquitto_loop_misc(it->broker);   /* (which ends a connection that brings nothing) */
     if (!result && !(events & (EPOLLERR | EPOLLHUP))) return;
     it->is_here = false, it->watch.events = 0, it->next_try = now() + AGAIN;     /* (the library has closed its socket) */
 }
@@ -88,15 +88,23 @@ static bool publish(struct connection *it, int node, const char *line, size_t le
 }
 
 void engine_ask(struct client *client) {
-    char line[LINE];
+    static char line[LINE];
     publish(&connections[client->tenant], home_of(client), line, line_of(client, line));
 }
 
 bool engine_flood(void) {
     static unsigned many;
-    char line[LINE];
+    static char line[LINE];
     size_t length = flood_line(line);
     return !mosquitto_want_write(connections[0].broker) && ++many % MOST_FLOOD && publish(&connections[0], (int)(many % (unsigned)nodes_many), line, length);
+}
+
+long engine_burst(void) {
+    static char lines[LINE];
+    static int asked;           /* so many clients have asked */
+    if (asked == clients_many) return 0;
+    const struct client *client = &clients[asked++];
+    return publish(&connections[client->tenant], home_of(client), lines, burst_of(client, lines) - 1) ? BURST : 0;
 }
 
 void engine_turn(double time) {
@@ -105,6 +113,7 @@ void engine_turn(double time) {
         if (!it->watch.events && time >= it->next_try) try_again(it, time);
         if (!it->watch.events) continue;
         use(it, 0);
-        if (it->watch.events) watch(&it->watch, EPOLLIN | (mosquitto_want_write(it->broker) ? EPOLLOUT : 0));
+        uint32_t wanted = (is_deaf ? 0 : EPOLLIN) | (mosquitto_want_write(it->broker) ? EPOLLOUT : 0);
+        if (it->watch.events) watch(&it->watch, wanted ? wanted : EPOLLERR);    /* (which epoll reports in any case) */
     }
 }
