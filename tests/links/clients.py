@@ -13,11 +13,13 @@ import time
 from carrying import HERE, NODE, PLAN, Carry, check, free_ports, fresh, set_up, wait_for
 
 sys.path.insert(0, os.path.join(HERE, "..", "..", "clients", "python"))
+from gridfs_client import settings
 from gridfs_client.answers import Done, PlanTold
 from gridfs_client.asking import ask_plan
-from gridfs_client.errors import CarrierFault
+from gridfs_client.errors import BadSettings, CarrierFault
 from gridfs_client.links import READ, LinkCarrier
 from gridfs_client.sessions import Pace
+from gridfs_client.settings import Settings
 
 
 def carrier(links, hosts=None, authority=None, name="ann", patience=1.0):
@@ -70,6 +72,26 @@ def what_a_client_is_told(program, folder):
         check("refused" in fault_of(lambda: ask_plan(carrier(carry.links, alone), Pace(timeout=20)), 8), "no node")
     finally:
         carry.end()
+
+
+def where_no_way_is_named(_, folder):
+    """Links are taken, by the files in /etc/gridfs; where there is a password, a broker has to be named."""
+    at = lambda what: os.path.join(set_up(folder, PLAN, "--local", str(free_ports(4))), what)
+    given = {"tenant": "ann", "timeout": "1", "certificate": at("secret/ann.crt"), "key": at("secret/ann.key")}
+    usual, kept = Settings(given), (settings.HOSTS, settings.AUTHORITY)
+    check(kept == ("/etc/gridfs/hosts", "/etc/gridfs/ca.crt"), f"other files than the pages say: {kept}")
+    try:
+        settings.HOSTS, settings.AUTHORITY = os.path.join(folder, "none"), at("ca.crt")
+        check(settings.HOSTS in fault_of(usual.carrier), "another file of hosts is read")
+        settings.HOSTS = at("hosts")
+        check(isinstance(usual.carrier(), LinkCarrier), "another way is taken")
+    finally:
+        settings.HOSTS, settings.AUTHORITY = kept
+    try:
+        Settings({"tenant": "ann", "timeout": "1", "password-file": at("secret/ann.key")}).carrier()
+        check(False, "a broker is asked that nobody named")
+    except BadSettings as fault:
+        check("broker is not set" in str(fault), str(fault))
 
 
 def sessions_side_by_side(program, folder):
@@ -189,4 +211,4 @@ def new_certificates(program, folder):
         carry.end()
 
 
-CHECKS = [what_a_client_is_told, sessions_side_by_side, a_link_that_breaks_amid_a_send, new_certificates]
+CHECKS = [what_a_client_is_told, where_no_way_is_named, sessions_side_by_side, a_link_that_breaks_amid_a_send, new_certificates]

@@ -51,8 +51,12 @@ settings: each option above, else the environment (GRIDFS_TENANT, GRIDFS_PASSWOR
 $GRIDFS_CONFIG or {default_file()}:
   [gridfs]
   tenant = ann
-  broker = broker.example:8884
+  hosts = /etc/gridfs/hosts
   ca-file = /etc/gridfs/ca.crt
+  certificate = /etc/gridfs/ann.crt
+  key = /etc/gridfs/ann.key
+over a broker, in place of hosts, certificate and key:
+  broker = broker.example:8884
   password-file = /etc/gridfs/ann.password
 
 status  meaning                                                                    may a change still take effect?

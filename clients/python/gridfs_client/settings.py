@@ -18,6 +18,7 @@ from .pages import GRID
 from .sessions import Pace
 
 SECTION = "gridfs"
+HOSTS, AUTHORITY = "/etc/gridfs/hosts", "/etc/gridfs/ca.crt"  # of links, where none are named
 SILENT_FOR = 60.0  # seconds for which commands go to others first, once a node was silent
 
 
@@ -31,16 +32,16 @@ class Setting(NamedTuple):
 
 SETTINGS: dict[str, Setting] = {
     "tenant": Setting(None, "NAME", "the tenant's name"),
-    "broker": Setting("localhost:8884", "HOST:PORT", "the MQTT broker, by its port for tenants"),
+    "broker": Setting(None, "HOST:PORT", "the MQTT broker, by its port for tenants, in place of links"),
     "grid-name": Setting(None, "GRID", "the grid's name, where the broker has several"),
-    "ca-file": Setting(None, "FILE", "certificates of authorities: use TLS, and trust these"),
+    "ca-file": Setting(None, "FILE", f"certificates of authorities: use TLS, and trust these ({AUTHORITY} over links)"),
     "password-file": Setting(None, "FILE", "its first line is the tenant's password; others may not read it"),
-    "hosts": Setting(None, "FILE", "where each node is: links to the nodes, in place of a broker"),
-    "certificate": Setting(None, "FILE", "with hosts, the tenant's certificate"),
-    "key": Setting(None, "FILE", "with hosts, its key; others may not read it"),
-    "socket": Setting(None, "PATH", "a socket of ./grid, in place of a broker"),
-    "via": Setting(None, "COMMAND", "a command that carries lines TO FROM BODY, in place of a broker"),
-    "map": Setting(None, "FILE", "a map of several grids, which has the settings of each (gridfs-fleet), in place of a tenant and a broker"),
+    "hosts": Setting(None, "FILE", f"where each node is: links to the nodes ({HOSTS} where no other way is named)"),
+    "certificate": Setting(None, "FILE", "over links, the tenant's certificate"),
+    "key": Setting(None, "FILE", "over links, its key; others may not read it"),
+    "socket": Setting(None, "PATH", "a socket of ./grid, in place of links"),
+    "via": Setting(None, "COMMAND", "a command that carries lines TO FROM BODY, in place of links"),
+    "map": Setting(None, "FILE", "a map of several grids, which has the settings of each (gridfs-fleet), in place of a tenant and its grid"),
     "session": Setting("all", "N|N-M|all", "the first of these sessions that no other command here uses and whose home answers"),
     "helpers": Setting("3", "N", "how many more of these move a content in many pieces, besides"),
     "timeout": Setting("30", "SECONDS", "how long an answer is waited for, from the beginning of the command or from the last one"),
@@ -181,18 +182,20 @@ class Settings:
             return ProcessCarrier(tenant, shlex.split(self.values["via"]))
         if "socket" in self.values:
             return SocketCarrier(tenant, self.values["socket"])
-        if "hosts" in self.values:
+        if "hosts" in self.values or not {"broker", "password-file"} & self.values.keys():
             from .links import LinkCarrier
 
-            links = LinkCarrier(tenant, self.need("hosts"), self.need("ca-file"), self.need("certificate"), self.need("key"), patience)
+            hosts, authority = self.values.get("hosts", HOSTS), self.values.get("ca-file", AUTHORITY)
+            links = LinkCarrier(tenant, hosts, authority, self.need("certificate"), self.need("key"), patience)
             links.silent = self.lately_silent()
             return links
+        broker = self.need("broker")
         try:
             from .broker import MqttCarrier
         except ImportError:
             raise BadSettings("a broker wants the library paho-mqtt (Debian: python3-paho-mqtt)") from None
         password = read_password(self.values["password-file"]) if "password-file" in self.values else None
-        return MqttCarrier(tenant, self.need("broker"), password, self.values.get("ca-file"), patience, self.grid_name)
+        return MqttCarrier(tenant, broker, password, self.values.get("ca-file"), patience, self.grid_name)
 
     def session_numbers(self, sessions: int) -> range:
         """The sessions that may be used, of so many."""
