@@ -1,5 +1,7 @@
-"""The rules for Prometheus: by promtool where it is installed, and their form and the metrics that they name."""
+"""The rules for Prometheus, by promtool where it is installed, and the dashboard for Grafana: their form, and the metrics that they name."""
 
+import itertools
+import json
 import os
 import re
 import shutil
@@ -9,6 +11,9 @@ from carrying import HERE, check
 
 TOP = os.path.join(HERE, "..", "..")
 RULES = os.path.join(TOP, "deploy", "prometheus", "rules.yml")
+DASHBOARD = os.path.join(TOP, "deploy", "prometheus", "dashboard.json")
+WIDTH = 24  # of a dashboard
+PARTS = re.compile(r"_(?:bucket|sum|count)\Z")  # of a histogram
 OTHERS = {"up", "node_textfile_mtime_seconds", "node_filesystem_avail_bytes", "node_filesystem_size_bytes"}  # what the node exporter and Prometheus tell
 RULE = re.compile(
     r"      - alert: (Gridfs\w+)\n        expr: (.+)\n(?:        for: \d+m\n)?        annotations:\n          summary: ([A-Z].*\.)\n          todo: (.*\.)\n"
@@ -53,4 +58,38 @@ def rules_are_whole(_, __):
         check(done.returncode == 0, done.stdout + done.stderr)
 
 
-CHECKS = [rules_are_whole]
+def panels():
+    """Those of the dashboard that have targets."""
+    with open(DASHBOARD, encoding="ascii") as file:
+        return [panel for panel in json.load(file)["panels"] if panel["type"] != "row"]
+
+
+def metrics_shown():
+    """The names of metrics that the dashboard asks for."""
+    asked = " ".join(target["expr"] for panel in panels() for target in panel["targets"])
+    return {PARTS.sub("", name) for name in re.findall(r"\bgridfs_\w+", re.sub(r'"[^"]*"', '""', asked))}
+
+
+def metrics_of_s3():
+    """The names that a gateway tells: a counter's ends as Prometheus has it."""
+    with open(os.path.join(TOP, "clients", "python", "gridfs_s3", "metrics.py"), encoding="utf-8") as file:
+        return {name + "_total" * (kind == "Counter") for kind, name in re.findall(r'(Counter|Gauge|Histogram)\("(\w+)"', file.read())}
+
+
+def dashboard_is_whole(_, __):
+    shown = panels()
+    check(len(shown) > 10 and len({panel["title"] for panel in shown}) == len(shown), f"{len(shown)} panels, or two with one title")
+    taken = set()
+    for panel in shown:
+        place = panel["gridPos"]
+        cells = set(itertools.product(range(place["x"], place["x"] + place["w"]), range(place["y"], place["y"] + place["h"])))
+        check(not cells & taken and place["x"] + place["w"] <= WIDTH, f"{panel['title']}: it lies over another panel")
+        taken |= cells
+        for target in panel["targets"]:
+            check(is_balanced(re.sub(r'"[^"]*"', '""', target["expr"])), f"{panel['title']}: {target['expr']}")
+            check(target["datasource"]["uid"] == "${prometheus}", f"{panel['title']} asks another source")
+    unknown = metrics_shown() - metrics_told() - metrics_of_s3()
+    check(not unknown, f"the dashboard names {sorted(unknown)}, which nobody tells")
+
+
+CHECKS = [rules_are_whole, dashboard_is_whole]
