@@ -88,13 +88,13 @@ class Host:
         run("mount", "-t", "overlay", "-o", places, "none", f"{self.folder}/root")
         self.write("/etc/hosts", "127.0.0.1 localhost\n" + "".join(f"{address} {name}.example {name}\n" for name, address in names.items()), is_up=False)
         self.write("/etc/hostname", f"{self.name}\n", is_up=False)
-        # (services of the machine below are none of the host's, and it needs no index of manual pages)
-        run("sh", "-c", 'rm -rf "$0"/etc/systemd/system/*.wants "$0"/etc/machine-id "$0"/var/lib/man-db/auto-update && systemd-id128 new >"$0/etc/machine-id"', f"{self.folder}/root")
+        # (services of the machine below are none of the host's; it needs no index of manual pages, and the barest Debian has no program kill)
+        run("sh", "-c", 'rm -rf "$0"/etc/systemd/system/*.wants "$0"/etc/machine-id "$0"/var/lib/man-db/auto-update "$0"/usr/bin/kill && systemd-id128 new >"$0/etc/machine-id"', f"{self.folder}/root")
         self.start()
 
     def start(self):
         hidden = [] if self.lower != "/" else HIDDEN
-        words = ["unshare", *SPACES, "-f", "--kill-child", "--propagation", "private", "sh", "-ec", BEGIN, "sh", f"{self.folder}/root", self.name, *hidden]
+        words = ["setpriv", "--pdeathsig", "KILL", "unshare", *SPACES, "-f", "--kill-child", "--propagation", "private", "sh", "-ec", BEGIN, "sh", f"{self.folder}/root", self.name, *hidden]
         self.outer = subprocess.Popen(words, stdin=subprocess.DEVNULL, stdout=subprocess.DEVNULL, stderr=subprocess.PIPE, text=True)
         self.pid = self.waits_for(self.child, "it has no first process")
         # (with the same hardware's address each time, which others remember for a minute)
