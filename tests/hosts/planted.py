@@ -20,7 +20,16 @@ def a_row_and_a_column_are_stopped(grid):
 def a_bound_of_before(grid):
     host = grid.machines[2]
     host.write("/etc/systemd/system/gridfs-linked@2.service.d/memory.conf", "[Service]\nExecStartPre=\nMemoryMax=512M\n")
-    host.shell("rm -rf /run/systemd/system.control; systemctl daemon-reload; systemctl restart gridfs-linked@2")
+    host.shell("rm -rf /run/systemd/system.control && systemctl daemon-reload && systemctl restart gridfs-linked@2")
+
+
+def a_bound_in_another_place(grid):
+    grid.machines[3].does("sed", "-i", "s/Environment=MEMORY=/MemoryMax=/", "/usr/bin/gridfs-machine")
+
+
+def a_metric_has_another_name(grid):
+    grid.desk.does("sed", "-i", "s/gridfs_s3_waiting/gridfs_s3_waits/", "/usr/lib/gridfs/gridfs_s3/metrics.py")
+    trials.objects(grid)
 
 
 def a_module_is_left_out(grid):
@@ -82,6 +91,8 @@ FAULTS = {
     "the repository is seen": (repository_is_seen, trials.nothing_else),
     "a row and a column are stopped": (a_row_and_a_column_are_stopped, trials.files),
     "a unit has the bound of before": (a_bound_of_before, trials.bounds),
+    "a bound is written where it does not hold": (a_bound_in_another_place, trials.bounds),
+    "a metric has another name": (a_metric_has_another_name, trials.metrics),
     "the gateway lacks a module": (a_module_is_left_out, trials.objects),
     "one more is away": (two_are_away, trials.cut_off),
     "a unit is not enabled": (the_unit_is_not_enabled, trials.stopped),

@@ -168,6 +168,10 @@ def bounds(grid):
     for place, host in enumerate(grid.machines):
         found = host.does("systemctl", "show", "--value", "-p", "MemoryMax", grid.unit(place)).strip()
         check(found == str(wanted), f"{host.name}: MemoryMax={found}, where the plan wants {wanted}")
+    host.does("gridfs-machine", "--memory", "256M", str(grid.nodes[place]), FOLDER)
+    grid.restarts(place)
+    found = host.does("systemctl", "show", "--value", "-p", "MemoryMax", grid.unit(place)).strip()
+    check(found == str(256 << 20), f"{host.name}: MemoryMax={found}, where 256M is asked for")
 
 
 def objects(grid):

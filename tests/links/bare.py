@@ -74,7 +74,7 @@ def is_bare(folder, program, carry):
     owner = pwd.getpwnam("gridfs").pw_uid
     check(all(os.stat(path).st_uid == owner for path in MADE), "not all are of the user gridfs")
     with open("/etc/systemd/system/gridfs-linked@0.service.d/memory.conf", encoding="ascii") as file:
-        check(file.read() == "[Service]\nExecStartPre=\nMemoryMax=256M\n", "its memory")
+        check(file.read() == "[Service]\nEnvironment=MEMORY=256M\n", "its memory")
     machine = Machine(folder)
     os.makedirs("/run/gridfs")
     os.chown("/run/gridfs", owner, -1)
