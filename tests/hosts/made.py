@@ -83,11 +83,9 @@ def says_unproved(_, folder, found):
 
 
 def says_proved(program, folder, _):
-    """In a checkout whose program has a record of a proof: that is told, and it is in the package. Without one nothing is made."""
-    copy = f"{folder}/checkout"
-    run("git", "clone", "-q", "--shared", TOP, copy)
-    for part in ("tools", "deploy", "clients", "docs", "examples"):
-        shutil.copytree(os.path.join(TOP, part), f"{copy}/{part}", dirs_exist_ok=True, ignore=shutil.ignore_patterns("out", "__pycache__"))
+    """In a copy of the sources whose program has a record of a proof: that is told, and it is in the package. Without one nothing is made."""
+    copy = f"{folder}/copy"
+    shutil.copytree(TOP, copy, symlinks=True, ignore=shutil.ignore_patterns("out", ".git", ".unproved", ".build*", "__pycache__", "store", "shop"))
     os.makedirs(f"{copy}/crates/gridfs/out")
     shutil.copy(program, f"{copy}/crates/gridfs/out/gridfs")
     refused = subprocess.run([f"{copy}/tools/packages", f"{folder}/none"], capture_output=True, text=True)
@@ -98,6 +96,7 @@ def says_proved(program, folder, _):
         out.write("gq_memory 12.5\n")
     run(f"{copy}/tools/packages", f"{folder}/proved")
     found = found_in(f"{folder}/proved")
+    without_errors(program, folder, found)
     for path in found.values():
         said = " ".join(field(path, "Description").split())
         check("by rattle-kit-test, of these sources (commit c0ffee of a day)" in said and "NOT" not in said, said)

@@ -53,8 +53,12 @@ def rules_are_whole(_, __):
         check(named and named <= known | OTHERS, f"{name} names {sorted(named - known - OTHERS)}, which nobody tells")
         for page in re.findall(r"docs/(\w+\.md)", todo):
             check(os.path.exists(os.path.join(TOP, "docs", page)), f"{name}: there is no {page}")
+    check_by_promtool(RULES)
+
+
+def check_by_promtool(path):
     if tool := shutil.which("promtool"):
-        done = subprocess.run([tool, "check", "rules", RULES], capture_output=True, text=True)
+        done = subprocess.run([tool, "check", "rules", path], capture_output=True, text=True)
         check(done.returncode == 0, done.stdout + done.stderr)
 
 
@@ -76,7 +80,7 @@ def metrics_of_s3():
         return {name + "_total" * (kind == "Counter") for kind, name in re.findall(r'(Counter|Gauge|Histogram)\("(\w+)"', file.read())}
 
 
-def dashboard_is_whole(_, __):
+def dashboard_is_whole(_, folder):
     shown = panels()
     check(len(shown) > 10 and len({panel["title"] for panel in shown}) == len(shown), f"{len(shown)} panels, or two with one title")
     taken = set()
@@ -90,6 +94,11 @@ def dashboard_is_whole(_, __):
             check(target["datasource"]["uid"] == "${prometheus}", f"{panel['title']} asks another source")
     unknown = metrics_shown() - metrics_told() - metrics_of_s3()
     check(not unknown, f"the dashboard names {sorted(unknown)}, which nobody tells")
+    asked = [target["expr"].replace("$grid", ".*") for panel in shown for target in panel["targets"]]
+    os.makedirs(folder, exist_ok=True)
+    with open(os.path.join(folder, "asked.yml"), "w", encoding="ascii") as out:  # (JSON is YAML)
+        json.dump({"groups": [{"name": "asked", "rules": [{"record": f"asked_{place}", "expr": expr} for place, expr in enumerate(asked)]}]}, out)
+    check_by_promtool(out.name)
 
 
 CHECKS = [rules_are_whole, dashboard_is_whole]
