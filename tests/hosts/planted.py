@@ -86,6 +86,10 @@ def installed(plant):
     return planted
 
 
+def the_unit_of_before(grid):
+    grid.desk.shell("sed -i s/ExecReload=+/ExecReload=/ /usr/lib/systemd/system/gridfs-broker.service && systemctl daemon-reload")
+
+
 # Of each fault how it is planted, and the trial that finds it.
 FAULTS = {
     "the repository is seen": (repository_is_seen, trials.nothing_else),
@@ -100,6 +104,7 @@ FAULTS = {
     "a package restarts nodes": (packages_are(appended("postinst", "systemctl try-restart 'gridfs-linked@*'\n")), trials.changed),
     "the later program does not start": (packages_are(broken), trials.changed),
     "nodes run on without their package": (installed(packages_are(lambda room: os.unlink(f"{room}/DEBIAN/prerm"))), trials.removed),
+    "the broker is not root's to signal": (the_unit_of_before, trials.over_a_broker),
     "a purge takes journals away": (installed(packages_are(appended("postrm", '[ "$1" != purge ] || rm -rf /var/lib/gridfs\n'))), trials.removed),
 }
 
@@ -109,9 +114,10 @@ def is_found(folder, packages, lower, fault):
     grid = trials.Grid(folder, packages, lower)
     try:
         grid.begin()
-        grid.set_up()
-        if trial not in (trials.nothing_else, trials.files):
-            trials.files(grid)
+        if trial is not trials.over_a_broker:
+            grid.set_up()
+            grid.waits_for_nodes()
+            grid.puts()
         grid.later = made.later(folder, packages)
         plant(grid)
         try:

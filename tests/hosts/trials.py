@@ -66,7 +66,7 @@ class Grid:
     def __init__(self, folder, packages, lower):
         self.folder, self.packages, self.later = folder, packages, {}
         self.hosts = [Host(folder, name, number, lower) for number, name in enumerate(NAMES, 1)]
-        self.addresses = {host.name: host.address for host in self.hosts}
+        self.addresses = {host.name: host.address for host in self.hosts} | {"broker": self.hosts[-1].address}
         *self.machines, self.desk = self.hosts
         self.nodes = [0, 1, 2, 3]  # the node of each machine
 
@@ -199,6 +199,34 @@ def metrics(grid):
     check(not unknown, f"nobody tells {sorted(unknown)}")
     for name in ("rules.yml", "dashboard.json"):
         grid.desk.does("test", "-s", f"/usr/share/gridfs/{name}")
+
+
+def over_a_broker(grid):
+    """docs/MACHINES.md, A broker and four machines: the fifth host has the broker. A host's power fails, and it starts its node by itself."""
+    desk, begun = grid.desk, "gridfs node {0} --plan /etc/gridfs/plan --journal /var/lib/gridfs/{0}/journal --new </dev/null"
+    desk.write(f"{FOLDER}/wishes", WISHES)
+    desk.shell(f"""cd {FOLDER} && gridfs-plan wishes >plan && mkdir -p /etc/gridfs
+        gridfs-mqtt-setup --bind 0.0.0.0 --connections many --test-authority --host broker.example /etc/gridfs/broker-folder plan
+        systemctl enable --now gridfs-broker gridfs-front
+        cp -r /etc/gridfs/broker-folder/ca.crt /etc/gridfs/broker-folder/secret . && echo BROKER=broker.example:8883 >broker""")
+    for node, host in zip(grid.nodes, grid.machines):
+        desk.brings(host, FOLDER, ["plan", "ca.crt", "broker", f"secret/{node}"])
+        host.shell(f"""cd {FOLDER} && install -d -o gridfs -g gridfs -m 755 /etc/gridfs /etc/gridfs/secret && install -o gridfs -m 644 -t /etc/gridfs plan ca.crt broker
+            install -o gridfs -m 600 -t /etc/gridfs/secret secret/{node} && install -d -o gridfs -g gridfs -m 700 /var/lib/gridfs/{node}
+            runuser -u gridfs -- {begun.format(node)}
+            systemctl enable --now gridfs-carried@{node}""")
+    desk.write("/root/.config/gridfs/client.ini", f"[gridfs]\ntenant = ann\nbroker = broker.example:8884\nca-file = {FOLDER}/ca.crt\npassword-file = {FOLDER}/secret/ann\n")
+    files(grid)
+    bound = desk.does("gridfs-plan", "--memory", f"{FOLDER}/plan").strip().removesuffix("M")
+    found = grid.machines[0].does("systemctl", "show", "--value", "-p", "MemoryMax", "gridfs-carried@0").strip()
+    check(found == str(int(bound) << 20), f"MemoryMax={found}, where the plan wants {bound}M")
+    desk.does("systemctl", "reload", "gridfs-broker", "gridfs-front")
+    host = grid.machines[0]
+    host.power_off()
+    grid.gets()
+    host.start()
+    host.wait_until_up()
+    files(grid)
 
 
 def cut_off(grid):
