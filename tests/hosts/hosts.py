@@ -23,7 +23,8 @@ SWITCH = 254
 BOOT = 60  # seconds
 # What of the root file system below is not seen: the kit, programs that were built here, homes.
 HIDDEN = ["/usr/local", "/opt", "/home", "/srv", "/mnt", "/media", os.path.dirname(TOP) if os.path.dirname(TOP) != "/" else TOP]
-ENVIRONMENT = ["env", "-i", "PATH=/usr/sbin:/usr/bin:/sbin:/bin", "HOME=/root", "LANG=C.UTF-8", "container=other"]
+HOME = "/var/home"  # of root on a host
+ENVIRONMENT = ["env", "-i", "PATH=/usr/sbin:/usr/bin:/sbin:/bin", f"HOME={HOME}", "LANG=C.UTF-8", "container=other"]
 DEVICES = "null zero full random urandom tty"
 # Makes this process the first one of a host, whose root file system is ROOT.
 BEGIN = f"""

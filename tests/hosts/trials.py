@@ -6,12 +6,13 @@ import re
 import time
 from concurrent.futures import ThreadPoolExecutor
 
-from hosts import TOP, Host, check
+from hosts import HOME, TOP, Host, check
 from rules import metrics_shown
 
 NAMES = ["one", "two", "three", "four", "five"]
 PORTS = "8870", "8871"
-FOLDER = "/root/grid"  # where the grid's files are at first, and come to on each host
+FOLDER = "/var/grid"  # where the grid's files are at first, and come to on each host
+SETTINGS = f"{HOME}/.config/gridfs/client.ini"
 WISHES = "ann 100K 10 names 2 commands\ncarol 500K 30 names 2 commands\n"
 BY_HAND = 1  # the node that is set up by hand
 READY = 40  # seconds in which nodes and gateways are there
@@ -22,7 +23,7 @@ import json, os, subprocess
 def done(*words, given=None):
     return subprocess.run(["gridfs-client", *words], input=given, capture_output=True, text=True)
 many, faults, last = 0, [], {}
-while not os.path.exists("/tmp/stop"):
+while not os.path.exists("/run/load.stop"):
     name, content = f"load/{many % 4}", f"{many}\\n" * 500
     put, many = done("put", "-", name, given=content), many + 1
     got = done("get", name)
@@ -90,8 +91,8 @@ class Grid:
 
     def install(self, host, *names, packages=None):
         paths = [(packages or self.packages)[name] for name in names]
-        host.takes("/root/packages", paths)
-        host.does("dpkg", "-i", *(f"/root/packages/{os.path.basename(path)}" for path in paths))
+        host.takes("/var/packages", paths)
+        host.does("dpkg", "-i", *(f"/var/packages/{os.path.basename(path)}" for path in paths))
 
     def set_up(self):
         """Plan, certificates, hosts, each node's machine, and the clients' settings."""
@@ -105,8 +106,8 @@ class Grid:
                 host.shell(f"cd {FOLDER}\n{by_hand(node)}")
             else:
                 host.does("gridfs-machine", "--new", str(node), FOLDER)
-        desk.shell(f"mkdir -p /etc/gridfs /root/.config/gridfs && cd {FOLDER} && cp hosts ca.crt plan /etc/gridfs && cp secret/ann.crt secret/ann.key /root")
-        desk.write("/root/.config/gridfs/client.ini", "[gridfs]\ntenant = ann\ncertificate = /root/ann.crt\nkey = /root/ann.key\n")
+        desk.shell(f"mkdir -p /etc/gridfs && cd {FOLDER} && cp hosts ca.crt plan /etc/gridfs")
+        desk.write(SETTINGS, f"[gridfs]\ntenant = ann\ncertificate = {FOLDER}/secret/ann.crt\nkey = {FOLDER}/secret/ann.key\n")
 
     def write_hosts(self):
         self.desk.write(f"{FOLDER}/hosts", "".join(f"{node} {host.name}.example:{PORTS[0]} {host.name}.example:{PORTS[1]}\n" for node, host in zip(self.nodes, self.machines)))
@@ -215,7 +216,7 @@ def over_a_broker(grid):
             install -o gridfs -m 600 -t /etc/gridfs/secret secret/{node} && install -d -o gridfs -g gridfs -m 700 /var/lib/gridfs/{node}
             runuser -u gridfs -- {begun.format(node)}
             systemctl enable --now gridfs-carried@{node}""")
-    desk.write("/root/.config/gridfs/client.ini", f"[gridfs]\ntenant = ann\nbroker = broker.example:8884\nca-file = {FOLDER}/ca.crt\npassword-file = {FOLDER}/secret/ann\n")
+    desk.write(SETTINGS, f"[gridfs]\ntenant = ann\nbroker = broker.example:8884\nca-file = {FOLDER}/ca.crt\npassword-file = {FOLDER}/secret/ann\n")
     files(grid)
     bound = desk.does("gridfs-plan", "--memory", f"{FOLDER}/plan").strip().removesuffix("M")
     found = grid.machines[0].does("systemctl", "show", "--value", "-p", "MemoryMax", "gridfs-carried@0").strip()
@@ -282,7 +283,7 @@ def lost(grid):
 
 def changed(grid):
     """New packages on one host after another, under load: what runs is left alone until it is restarted, and nothing fails."""
-    grid.desk.does("rm", "-f", "/tmp/stop")
+    grid.desk.does("rm", "-f", "/run/load.stop")
     load = grid.desk.starts("/usr/bin/python3", "-c", LOAD)
     for place, host in enumerate(grid.machines):
         before = host.main_pid(grid.unit(place))
@@ -292,7 +293,7 @@ def changed(grid):
         grid.restarts(place)
         grid.waits_for_nodes()
         check(host.does("sh", "-c", "readlink /proc/$(pidof gridfs)/exe") == "/usr/bin/gridfs\n", f"{host.name}: it runs another program")
-    grid.desk.does("touch", "/tmp/stop")
+    grid.desk.does("touch", "/run/load.stop")
     told, why = load.communicate(timeout=120)
     many, faults, last = json.loads(told or "[0, [], {}]")
     check(many >= 2 and not faults, f"{many} puts and gets, of which {len(faults)} failed: {faults[:2]} {why}")
