@@ -31,7 +31,7 @@ while not os.path.exists("/run/load.stop"):
     last[name] = content
 print(json.dumps([many, faults, last]))
 """
-OVER_A_BROKER = {"gridfs_carrier_broker_up"}
+ELSEWHERE = {"gridfs_carrier_broker_up", "gridfs_tenant_fullest_page_ratio"}  # told over a broker, and by deploy/links/operate
 OF_GATEWAY = """
 import http.client, socket
 told = http.client.HTTPConnection("localhost")
@@ -84,7 +84,7 @@ class Grid:
         for host in self.hosts:
             host.wait_until_up()
         with ThreadPoolExecutor() as pool:
-            done = [pool.submit(self.install, host, "gridfs") for host in self.machines]
+            done = [pool.submit(self.install, host, "gridfs", "gridfs-client") for host in self.machines]
             done.append(pool.submit(self.install, self.desk, "gridfs", "gridfs-client", "gridfs-s3"))
         for each in done:
             each.result()
@@ -196,7 +196,7 @@ def metrics(grid):
     told = set(re.findall(r"^# TYPE (\S+) ", "\n".join(files), re.MULTILINE))
     with open(os.path.join(TOP, "deploy", "prometheus", "rules.yml"), encoding="ascii") as file:
         named = set(re.findall(r"expr:.*?\b(gridfs_\w+)", file.read()))
-    unknown = (metrics_shown() | named - OVER_A_BROKER) - told
+    unknown = (metrics_shown() | named - ELSEWHERE) - told
     check(not unknown, f"nobody tells {sorted(unknown)}")
     for name in ("rules.yml", "dashboard.json"):
         grid.desk.does("test", "-s", f"/usr/share/gridfs/{name}")
@@ -269,7 +269,7 @@ def lost(grid):
         grid.restarts(place)
     host.begin(grid.addresses)
     host.wait_until_up()
-    grid.install(host, "gridfs")
+    grid.install(host, "gridfs", "gridfs-client")
     grid.bring(host, 67)
     host.does("gridfs-machine", "--new", "67", FOLDER)
     host.waits_for(lambda: "node 67: has all files" in host.run("journalctl", "-u", "gridfs-linked@67").stdout, "the new node has not all files")
