@@ -149,7 +149,9 @@ class Grid:
 # The trials, in their order
 
 def nothing_else(grid):
-    """The hosts have the packages, and nothing of the repository."""
+    """The hosts have the packages, whose commands tell their words, and nothing of the repository."""
+    for command in ("machine", "plan", "journals", "links-setup", "mqtt-setup", "carry", "carry-links", "client", "fleet"):
+        grid.desk.does(f"gridfs-{command}", "--help")
     for host in grid.hosts:
         check(host.run("test", "-e", os.path.join(TOP, "README.md")).returncode, f"{host.name} has the repository")
         found = host.run("sh", "-c", "command -v gridfs gridfs-client gridfs-carry-links rt cc-of-the-kit").stdout.split()
