@@ -154,12 +154,16 @@ class FleetFiles:
     def get_to(self, name: str, target: IO[bytes]) -> Entry:
         check_name(name)
 
-        def attempt() -> Entry | int:
+        def attempt(to: IO[bytes]) -> Entry | int:
             _, found, held = self.present(name)
             files = self.grid(found.grid)
-            return files.attempt_to_copy(files.bucket(name), held, found.session, target)
+            return files.attempt_to_copy(files.bucket(name), held, found.session, to)
 
-        return copied_whole(name, target, attempt)
+        def bind() -> None:
+            for files in self.grids.values():
+                files.bind()
+
+        return copied_whole(name, target, attempt, bind)
 
     def stat(self, name: str) -> Entry:
         check_name(name)

@@ -181,6 +181,7 @@ class JournalFiles:
     """A tenant's numbered files, of which none can be written."""
 
     number = 1  # (pages are looked at as a session does)
+    may_leave = False
 
     def __init__(self, journals: Journals, tenant: str, layout: Layout, as_they_are: bool):
         self.places, self.tenant, self.layout, self.as_they_are = journals.places, tenant, layout, as_they_are
