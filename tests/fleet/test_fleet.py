@@ -521,7 +521,8 @@ class Commands(unittest.TestCase):
         self.addCleanup(folder.cleanup)
         self.addCleanup(os.chdir, self.before)
         os.chdir(folder.name)
-        for name, text in {"a.ini": SETTINGS, "b.ini": SETTINGS, "a b.ini": SETTINGS, "no map": "hello\n", "bytes": "\xff"}.items():
+        maps = {"no map": "hello\n", "bytes": "\xff", "later": "fleet 2\n", "more": "fleet 1\nweights 1\n"}
+        for name, text in {"a.ini": SETTINGS, "b.ini": SETTINGS, "a b.ini": SETTINGS, **maps}.items():
             with open(name, "w", encoding="latin-1") as out:
                 out.write(text)
 
@@ -541,6 +542,8 @@ class Commands(unittest.TestCase):
             self.refuse(2, "there is no such map; `gridfs-fleet --map missing begin GRID SETTINGS` makes one", *words, map="missing")
             self.refuse(2, "no map of a fleet", *words, map="no map")
             self.refuse(2, "no map of a fleet", *words, map="bytes")
+            self.refuse(2, "later: a map of the form 'fleet 2', and this program knows 'fleet 1' alone", *words, map="later")
+            self.refuse(2, "more: line 2: 'weights 1' has no form", *words, map="more")
             self.refuse(2, "Is a directory", *words, map=".")
         self.assertFalse([name for name in os.listdir() if name.endswith(".lock")])
         self.refuse(6, "no folder/map: No such file or directory", "begin", "a", "a.ini", map="no folder/map")

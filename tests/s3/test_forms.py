@@ -2,6 +2,7 @@
 
 import asyncio
 import base64
+import contextlib
 import hashlib
 import os
 import pathlib
@@ -91,7 +92,7 @@ class Keys(Case):
         self.assertEqual(parse_keys("0123456789\n", "ann"), {"ann": Key("ann", "0123456789")})
         found = parse_keys("# ours\nann 12345678\n\nann.backup  abcdefgh read bucket=one bucket=two\n", "ann")
         self.assertEqual(found["ann.backup"], Key("ann.backup", "abcdefgh", True, frozenset(("one", "two"))))
-        for text in ("", "ann short", "bob 12345678", "ann.a b c d", "ann 12345678 write", "ann 12345678\nann 87654321", "ann. 12345678", "annx.y 12345678"):
+        for text in ("", "ann short", "bob 12345678", "ann.a b c d", "ann 12345678 write", "ann 12345678\nann 87654321", "ann. 12345678", "annx.y 12345678", "ann 12345678 bucket="):
             with self.assertRaises(BadKeys, msg=text):
                 parse_keys(text, "ann")
         with tempfile.NamedTemporaryFile() as file:
@@ -101,6 +102,12 @@ class Keys(Case):
             os.chmod(file.name, 0o604)
             with self.assertRaisesRegex(BadKeys, "others may read"):
                 read_keys(file.name, "ann")
+        with tempfile.TemporaryDirectory() as folder:
+            path = pathlib.Path(folder) / "ann"
+            path.write_text("ann 12345678 write\n")
+            path.chmod(0o600)
+            with contextlib.chdir(folder), self.assertRaisesRegex(BadKeys, "^ann: ann: write is neither"):  # (also where a message begins as the path does)
+                read_keys("ann", "ann")
 
     def test_what_they_may(self):
         key = Key("ann.a", "x", True, frozenset(("one",)))

@@ -21,6 +21,7 @@ from .errors import BadSettings
 from .pages import GRID
 from .ways import SLICES, Stop
 
+HEAD = "fleet 1"
 NUMBER = r"(0|[1-9][0-9]{0,8})"
 FORMS = {
     "grid": re.compile(rf"grid ({GRID}) (\S+)"),
@@ -211,7 +212,7 @@ class FleetMap:
         return begun
 
     def text(self) -> str:
-        lines = ["fleet 1", *(f"grid {grid} {settings}" for grid, settings in self.grids.items())]
+        lines = [HEAD, *(f"grid {grid} {settings}" for grid, settings in self.grids.items())]
         lines += [f"slices {each.first}-{each.last} {each.move} {each.grid}" for each in self.ranges]
         lines += [move.text() for move in self.moves]
         return "".join(line + "\n" for line in lines)
@@ -241,13 +242,15 @@ def parse_map(text: str, path: str = "") -> FleetMap:
     """BadSettings where a line has no form."""
     head, *lines = text.splitlines() or [""]
     grids, ranges, moves = dict[str, str](), list[Range](), list[Move]()
-    if head != "fleet 1":
-        raise BadSettings(f"{path}: no map of a fleet")
-    for line in lines:
+    if head != HEAD and re.match("fleet [0-9]", head):
+        raise BadSettings(f"{path}: a map of the form {head!r}, and this program knows {HEAD!r} alone")
+    if head != HEAD:
+        raise BadSettings(f"{path}: no map of a fleet: {head[:40]!r} is not {HEAD!r}")
+    for place, line in enumerate(lines, 2):
         kind = line.split(" ")[0]
         found = FORMS[kind].fullmatch(line) if kind in FORMS else None
         if not found:
-            raise BadSettings(f"{path}: {line!r} has no form")
+            raise BadSettings(f"{path}: line {place}: {line!r} has no form")
         words = found.groups()
         if kind == "grid":
             if words[0] in grids:
@@ -269,4 +272,4 @@ def read_map(path: str) -> FleetMap:
     except OSError as fault:
         raise BadSettings(f"{path}: {fault.strerror}") from None
     except UnicodeDecodeError:
-        raise BadSettings(f"{path}: no map of a fleet") from None
+        raise BadSettings(f"{path}: no map of a fleet: it has more than ASCII") from None

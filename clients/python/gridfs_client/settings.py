@@ -60,21 +60,44 @@ def default_locks() -> Path:
     return Path.home() / ".cache" / "gridfs"
 
 
+def fault_of(fault: configparser.Error, text: str) -> str:
+    """What of a text can't be read, and the line of it."""
+    if isinstance(fault, configparser.MissingSectionHeaderError):
+        return f"line {fault.lineno}: {fault.line.strip()!r} stands before [{SECTION}]"
+    if isinstance(fault, configparser.ParsingError):
+        number, _ = fault.errors[0]
+        line = text.split("\n")[number - 1].strip()
+        return f"line {number}: {line!r} is no NAME = VALUE"
+    if isinstance(fault, configparser.DuplicateOptionError):
+        return f"line {fault.lineno}: {fault.option} stands there twice"
+    if isinstance(fault, configparser.DuplicateSectionError):
+        return f"line {fault.lineno}: [{fault.section}] stands there twice"
+    return str(fault).splitlines()[0]
+
+
 def read_file(path: Path) -> dict[str, str]:
-    """The settings of a file; a FileNotFoundError where there is none, BadSettings where it has no form."""
-    parser = configparser.ConfigParser(interpolation=None)
+    """The settings of a file; a FileNotFoundError where there is none, BadSettings where it has no form, or something that is not known here."""
+    parser = configparser.ConfigParser(interpolation=None, default_section="")  # (no header has that name)
     try:
-        with open(path, encoding="utf-8") as text:
-            parser.read_file(text)
+        text = path.read_text(encoding="utf-8")
+        parser.read_string(text)
     except FileNotFoundError:
         raise
     except OSError as fault:
         raise BadSettings(f"{path}: {fault.strerror}") from None
-    except (configparser.Error, UnicodeDecodeError) as fault:
-        raise BadSettings(f"{path}: {str(fault).splitlines()[0]}") from None
+    except configparser.Error as fault:
+        raise BadSettings(f"{path}: {fault_of(fault, text)}") from None
+    except UnicodeDecodeError:
+        raise BadSettings(f"{path}: no text") from None
+    if others := [section for section in parser.sections() if section != SECTION]:
+        raise BadSettings(f"{path}: [{others[0]}] is not known: the settings stand in [{SECTION}]")
     found = dict(parser[SECTION]) if parser.has_section(SECTION) else {}
     if unknown := found.keys() - SETTINGS.keys():
         raise BadSettings(f"{path}: there is no setting {sorted(unknown)[0]}")
+    for key, value in found.items():
+        # (a command may have several lines; elsewhere a setting that is indented would become a part of the one before it)
+        if "\n" in value and key != "via":
+            raise BadSettings(f"{path}: {key} has one line, and {value.splitlines()[1]!r} is indented behind it")
     return found
 
 

@@ -52,7 +52,7 @@ def parse_key(line: str, tenant: str) -> Key:
     if len(secret) < LEAST:
         raise BadKeys(f"{access}: a secret has {LEAST} letters or more")
     buckets = frozenset(word.removeprefix("bucket=") for word in words if word.startswith("bucket="))
-    if unknown := [word for word in words if word != "read" and not word.startswith("bucket=")]:
+    if unknown := [word for word in words if word == "bucket=" or word != "read" and not word.startswith("bucket=")]:
         raise BadKeys(f"{access}: {unknown[0]} is neither `read` nor bucket=NAME")
     return Key(access, secret, "read" in words, buckets or None)
 
@@ -79,11 +79,11 @@ def read_keys(path: str, tenant: str) -> Mapping[str, Key]:
     try:
         with open(path, encoding="utf-8") as file:
             if os.fstat(file.fileno()).st_mode & 0o006:
-                raise BadKeys(f"{path}: others may read or write it")
+                raise BadKeys("others may read or write it")
             return parse_keys(file.read(), tenant)
     except OSError as fault:
         raise BadKeys(f"{path}: {fault.strerror}") from None
     except UnicodeDecodeError:
         raise BadKeys(f"{path}: no text") from None
     except BadKeys as fault:
-        raise BadKeys(f"{path}: {fault}" if not str(fault).startswith(path) else str(fault)) from None
+        raise BadKeys(f"{path}: {fault}") from None
