@@ -91,6 +91,9 @@ def bundles_are_whole():
     refuses(1, "it has no line of node 3", "bundles", "desk", "plan")
     check(os.listdir("desk") == ["hosts"], f"{os.listdir('desk')}")
     write("desk/hosts", hosts)
+    for text, told in ("[operate]\n[later]\n", "[later] is not known"), ("[operate]\nran = x\n", "there is no ran"), ("[operate]\nx\n", "line 2: 'x' is no"):
+        write("desk/operate.ini", text)
+        refuses(1, f"desk/operate.ini: {told}", "bundles", "desk", "plan")
     write("desk/operate.ini", f"[operate]\nrun = {os.path.abspath('run')} {{command}}\nthere = /run/bundle\ncustomer = {os.path.abspath('desk/tenants')}\n")
     does("bundles", "--days", "30", "desk", "plan")
     refuses(2, "unrecognized arguments: --dayz", "bundles", "desk", "plan", "--dayz")

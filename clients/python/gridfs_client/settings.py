@@ -6,7 +6,7 @@ import os
 import re
 import shlex
 import time
-from collections.abc import Mapping
+from collections.abc import Mapping, Sequence
 from contextlib import suppress
 from pathlib import Path
 from typing import IO, NamedTuple
@@ -60,10 +60,10 @@ def default_locks() -> Path:
     return Path.home() / ".cache" / "gridfs"
 
 
-def fault_of(fault: configparser.Error, text: str) -> str:
+def fault_of(fault: configparser.Error, text: str, section: str) -> str:
     """What of a text can't be read, and the line of it."""
     if isinstance(fault, configparser.MissingSectionHeaderError):
-        return f"line {fault.lineno}: {fault.line.strip()!r} stands before [{SECTION}]"
+        return f"line {fault.lineno}: {fault.line.strip()!r} stands before [{section}]"
     if isinstance(fault, configparser.ParsingError):
         number, _ = fault.errors[0]
         line = text.split("\n")[number - 1].strip()
@@ -75,8 +75,9 @@ def fault_of(fault: configparser.Error, text: str) -> str:
     return str(fault).splitlines()[0]
 
 
-def read_file(path: Path) -> dict[str, str]:
-    """The settings of a file; a FileNotFoundError where there is none, BadSettings where it has no form, or something that is not known here."""
+def read_section(path: Path, section: str, may_go_on: Sequence[str]) -> dict[str, str]:
+    """The words of a file that has this section alone, of which these may go on in lines that are indented: in others such a line would be a setting that
+    becomes a part of the one before it. A FileNotFoundError where there is no file, BadSettings where something of it is not known."""
     parser = configparser.ConfigParser(interpolation=None, default_section="")  # (no header has that name)
     try:
         text = path.read_text(encoding="utf-8")
@@ -86,18 +87,23 @@ def read_file(path: Path) -> dict[str, str]:
     except OSError as fault:
         raise BadSettings(f"{path}: {fault.strerror}") from None
     except configparser.Error as fault:
-        raise BadSettings(f"{path}: {fault_of(fault, text)}") from None
+        raise BadSettings(f"{path}: {fault_of(fault, text, section)}") from None
     except UnicodeDecodeError:
         raise BadSettings(f"{path}: no text") from None
-    if others := [section for section in parser.sections() if section != SECTION]:
-        raise BadSettings(f"{path}: [{others[0]}] is not known: the settings stand in [{SECTION}]")
-    found = dict(parser[SECTION]) if parser.has_section(SECTION) else {}
+    if others := [each for each in parser.sections() if each != section]:
+        raise BadSettings(f"{path}: [{others[0]}] is not known: the settings stand in [{section}]")
+    found = dict(parser[section]) if parser.has_section(section) else {}
+    for key, value in found.items():
+        if "\n" in value and key not in may_go_on:
+            raise BadSettings(f"{path}: {key} has one line, and {value.splitlines()[1]!r} is indented behind it")
+    return found
+
+
+def read_file(path: Path) -> dict[str, str]:
+    """The settings of a file; a FileNotFoundError where there is none, BadSettings where it has no form, or something that is not known here."""
+    found = read_section(path, SECTION, ["via"])
     if unknown := found.keys() - SETTINGS.keys():
         raise BadSettings(f"{path}: there is no setting {sorted(unknown)[0]}")
-    for key, value in found.items():
-        # (a command may have several lines; elsewhere a setting that is indented would become a part of the one before it)
-        if "\n" in value and key != "via":
-            raise BadSettings(f"{path}: {key} has one line, and {value.splitlines()[1]!r} is indented behind it")
     return found
 
 
