@@ -18,10 +18,10 @@ BUGS = {
     "a condition is not judged again right before the change": ("test_steps.py Steps.test_condition", "store.py", "            if condition:\n                condition(before)\n", ""),
     "a content that is refused keeps its slots": ("test_steps.py Steps.test_condition", "store.py", "            self.unplace(bucket, content)\n", ""),
     "nothing is settled": ("test_steps.py Steps.test_settled", "store.py", "            self.writer.tidy(bucket, anew=True)\n", "            bucket.look(own=True)\n"),
-    "what got no answer is forgotten": ("test_steps.py Times.test_no_answer", "shared.py", "max(least, self.unsure.get(name, 0) + 1)", "least"),
+    "what got no answer is forgotten": ("test_steps.py Times.test_no_answer", "shared.py", "self.unsure.get(name, 0) + 1, ", ""),
     "an upload stays once it is complete": ("test_steps.py Steps.test_complete", "store.py", "besides = frozenset[str]() if self.trip else frozenset([name])", "besides = frozenset[str]()"),
     "what was replaced gets other words": ("test_steps.py Steps.test_touch_after_a_change", "store.py", "            if not held or held.version != seen.version:\n", "            if not held:\n"),
-    "changes of one name go side by side": ("test_operations.py Objects.test_conditions_of_puts", "shared.py", "            with lock:\n                yield", "            yield"),
+    "changes of one name go side by side": ("test_operations.py Objects.test_conditions_of_puts", "store.py", "            with turn:\n", "            if True:\n"),
     "any page that was read once will do": ("histories_in_memory.py 0 30", "shared.py", "if found and found.tag == listed != client.seen[session - 1].tag and", "if found and found.tag != client.seen[session - 1].tag and"),
     "who waits for several sessions is overlooked": ("test_forms.py Sessions", "sessions.py", "        if self.gathering.count:\n", "        if self.gathering.lock.locked():\n"),
     "signatures are not compared": ("test_forms.py Signing.test_who", "signing.py", "if not hmac.compare_digest(right.encode(), signature.encode(errors=\"surrogateescape\")):", "if False:"),
@@ -48,6 +48,7 @@ BUGS = {
     "a range is told with the checksum of the whole": ("test_operations.py Checksums.test_puts_and_copies", "objects.py", "if found.checksum and not part and", "if found.checksum and"),
     "a change knows the headers of others": ("test_malformed.py Malformed.test_changes_that_are_not_known", "routes.py", "headers - OF_ANY_CHANGE - change.headers", "headers - OF_ANY_CHANGE - OF_A_COPY - change.headers"),
     "elements that are not known mean nothing": ("test_malformed.py Malformed.test_changes_that_are_not_known", "markup.py", "        if each.name not in known.get(found.name, ()):\n", "        if False:\n"),
+    "a put is before a change that had its turn first": ("test_steps.py Steps.test_put_that_looked_before", "shared.py", ", self.numbers.get(name, 0) + 1)", ")"),
     "a client that leaves is a fault": ("test_malformed.py Malformed.test_a_client_that_leaves", "connections.py", " or isinstance(exc, (ConnectionError, RequestPayloadError)):", ":"),
 }
 

@@ -461,9 +461,15 @@ class Clock(Case):
             self.assertEqual([turns.time_after(0), turns.time_after(far)], [now, far + 1])
 
     def test_numbers(self):
+        """Each is above those that had their turn since it looked, and that may still take effect."""
         turns = Turns()
         turns.is_unsure("a", 7)
         self.assertEqual((turns.number_for("a", 3), turns.number_for("a", 9), turns.number_for("b", 3)), (8, 9, 3))
+        with turns.under_way("c"):
+            with turns.under_way("c"):
+                self.assertEqual(turns.number_for("c", 3), 3)
+            self.assertEqual((turns.number_for("c", 2), turns.number_for("c", 9), turns.number_for("d", 2)), (4, 9, 2))
+        self.assertEqual((turns.number_for("c", 2), turns.locks, turns.numbers), (2, {}, {}))
 
 
 class Installed(unittest.TestCase):

@@ -26,9 +26,9 @@ NAME, BUCKET = "bucket/key", "bucket"
 OLD, PARTS = b"old" * 100, [b"a" * 500, b"b" * 10, b"c" * 700]
 
 
-def client(memory, number=1, at_step=None):
+def client(memory, number=1, at_step=None, shared=None):
     def kind(session, layout, helpers=tuple, team=None):
-        found = Store(session, layout, Shared())
+        found = Store(session, layout, shared or Shared())
         found.team = OneByOne()
         return found
 
@@ -279,6 +279,31 @@ class Steps(unittest.TestCase):
         put(files, NAME, b"new" * 200, "new")
         self.assertIsNone(files.touch(NAME, seen, lambda: {"m": "y"}))
         self.assertEqual((content_of(files, NAME), of_words(files.look(NAME).words)["m"]), (b"new" * 200, "new"))
+
+    def test_put_that_looked_before(self):
+        """Another session of the gateway gives what is there other words, or puts by a condition, while a put is under way: that has its turn afterwards, and so
+        is what comes last."""
+        new, held = b"new" * 100, []
+        for change in (
+            lambda other: other.touch(NAME, other.look(NAME), lambda: {"m": "y"}), lambda other: other.put_object(NAME, Body(OLD), lambda: {"m": "y"}, held.append),
+        ):  # fmt: skip
+            memory, shared = fresh(), Shared()
+            mine, other = client(memory, 1, shared=shared), client(memory, 2, shared=shared)
+
+            class Between(Body):
+                def read(self, length):
+                    self.read = super().read
+                    self.changed = change(other)
+                    return self.read(length)
+
+            with mock.patch("gridfs_client.buckets.moment", lambda: 0):
+                put(other, NAME, OLD)
+                body = Between(new)
+                mine.put_object(NAME, body, lambda: {"m": "new"})
+            self.assertTrue(body.changed)
+            found = client(memory).look(NAME)
+            self.assertEqual((content_of(client(memory), NAME), of_words(found.words)["m"]), (new, "new"))
+        self.assertEqual([of_words(each.words)["m"] for each in held], ["x", "x"])
 
 
 class Contents(unittest.TestCase):

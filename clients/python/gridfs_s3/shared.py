@@ -24,24 +24,26 @@ class Turns:
 
     def __init__(self) -> None:
         self.guard = threading.Lock()
-        self.locks: dict[str, tuple[threading.Lock, int]] = {}
+        self.locks: dict[str, tuple[threading.Lock, int]] = {}  # of names, and how many changes of them are under way
+        self.numbers: dict[str, int] = {}  # of the last versions of these names
         self.unsure: dict[str, int] = {}  # names, and the number of a version that may still take effect, since nobody answered
         self.last = 0  # the last time that was given
 
     @contextmanager
-    def turn(self, name: str) -> Iterator[None]:
-        """Changes of one name go one after another within a gateway."""
+    def under_way(self, name: str) -> Iterator[threading.Lock]:
+        """A change of a name, from its first look on; and the lock by which changes of one name go one after another within a gateway."""
         with self.guard:
             lock, count = self.locks.get(name, (threading.Lock(), 0))
             self.locks[name] = lock, count + 1
         try:
-            with lock:
-                yield
+            yield lock
         finally:
             with self.guard:
                 lock, count = self.locks.pop(name)
                 if count > 1:
                     self.locks[name] = lock, count - 1
+                else:
+                    self.numbers.pop(name, None)
 
     def time_after(self, before: int) -> int:
         """The time of a change, in milliseconds since the epoch. It is after that of what the name held, and after all that were given before, even
@@ -60,8 +62,13 @@ class Turns:
                 self.last = max(self.last, before)
 
     def number_for(self, name: str, least: int) -> int:
-        """The number of a version: at least so great, and above that of a change of this gateway that may still take effect."""
-        return max(least, self.unsure.get(name, 0) + 1)
+        """The number of a version: at least so great, and above that of a change of this gateway that may still take effect, or had its turn since this one
+        looked."""
+        with self.guard:
+            number = max(least, self.unsure.get(name, 0) + 1, self.numbers.get(name, 0) + 1)
+            if name in self.locks:
+                self.numbers[name] = number
+            return number
 
     def is_unsure(self, name: str, number: int) -> None:
         """A change got no answer: later ones have to be greater, so that it is over once one of them has ended."""

@@ -133,13 +133,14 @@ class Store(Reader):
         What the condition raises, NoRoom, S3Error of the content: nothing was changed. Unanswered, SessionTaken, CarrierFault: it may take effect
         until this session has changed the page again.
         """
-        held, bucket = self.look_for_change(name), self.bucket(name)
-        if condition:
-            condition(held)  # (before a long content is moved)
-        self.make_room(bucket, self.shortest_line(bucket, name, values))
-        placed = content(bucket, held)
-        with self.shared.turns.turn(name):
-            return self.commit_in_turn(bucket, name, placed, values, condition, besides)
+        with self.shared.turns.under_way(name) as turn:
+            held, bucket = self.look_for_change(name), self.bucket(name)
+            if condition:
+                condition(held)  # (before a long content is moved)
+            self.make_room(bucket, self.shortest_line(bucket, name, values))
+            placed = content(bucket, held)
+            with turn:
+                return self.commit_in_turn(bucket, name, placed, values, condition, besides)
 
     def look_for_change(self, name: str) -> Held | None:
         """What a name holds, for a change by this session. Elsewhere where the change is another grid's."""
