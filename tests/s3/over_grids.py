@@ -143,8 +143,11 @@ class Model:
         self.beside, self.condition = {}, {}  # metadata; headers of the next put
         s3.meta.events.register("before-sign.s3.PutObject", lambda request, **_: [request.headers.__setitem__(*each) for each in self.condition.items()])
         s3.create_bucket(Bucket="moved")
-        for key in ("short", "long", "copied", "touched", "removed", "odd/", "given/a", "given/b"):
+        for key in ("short", "long", "copied", "touched", "removed", "odd/", "given/a", "given/b", "tagged", "tagged by stages"):
             self.put(key)
+        self.tags, self.at_first = {}, {key: self.told(key) for key in ("tagged", "tagged by stages")}
+        for key in self.at_first:
+            self.tag(key, "first")
         for key in ("from the beginning", *(f"begun {number}" for number in range(STAGES))):
             self.begin(key)
 
@@ -153,13 +156,22 @@ class Model:
             self.wrong.append(f"{self.stage}: {what}: {str(found)[:200]} in place of {str(wanted)[:200]}")
 
     def body(self, key):
-        return self.draw.randbytes({"long": 2_500_000, "touched": 100_000}.get(key) or self.draw.choice((10, 5_000)))
+        return self.draw.randbytes({"long": 2_500_000, "touched": 100_000, "tagged by stages": 1_300_000}.get(key) or self.draw.choice((10, 5_000)))
 
     def put(self, key, **condition):
         body = self.body(key)
         self.condition = condition
         self.s3.put_object(Bucket="moved", Key=key, Body=body, Metadata={"of": key.strip("/")})
         self.condition, self.objects[key], self.beside[key] = {}, body, key.strip("/")
+
+    def tag(self, key, value):
+        self.s3.put_object_tagging(Bucket="moved", Key=key, Tagging={"TagSet": [{"Key": "of", "Value": value}]})
+        self.tags[key] = [{"Key": "of", "Value": value}]
+
+    def told(self, key):
+        """What a change of tags leaves as it is, beside content and metadata."""
+        found = self.s3.head_object(Bucket="moved", Key=key)
+        return found["ETag"], found["LastModified"]
 
     def begin(self, key):
         self.uploads[key] = self.s3.create_multipart_upload(Bucket="moved", Key=key, Metadata={"of": key})["UploadId"], []
@@ -195,6 +207,7 @@ class Model:
         s3.copy_object(Bucket="moved", Key="copied", CopySource={"Bucket": "moved", "Key": "long"})
         self.objects["copied"], self.beside["copied"] = self.objects["long"], "long"
         s3.copy_object(Bucket="moved", Key="touched", CopySource={"Bucket": "moved", "Key": "touched"}, MetadataDirective="REPLACE", Metadata={"of": "touched", "at": stage})
+        self.tag("tagged by stages", stage.replace(",", ""))
         s3.delete_object(Bucket="moved", Key="removed")
         self.objects.pop("removed", None)
         self.refused(s3.get_object, "NoSuchKey", Key="removed")
@@ -223,6 +236,9 @@ class Model:
             self.expect(f"the content of {key}", found["Body"].read(), body)
             self.expect(f"what is beside {key}", (found["Metadata"].get("of"), found["ContentLength"]), (self.beside[key], len(body)))
             self.expect(f"a range of {key}", self.s3.get_object(Bucket="moved", Key=key, Range="bytes=3-8")["Body"].read(), body[3:9])
+        for key, tags in self.tags.items():
+            self.expect(f"the tags of {key}", self.s3.get_object_tagging(Bucket="moved", Key=key)["TagSet"], tags)
+            self.expect(f"what tags leave of {key}", self.told(key), self.at_first[key])
         told = self.s3.list_objects_v2(Bucket="moved").get("Contents", [])
         self.expect("a listing", {each["Key"]: each["Size"] for each in told}, {key: len(body) for key, body in self.objects.items()})
         told = self.s3.list_multipart_uploads(Bucket="moved").get("Uploads", [])

@@ -20,7 +20,7 @@ BUGS = {
     "nothing is settled": ("test_steps.py Steps.test_settled", "store.py", "            self.writer.tidy(bucket, anew=True)\n", "            bucket.look(own=True)\n"),
     "what got no answer is forgotten": ("test_steps.py Times.test_no_answer", "shared.py", "self.unsure.get(name, 0) + 1, ", ""),
     "an upload stays once it is complete": ("test_steps.py Steps.test_complete", "store.py", "besides = frozenset[str]() if self.trip else frozenset([name])", "besides = frozenset[str]()"),
-    "what was replaced gets other words": ("test_steps.py Steps.test_touch_after_a_change", "store.py", "            if not held or held.version != seen.version:\n", "            if not held:\n"),
+    "what was replaced gets other words": ("test_steps.py Steps.test_touch_after_a_change", "store.py", "    if not held or held.version != seen.version:\n", "    if not held:\n"),
     "changes of one name go side by side": ("test_operations.py Objects.test_conditions_of_puts", "store.py", "            with turn:\n", "            if True:\n"),
     "any page that was read once will do": ("histories_in_memory.py 0 30", "shared.py", "if found and found.tag == listed != client.seen[session - 1].tag and", "if found and found.tag != client.seen[session - 1].tag and"),
     "who waits for several sessions is overlooked": ("test_forms.py Sessions", "sessions.py", "        if self.gathering.count:\n", "        if self.gathering.lock.locked():\n"),
@@ -49,6 +49,12 @@ BUGS = {
     "a change knows the headers of others": ("test_malformed.py Malformed.test_changes_that_are_not_known", "routes.py", "headers - OF_ANY_CHANGE - change.headers", "headers - OF_ANY_CHANGE - OF_A_COPY - change.headers"),
     "elements that are not known mean nothing": ("test_malformed.py Malformed.test_changes_that_are_not_known", "markup.py", "        if each.name not in known.get(found.name, ()):\n", "        if False:\n"),
     "a put is before a change that had its turn first": ("test_steps.py Steps.test_put_that_looked_before", "shared.py", ", self.numbers.get(name, 0) + 1)", ")"),
+    "tags give a time to what has none": ("test_operations.py Tags.test_other_clients", "tagging.py", ', "t": str(found.time)', ""),
+    "a change of tags is one of the content": ("test_operations.py Tags.test_changes", "store.py", '{"t": stamp, **values()}', '{**values(), "t": stamp}'),
+    "tags are not changed where a slice is moved": ("over_grids.py once", "tagging.py", "if not await self.copies.touched(asked, name, values, is_settled):", "if not await self.copies.touched(asked, name, values, is_settled) and not self.grids.map:"),
+    "a copy onto itself loses its tags": ("test_operations.py Tags.test_copies", "copying.py", "(old_tags if new_tags is None else new_tags)", "(new_tags or {})"),
+    "what others may change is judged": ("test_operations.py Tags.test_some_sessions", "gateway.py", "if not self.grids.has_all and all(", "if False and all("),
+    "two tags may have the same key": ("test_forms.py Tags.test_limits", "tags.py", "    if len(dict(pairs)) < len(pairs):\n", "    if False:\n"),
     "a client that leaves is a fault": ("test_malformed.py Malformed.test_a_client_that_leaves", "connections.py", " or isinstance(exc, (ConnectionError, RequestPayloadError)):", ":"),
 }
 

@@ -27,7 +27,7 @@ from gridfs_client.core import Version
 from gridfs_client.buckets import Held
 from gridfs_client.errors import Damaged
 from gridfs_client.pages import check_words
-from gridfs_s3 import checksums, markup, setting_up, signing
+from gridfs_s3 import checksums, markup, setting_up, signing, tags
 from gridfs_s3.bodies import Body
 from gridfs_s3.copying import range_to_copy
 from gridfs_s3.errors import S3Error
@@ -174,6 +174,39 @@ class Markup(Case):
         found = markup.parse(b'<Delete xmlns="http://s3.amazonaws.com/doc/2006-03-01/"><Object><Key> a&amp;b </Key></Object><Quiet> true </Quiet></Delete>', "Delete")
         self.assertEqual((found.all("Object")[0].told("Key"), found.told("Quiet"), found.told("None")), (" a&b ", "true", None))
         self.assertEqual(markup.element("Key", "<&\r\x01"), "<Key>&lt;&amp;&#xD;&#x1;</Key>")
+
+
+class Tags(Case):
+    def test_limits(self):
+        """Ten tags, keys of 128 and values of 256 places in UTF-16, and the letters that S3 has."""
+        most = [(f"{number}{'é' * 127}", "日" * 256) for number in range(10)]
+        self.assertEqual(tags.words_of(most), {"g-" + key: value for key, value in most})
+        for pair in (("k" * 128, ""), ("a b+-=._:/@", "a b+-=._:/@"), ("AWS", "aws:"), ("٣", "Ⅷ"), ("a", "𐐀" * 128)):
+            self.assertEqual(tags.words_of([pair]), {"g-" + pair[0]: pair[1]})
+        for pairs in (
+            [*most, ("a", "")], [("", "a")], [("k" * 129, "")], [("a", "v" * 257)], [("a", "1"), ("b", ""), ("a", "2")], [("aws:a", "")], [("Aws:a", "")],
+            [("a,b", "")], [("a", "<")], [("a\n", "")], [("a", "\x00")], [("a", "\udc80")], [("a", "𐐀" * 129)],
+        ):  # fmt: skip
+            self.fails("InvalidTag", tags.words_of, pairs)
+
+    def test_beside_a_content(self):
+        """They are told as they were given, and no word beside them is one of them."""
+        given = {"a&b": "c=d", "g-": "x", "t": "1", "m": "", "ü %": "+"}
+        values = {"t": "1", "x-g-a": "no tag", **{"g-" + key: value for key, value in given.items()}}
+        found = of_words(to_words(values))
+        self.assertEqual(found, values)
+        self.assertEqual(tags.among(found), {"g-" + key: value for key, value in given.items()})
+
+    def test_documents(self):
+        pair = "<Tag><Key>a</Key><Value> b </Value></Tag>"
+        root = lambda text: markup.parse(f"<Tagging>{text}</Tagging>".encode(), "Tagging", tags.ELEMENTS)
+        self.assertEqual(tags.in_document(root(f"<TagSet>{pair}</TagSet>")), {"g-a": " b "})
+        self.assertEqual(tags.in_document(root("<TagSet/>")), {})
+        self.assertTrue(tags.document_of({"t": "1", "g-a<": "&"}).endswith(b"<TagSet><Tag><Key>a&lt;</Key><Value>&amp;</Value></Tag></TagSet></Tagging>"))
+        for text in ("", "<TagSet/><TagSet/>", "<TagSet><Tag/></TagSet>", "<TagSet><Tag><Key>a</Key></Tag></TagSet>", f"<TagSet>{pair.replace('</Tag>', '<Key>b</Key></Tag>')}</TagSet>"):
+            self.fails("MalformedXML", tags.in_document, root(text))
+        for text in (pair, f"<TagSet>{pair}<Other/></TagSet>", f"<TagSet>{pair.replace('<Key>', '<Key><Other/>')}</TagSet>"):
+            self.fails("NotImplemented", root, text)
 
 
 class Hosts(Case):

@@ -248,7 +248,7 @@ class Malformed(unittest.TestCase):
         empty, body = b"Content-Length: 0\r\n\r\n", b"Content-Length: 1\r\n\r\nx"
         of_parts = f"<CompleteMultipartUpload><Part><PartNumber>1</PartNumber><ETag>{etag}</ETag></Part></CompleteMultipartUpload>".encode()
         sized = lambda content: b"Content-Length: %d\r\n\r\n" % len(content) + content
-        completion = sized(of_parts)
+        completion, tagged = sized(of_parts), sized(b"<Tagging><TagSet><Tag><Key>a</Key><Value>b</Value></Tag></TagSet></Tagging>")
         removal = lambda more: (f"Content-Length: {75 + len(more)}\r\n\r\n<Delete><Object><Key>k</Key>{more}</Object><Object><Key>l</Key></Object></Delete>").encode()
         for method, path, headers, rest in [
             ("PUT", "/two/k?renameObject", {}, empty), ("PUT", "/two/k?anything", {}, body), ("PUT", "/two/k?partNumber=1", {}, body), ("PUT", "/two/k?acl", {}, body), ("PUT", "/two?anything=1", {}, empty),
@@ -264,6 +264,9 @@ class Malformed(unittest.TestCase):
             ("PUT", in_parts + "&partNumber=1", {"x-amz-metadata-directive": "REPLACE"}, body), ("DELETE", "/two/k", {"x-amz-copy-source": "two/k"}, empty), ("PUT", "/two/k", {"x-amz-checksum-type": "COMPOSITE"}, body),
             ("PUT", "/three", {}, sized(b"<CreateBucketConfiguration><Tags><Tag><Key>a</Key></Tag></Tags></CreateBucketConfiguration>")),
             ("POST", "/two?delete", {}, sized(b"<Delete><Object><Key>k</Key></Object><BypassAll>true</BypassAll></Delete>")),
+            ("PUT", "/two/k?tagging", {"If-Match": "x"}, tagged), ("PUT", "/two/k?tagging&anything", {}, tagged), ("PUT", "/two/k?tagging&versionId=7", {}, tagged), ("DELETE", "/two/k?tagging", {"If-Match": "x"}, empty),
+            ("PUT", "/two/k?tagging", {}, sized(b"<Tagging><TagSet><Tag><Key>a</Key><Value>b</Value><Kind/></Tag></TagSet></Tagging>")), ("PUT", "/two?tagging", {}, tagged), ("DELETE", "/two?tagging", {}, empty),
+            ("PUT", "/two/k", {"x-amz-tagging-directive": "REPLACE"}, body), ("PUT", in_parts + "&partNumber=1", {"x-amz-tagging": "a=b"}, body), ("POST", in_parts, {"x-amz-tagging": "a=b"}, completion),
             ("POST", in_parts, {}, sized(of_parts.replace(b"</Part>", b"<Size>4</Size></Part>"))), ("POST", in_parts, {}, sized(of_parts.replace(b"</ETag>", b"<x/></ETag>"))),
         ]:  # fmt: skip
             told = code_of(exchange(signed(method, path, headers) + rest))
@@ -271,6 +274,9 @@ class Malformed(unittest.TestCase):
         for method, path in (("PUT", "/two/k"), ("DELETE", "/two/k"), ("DELETE", "/empty")):
             self.tells(403, "AccessDenied", signed(method, path, {"x-amz-expected-bucket-owner": "dave"}) + body)
         self.tells(405, "MethodNotAllowed", signed("PATCH", "/two/k") + body)
+        for text in (b"<Tagging/>", b"<TagSet/>", b"<Tagging><TagSet/><TagSet/></Tagging>", b"<Tagging><TagSet><Tag><Key>a</Key></Tag></TagSet></Tagging>", b"<Tagging>", b""):
+            self.tells(400, "MalformedXML", signed("PUT", "/two/k?tagging") + sized(text))
+        self.assertEqual(S3.get_object_tagging(Bucket="two", Key="k")["TagSet"], [])
         self.assertEqual(S3.get_object(Bucket="two", Key="k")["Body"].read(), b"kept")
         self.assertEqual([each["Name"] for each in S3.list_buckets()["Buckets"]], ["empty", "one", "two"])
         self.tells(400, "InvalidRequest", signed("POST", in_parts, {"x-amz-mp-object-size": "5"}) + completion)

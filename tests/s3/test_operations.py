@@ -140,7 +140,6 @@ class Buckets(Case):
             (self.s3.put_object, {"Key": "a", "Body": b"", "ServerSideEncryption": "AES256"}),
             (self.s3.put_object, {"Key": "a", "Body": b"", "ACL": "public-read"}),
             (self.s3.put_object, {"Key": "a", "Body": b"", "StorageClass": "GLACIER"}),
-            (self.s3.put_object, {"Key": "a", "Body": b"", "Tagging": "a=b"}),
             (self.s3.delete_objects, {"Delete": {"Objects": [{"Key": "a", "VersionId": "1"}]}}),
         ]:  # fmt: skip
             self.fails("NotImplemented", call, Bucket=self.bucket, **words)
@@ -441,6 +440,163 @@ class Checksums(Case):
         self.assertEqual((told["ObjectSize"], "ETag" in told, "Checksum" in told), (5, False, False))
         self.fails("NoSuchKey", self.s3.get_object_attributes, Bucket=self.bucket, Key="none", ObjectAttributes=["ETag"])
         self.fails("InvalidArgument", self.s3.get_object_attributes, Bucket=self.bucket, Key="known", ObjectAttributes=["Anything"])
+
+
+class Tags(Case):
+    """They stand beside a content; a change of them leaves all else as it is."""
+
+    GIVEN, OTHERS = {"one": "1", "two words": "ü / 日", "none": ""}, {"b:c": "d=e", "ü": "a+b"}
+
+    def tags(self, key):
+        return [(each["Key"], each["Value"]) for each in self.s3.get_object_tagging(Bucket=self.bucket, Key=key)["TagSet"]]
+
+    def expect(self, key, wanted):
+        """That an object has these tags, in their order, and is told with their number."""
+        self.assertEqual(self.tags(key), list(wanted.items()))
+        count = str(len(wanted)) if wanted else None
+        for call in (self.get, self.s3.head_object):
+            words = {"key": key} if call == self.get else {"Bucket": self.bucket, "Key": key}
+            for more in ({}, {"Range": "bytes=0-0"}):
+                self.assertEqual(call(**words, **more)["ResponseMetadata"]["HTTPHeaders"].get("x-amz-tagging-count"), count, (key, more))
+
+    def give(self, key, tags, bucket=None):
+        return self.s3.put_object_tagging(Bucket=bucket or self.bucket, Key=key, Tagging={"TagSet": [{"Key": name, "Value": value} for name, value in tags.items()]})
+
+    def all_else(self, key):
+        """What a change of tags leaves as it is."""
+        found = self.get(key, ChecksumMode="ENABLED")
+        told = {name: value for name, value in found["ResponseMetadata"]["HTTPHeaders"].items() if name not in ("date", "x-amz-request-id", "x-amz-tagging-count")}
+        listed = self.s3.list_objects_v2(Bucket=self.bucket, Prefix=key)["Contents"]
+        return found["Body"].read(), told, [(each["Key"], each["LastModified"], each["ETag"]) for each in listed]
+
+    def objects(self):
+        """Keys of objects of several kinds, which have no tags yet: contents in a line and in slots, of parts, and under a digest."""
+        words = {"Metadata": {"a": "b"}, "ContentType": "x/y", "CacheControl": "no-store"}
+        self.put("short", b"hi", **words, ChecksumAlgorithm="CRC32")
+        self.put("long", os.urandom(100_000), **words, ChecksumAlgorithm="SHA256")
+        self.put("odd/", b"odd", **words)
+        Uploads.complete(self, *Uploads.upload(self, "parts", {1: os.urandom(70_000), 2: os.urandom(80_000)}, **words))
+        return "short", "long", "odd/", "parts"
+
+    def test_puts(self):
+        """Each brings all tags that the object has from then on."""
+        for given in (self.GIVEN, self.OTHERS, {}):
+            self.put("put", b"hi", Tagging=urlencode(given))
+            self.expect("put", given)
+        self.put("put", b"hi", Tagging="alone&&twice=1=2&plus=a+b")
+        self.expect("put", {"alone": "", "twice": "1=2", "plus": "a b"})
+        for text in ("a=1&a=2", "a=%01", "=1", "&".join(f"{number}=" for number in range(11))):
+            self.fails("InvalidTag", self.put, key="put", body=b"other", Tagging=text)
+        self.fails("InvalidArgument", self.put, key="put", body=b"other", Tagging="a=%FF")
+        self.assertEqual(self.get("put")["Body"].read(), b"hi")
+
+    def test_uploads(self):
+        Uploads.complete(self, *Uploads.upload(self, "upload", {1: b"a" * 70_000, 2: b"b"}, Tagging=urlencode(self.GIVEN)))
+        self.expect("upload", self.GIVEN)
+        self.fails("InvalidTag", self.s3.create_multipart_upload, Bucket=self.bucket, Key="upload", Tagging="a=1&a=2")
+
+    def test_copies(self):
+        """They have the tags of their source, or those that they bring; also a copy onto itself, which moves no content."""
+        for key in self.objects():
+            self.s3.copy_object(Bucket=self.bucket, Key=key, CopySource={"Bucket": self.bucket, "Key": key}, TaggingDirective="REPLACE", Tagging=urlencode(self.GIVEN))
+            self.expect(key, self.GIVEN)
+            self.assertEqual(self.get(key)["Metadata"], {"a": "b"})
+            for target in ("copy", key):
+                copy = {"Bucket": self.bucket, "Key": target, "CopySource": {"Bucket": self.bucket, "Key": key}, "MetadataDirective": "REPLACE", "Metadata": {"c": "d"}}
+                for more, wanted in (({}, self.GIVEN), ({"TaggingDirective": "REPLACE", "Tagging": urlencode(self.OTHERS)}, self.OTHERS), ({"TaggingDirective": "REPLACE"}, {})):
+                    self.s3.copy_object(**copy, **more)
+                    self.expect(target, wanted)
+                    self.assertEqual(self.get(target)["Metadata"], {"c": "d"})
+                    self.s3.copy_object(**{**copy, "Key": key, "CopySource": {"Bucket": self.bucket, "Key": key}}, TaggingDirective="REPLACE", Tagging=urlencode(self.GIVEN))
+        copy = {"Bucket": self.bucket, "Key": "copy", "CopySource": f"{self.bucket}/short"}
+        self.fails("InvalidRequest", self.s3.copy_object, **copy, Tagging="a=b")
+        self.fails("InvalidRequest", self.s3.copy_object, **copy, TaggingDirective="COPY", Tagging="a=b")
+        self.fails("InvalidArgument", self.s3.copy_object, **copy, TaggingDirective="MERGE")
+        self.fails("InvalidTag", self.s3.copy_object, **copy, TaggingDirective="REPLACE", Tagging="a=1&a=2")
+
+    @unittest.skipIf(IS_ONE_OF_SEVERAL, "tags are changed by a gateway that has all sessions")
+    def test_changes(self):
+        for key in self.objects():
+            before = self.all_else(key)
+            for given in (self.GIVEN, self.OTHERS, self.OTHERS, {}, self.GIVEN):
+                self.give(key, given)
+                self.expect(key, given)
+                self.assertEqual(self.all_else(key), before)
+            self.s3.delete_object_tagging(Bucket=self.bucket, Key=key)
+            self.expect(key, {})
+            self.assertEqual(self.all_else(key), before)
+        for call, words in ((self.s3.delete_object_tagging, {}), (self.s3.put_object_tagging, {"Tagging": {"TagSet": []}})):
+            self.fails("NoSuchKey", call, Bucket=self.bucket, Key="none", **words)
+            self.fails("NoSuchBucket", call, Bucket="no-such-bucket", Key="none", **words)
+        self.fails("InvalidTag", self.give, key="short", tags={"x" * 129: ""})
+        self.fails("InvalidTag", self.give, key="short", tags={str(number): "" for number in range(11)})
+        most = {f"{number}{'x' * 127}": "y" * 256 for number in range(10)}
+        self.give("short", most)
+        self.expect("short", most)
+
+    @unittest.skipIf(IS_ONE_OF_SEVERAL, "tags are changed by a gateway that has all sessions")
+    def test_no_room(self):
+        """Tags that a page has no room for: the object is as it was."""
+        if not ROOM:
+            self.skipTest("pages of 16 KiB are wanted")
+        for key in self.objects():
+            self.give(key, self.GIVEN)
+            before = self.all_else(key)
+            told = self.fails("InsufficientStorage", self.give, key=key, tags={str(number): "日" * 256 for number in range(10)})
+            self.assertIn("no room for these", told["Error"]["Message"])
+            self.expect(key, self.GIVEN)
+            self.assertEqual(self.all_else(key), before)
+
+    @unittest.skipIf(IS_ONE_OF_SEVERAL, "tags are changed by a gateway that has all sessions")
+    def test_beside_puts(self):
+        """A change of tags undoes no put that comes meanwhile, and leaves no tags beside another content than they were given."""
+        is_over, s3 = False, client()
+
+        def change():
+            while not is_over:
+                try:
+                    self.give("raced", {"a": "b"})
+                except ClientError as fault:
+                    if fault.response["Error"]["Code"] != "ServiceUnavailable":  # (where the other one is faster each time)
+                        raise
+
+        for size in (10, 60_000):
+            is_over = False
+            self.put("raced", b"0" * size)
+            with ThreadPoolExecutor(3) as pool:
+                changes = [pool.submit(change) for _ in range(3)]
+                try:
+                    for number in range(1, 40):
+                        content = b"%d" % number * size
+                        s3.put_object(Bucket=self.bucket, Key="raced", Body=content)
+                        self.assertEqual(s3.get_object(Bucket=self.bucket, Key="raced")["Body"].read(), content)
+                finally:
+                    is_over = True
+                for each in changes:
+                    each.result()
+
+    def test_other_clients(self):
+        """What another client put has no time, and gets none by its tags."""
+        if not ROOM:
+            self.skipTest("the sessions of a stand-in are wanted")
+        for key, content in (("by name", b"hi"), ("long by name", os.urandom(100_000))):
+            Lent.command(self, "put", "-", f"{self.bucket}/{key}", given=content)
+            before = self.all_else(key)
+            self.assertEqual(self.s3.head_object(Bucket=self.bucket, Key=key)["LastModified"].timestamp(), 0)
+            self.give(key, self.GIVEN)
+            self.expect(key, self.GIVEN)
+            self.assertEqual(self.all_else(key), before)
+            self.assertEqual(Lent.command(self, "get", f"{self.bucket}/{key}"), content)
+
+    def test_some_sessions(self):
+        """A gateway that has not all sessions can't know who else puts: it takes tags with a put, and changes none."""
+        with endpoint.stand_in() as room, endpoint.gateways(room, "1-4") as (gateway,):
+            s3 = gateway.client()
+            s3.create_bucket(Bucket="some")
+            s3.put_object(Bucket="some", Key="a", Body=b"hi", Tagging="a=b")
+            self.fails("NotImplemented", s3.put_object_tagging, Bucket="some", Key="a", Tagging={"TagSet": []})
+            self.fails("NotImplemented", s3.delete_object_tagging, Bucket="some", Key="a")
+            self.assertEqual(s3.get_object_tagging(Bucket="some", Key="a")["TagSet"], [{"Key": "a", "Value": "b"}])
 
 
 def sums_in(told):

@@ -12,6 +12,7 @@ from aiohttp import web
 
 from gridfs_client.buckets import Held
 
+from . import tags
 from .bodies import Whole
 from .bounds import LONG
 from .checksums import ALGORITHMS, Checksum, of_digest
@@ -91,6 +92,7 @@ class Copies(Operations):
 
     async def copied(
         self,
+        place: tuple[str, str],
         asked: Asked,
         put: Callable[[Store, Body, Object], Told],
         choose: Callable[[Object], tuple[int, int]],
@@ -98,9 +100,9 @@ class Copies(Operations):
         number: int | None = None,
         condition: Condition | None = None,
     ) -> Told:
-        """Has one session read an object, in the range that is chosen, and another one put it: `put` is given what reads the content. 404 NoSuchBucket,
-        NoSuchKey; 412 PreconditionFailed; 416 InvalidRange."""
-        bucket, key = self.source_of(asked)
+        """Has one session read an object, by its bucket and key, in the range that is chosen, and another one put it: `put` is given what reads the content.
+        404 NoSuchBucket, NoSuchKey; 412 PreconditionFailed; 416 InvalidRange."""
+        bucket, key = place
         await self.gateway.need_bucket(bucket)
         name, part, found = name_of(bucket, key), (0, 0), list[Object]()
 
@@ -159,21 +161,23 @@ class Copies(Operations):
         raise S3Error("ServiceUnavailable", "Many others change this at the same time. Nothing was changed.")
 
     async def copy_object(self, asked: Asked) -> web.Response:
-        """200; a copy of an object onto itself with other metadata moves no content. 400 InvalidArgument, InvalidRequest (nothing would change);
+        """200; a copy of an object onto itself with other metadata or tags moves no content. 400 InvalidArgument, InvalidRequest (nothing would change), InvalidTag;
         404 NoSuchBucket, NoSuchKey; 412 PreconditionFailed; 507 InsufficientStorage."""
         await self.gateway.need_bucket(asked.bucket)
         bucket, key = self.source_of(asked)
         name, directive = name_of(asked.bucket, asked.key), asked.headers.get("x-amz-metadata-directive", "COPY")
         if directive not in ("COPY", "REPLACE"):
             raise S3Error("InvalidArgument", "x-amz-metadata-directive is COPY or REPLACE.")
-        if (bucket, key) == (asked.bucket, asked.key) and directive == "COPY":
+        new_tags = tags.in_place_of_the_sources(asked.headers)
+        if (bucket, key) == (asked.bucket, asked.key) and directive == "COPY" and new_tags is None:
             raise S3Error("InvalidRequest", "A copy onto itself has to change something: REPLACE.")
         new, algorithm = values_of(asked), algorithm_wanted(asked)
 
         def values_for(found: Object, source: Body | None) -> Values:
             old = found.values
-            kept = new if directive == "REPLACE" else {each: value for each, value in old.items() if each not in ("k", "u", "n", "m", "s", "t")}
-            values = {**kept, **({"k": asked.key} if name.startswith(KEYS) else {})}
+            old_tags = tags.among(old)
+            kept = new if directive == "REPLACE" else {each: value for each, value in old.items() if each not in ("k", "u", "n", "m", "s", "t", *old_tags)}
+            values = {**kept, **(old_tags if new_tags is None else new_tags), **({"k": asked.key} if name.startswith(KEYS) else {})}
             if source is None:  # (the content stays where it is)
                 return {**values, **{each: old[each] for each in ("m", "n", "s") if each in old}}
             return {**values, **values_by(source, algorithm or (found.checksum.algorithm if found.checksum else ""))}
@@ -186,10 +190,10 @@ class Copies(Operations):
         def put(store: Store, source: Body, found: Object) -> Held:
             return store.put_object(name, source, lambda: values_for(found, source), condition)
 
-        held = await self.copied(asked, put, lambda found: (0, found.size), name, condition=condition)
+        held = await self.copied((bucket, key), asked, put, lambda found: (0, found.size), name, condition=condition)
         return self.result("CopyObjectResult", Object(asked.key, held))
 
-    async def touched(self, asked: Asked, name: str, values: Callable[[Object], Values]) -> Held | None:
+    async def touched(self, asked: Asked, name: str, values: Callable[[Object], Values], condition: Condition | None = None) -> Held | None:
         """Gives an object other words where it stands; None where it has to be put anew."""
         for _ in range(3):
             found = await self.objects.found(asked)
@@ -198,7 +202,8 @@ class Copies(Operations):
             if number is not None and not self.grids.has_session(number):
                 return None
             try:
-                if held := await self.gateway.change(name, lambda store: store.touch(name, found.held, lambda: values(found)), number=number):
+                touch: Callable[[Store], Held | None] = lambda store: store.touch(name, found.held, lambda: values(found), condition)
+                if held := await self.gateway.change(name, touch, number=number, condition=condition):
                     return held
             except NoLine:
                 return None  # (of its own session; another one may have room)

@@ -27,6 +27,7 @@ ERRORS = {
     "InvalidPartOrder": (400, "The parts are not in ascending order."),
     "InvalidRange": (416, "The object has none of these bytes."),
     "InvalidRequest": (400, "The request is malformed."),
+    "InvalidTag": (400, "A tag is malformed."),
     "InvalidURI": (400, "The URI is malformed."),
     "KeyTooLongError": (400, "A key has at most 1,024 bytes."),
     "MalformedXML": (400, "The XML is malformed, or not what this request takes."),

@@ -236,18 +236,26 @@ class Gateway:
             return None
         if none not in (None, "*"):
             raise S3Error("NotImplemented", "If-None-Match of a put has to be *.")
-        if not self.grids.has_all and all(pool.is_open for pool in self.grids.pools.values()):
-            raise S3Error("NotImplemented", "Conditional puts need a gateway that has all sessions of its tenant: others write by the rest.")
 
-        def condition(held: Held | None) -> None:
-            if not self.grids.is_settled(name):
-                raise NotSettled
+        def judge(held: Held | None) -> None:
             if none and held:
                 raise S3Error("PreconditionFailed", Condition="If-None-Match")
             if match is not None and not held:
                 raise S3Error("NoSuchKey", Key=asked.key)
             if match is not None and held and not matches(match, Object(asked.key, held).etag):
                 raise S3Error("PreconditionFailed", Condition="If-Match")
+
+        return self.judged(name, judge)
+
+    def judged(self, name: str, judge: Condition) -> Condition:
+        """This condition, as nobody can change the name between it and the change. 501 NotImplemented where others may."""
+        if not self.grids.has_all and all(pool.is_open for pool in self.grids.pools.values()):
+            raise S3Error("NotImplemented", "Conditional puts, and changes of tags, need a gateway that has all sessions of its tenant: others write by the rest.")
+
+        def condition(held: Held | None) -> None:
+            if not self.grids.is_settled(name):
+                raise NotSettled
+            judge(held)
 
         return condition
 

@@ -9,7 +9,7 @@ from aiohttp import web
 
 from gridfs_client.buckets import Held
 
-from . import bodies, metrics
+from . import bodies, metrics, tags
 from .bodies import Spooled, Whole, body_of
 from .bounds import BODY_PIECE, IDLE, IN_HAND, IN_MEMORY, LONG, Spool, is_too_slow
 from .buckets import Buckets
@@ -93,6 +93,8 @@ def begun(asked: Asked, found: Object, part: tuple[int, int] | None) -> web.Stre
     headers = {**headers_of(found, asked), "x-amz-request-id": asked.id, "Server": SERVER, "Content-Security-Policy": "sandbox"}
     if found.checksum and not part and asked.headers.get(f"{HEADER}mode", "").upper() == "ENABLED":
         headers |= found.checksum.headers()
+    if count := len(tags.among(found.values)):
+        headers["x-amz-tagging-count"] = str(count)
     if part:
         headers["Content-Range"] = f"bytes {first}-{end - 1}/{found.size}"
     response = web.StreamResponse(status=206 if part else 200, headers=headers)
@@ -260,12 +262,6 @@ class Objects(Operations):
         await self.found(asked)
         return answer(self.buckets.acl())
 
-    async def get_object_tagging(self, asked: Asked) -> web.Response:
-        """200: no object has tags here. 404 NoSuchBucket, NoSuchKey."""
-        await self.gateway.need_bucket(asked.bucket)
-        await self.found(asked)
-        return answer(document("Tagging", many("TagSet")))
-
     async def get_object_attributes(self, asked: Asked) -> web.Response:
         """200: those that are asked for, and that the object has. 400 InvalidArgument; 404 NoSuchBucket, NoSuchKey."""
         wanted = {word.strip() for word in asked.headers.get("x-amz-object-attributes", "").split(",")}
@@ -300,13 +296,13 @@ class Objects(Operations):
 
     async def put_object(self, asked: Asked) -> web.Response:
         """200. With If-None-Match or If-Match: 412 PreconditionFailed, 404 NoSuchKey. 404 NoSuchBucket; 411 MissingContentLength; 507
-        InsufficientStorage; 400 BadDigest, EntityTooLarge, IncompleteBody, InvalidDigest, KeyTooLongError, MetadataTooLarge, RequestTimeout,
-        XAmzContentSHA256Mismatch; 403 SignatureDoesNotMatch (of a chunk). After these nothing was changed."""
+        InsufficientStorage; 400 BadDigest, EntityTooLarge, IncompleteBody, InvalidDigest, InvalidTag, KeyTooLongError, MetadataTooLarge,
+        RequestTimeout, XAmzContentSHA256Mismatch; 403 SignatureDoesNotMatch (of a chunk). After these nothing was changed."""
         await self.gateway.need_bucket(asked.bucket)
         name, body = name_of(asked.bucket, asked.key), body_of(asked)
         if body.told_size > LONGEST_PUT:
             raise S3Error("EntityTooLarge")
-        values, condition, algorithm = values_of(asked), await self.gateway.condition_of(asked, name), algorithm_wanted(asked)
+        values, condition, algorithm = values_of(asked) | tags.in_headers(asked.headers), await self.gateway.condition_of(asked, name), algorithm_wanted(asked)
         async with self.source_of(asked, body) as source:
 
             def put(store: Store) -> Held:

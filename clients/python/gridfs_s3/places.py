@@ -14,7 +14,7 @@ quoted as in a URL:
     n    how many parts it was uploaded in                         x-NAME   metadata of the client
     k    its key, where the name does not tell it                  u    the upload by which it came
     s    its checksum, as `crc32.BASE64`, of an upload also -N     a    of an upload: the algorithm that was named, and its kind, as `crc32.FULL_OBJECT`
-    i    of an upload: when it was begun
+    i    of an upload: when it was begun                           g-NAME   a tag
     p    of an upload: NUMBER.MD5.SIZE.SECONDS of each part, with / between: MD5 is in base64url, SECONDS are since the upload was begun. Behind that
          .CHECKSUM, where one is kept, in base64url, and its .ALGORITHM, where that is another one than was named. (Earlier uploads have NUMBER.MD5.SIZE.TIME,
          with , between and MD5 in hexadecimal)
@@ -39,6 +39,7 @@ PART = re.compile(r"([0-9]{1,5})\.([A-Za-z0-9_-]{22})\.([0-9]{1,19})\.([0-9]{1,9
 OLD_PART = re.compile(r"([0-9]{1,5})\.([0-9a-f]{32})\.([0-9]{1,19})\.([0-9]{1,13})")
 LONGEST_KEY, MOST_METADATA, MOST_KEPT = 1_024, 2_048, 8_192
 Values = dict[str, str]  # what stands beside a content, by its letters above
+TAG = "g-"
 BUCKETS, KEYS, UPLOADS = ".s3/bucket/", ".s3/key/", ".s3/up/"
 PLAIN, FROM_PLAIN = str.maketrans("+/", "-_"), str.maketrans("-_", "+/")  # of base64
 

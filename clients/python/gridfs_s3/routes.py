@@ -8,7 +8,7 @@ from dataclasses import dataclass, field
 from aiohttp import web
 from aiohttp.web_protocol import RequestPayloadError
 
-from . import metrics, signing
+from . import metrics, signing, tags
 from .buckets import NEVER_GIVEN, Buckets
 from .checksums import ALGORITHMS, HEADER
 from .connections import Connection, error_answer
@@ -20,6 +20,7 @@ from .listing import Listings
 from .objects import Objects
 from .page import Page
 from .requests import SERVER, Asked, answer
+from .tagging import Tagging
 from .uploads import Uploads
 from .workers import who_asks
 
@@ -77,6 +78,7 @@ class Endpoint:
         self.objects = Objects(gateway, self.buckets)
         self.copies = Copies(self.objects)
         self.uploads = Uploads(self.objects, self.copies)
+        self.tagging = Tagging(self.objects, self.copies)
         self.page = Page(gateway, self.listings)
         self.under_way, self.is_ending, self.is_over = 0, False, False
 
@@ -173,7 +175,7 @@ class Endpoint:
 
     def changes(self, method: str, is_of_object: bool) -> list[Change]:
         """All that such a request can be."""
-        upload, part = {"uploadId"}, {"partNumber"}
+        upload, part, tagging, version = {"uploadId"}, {"partNumber"}, {"tagging"}, {"versionId"}
         if not is_of_object:
             of_buckets = {
                 "PUT": [Change(self.buckets.create_bucket, headers={"x-amz-object-ownership"}, elements=OF_BUCKETS)],
@@ -183,16 +185,21 @@ class Endpoint:
             return of_buckets.get(method, [])
         of_objects = {
             "PUT": [
-                Change(self.objects.put_object, conditions=CONDITIONS, headers={BY}),
-                Change(self.copies.copy_object, conditions=CONDITIONS, headers={*OF_A_COPY, "x-amz-metadata-directive", BY}),
+                Change(self.objects.put_object, conditions=CONDITIONS, headers={BY, tags.HEADER}),
+                Change(self.copies.copy_object, conditions=CONDITIONS, headers={*OF_A_COPY, "x-amz-metadata-directive", BY, tags.HEADER, tags.DIRECTIVE}),
                 Change(self.uploads.upload_part, upload, part, headers={BY}),
                 Change(self.uploads.upload_part_copy, upload, part, headers={*OF_A_COPY, "x-amz-copy-source-range"}),
+                Change(self.tagging.put_object_tagging, tagging, version, elements=tags.ELEMENTS),
             ],
             "POST": [
-                Change(self.uploads.create_multipart_upload, {"uploads"}, headers={BY, KIND}),
+                Change(self.uploads.create_multipart_upload, {"uploads"}, headers={BY, KIND, tags.HEADER}),
                 Change(self.uploads.complete_multipart_upload, upload, conditions=CONDITIONS, headers={"x-amz-mp-object-size", KIND}, elements=OF_PARTS),
             ],
-            "DELETE": [Change(self.objects.delete_object, besides={"versionId"}, conditions=CONDITIONS), Change(self.uploads.abort_multipart_upload, upload)],
+            "DELETE": [
+                Change(self.objects.delete_object, besides=version, conditions=CONDITIONS),
+                Change(self.uploads.abort_multipart_upload, upload),
+                Change(self.tagging.delete_object_tagging, tagging, version),
+            ],
         }
         return of_objects.get(method, [])
 
@@ -240,7 +247,7 @@ class Endpoint:
         by_word: dict[str, Operation] = {
             "acl": self.objects.get_object_acl,
             "attributes": self.objects.get_object_attributes,
-            "tagging": self.objects.get_object_tagging,
+            "tagging": self.tagging.get_object_tagging,
             "uploadId": self.uploads.list_parts,
         }
         for word, operation in by_word.items():

@@ -49,6 +49,16 @@ class NoLine(NoRoom):
     """The page of this session has no room for a line; that of another one may have. Nothing was changed."""
 
 
+class Changed(Exception):
+    """The name holds something else than was seen. Nothing was changed."""
+
+
+def expect_same(held: Held | None, seen: Held) -> None:
+    """Changed where it was put anew, or removed, since it was seen."""
+    if not held or held.version != seen.version:
+        raise Changed
+
+
 class Body(Protocol):
     """A content that is read once, of known length."""
 
@@ -217,18 +227,16 @@ class Store(Reader):
         except NoSuchName:
             return False
 
-    def touch(self, name: str, seen: Held, values: Callable[[], Values]) -> Held | None:
+    def touch(self, name: str, seen: Held, values: Callable[[], Values], condition: Condition | None = None) -> Held | None:
         """Gives a content other words where it is, in slots of this session or in the line; None where the name holds another one by now, or it is at another
         grid."""
         if seen.version.grid != self.grid:
             return None
 
-        class Changed(Exception):
-            pass
-
         def is_the_same(held: Held | None) -> None:
-            if not held or held.version != seen.version:
-                raise Changed
+            if condition:
+                condition(held)
+            expect_same(held, seen)
 
         def in_place(_: Bucket, held: Held | None) -> Content:
             is_the_same(held)

@@ -8,7 +8,7 @@ from aiohttp import web
 from gridfs_client.buckets import Held
 from gridfs_client.errors import ClientError
 
-from . import checksums
+from . import checksums, tags
 from .bodies import body_of
 from .checksums import HEADER, Checksum
 from .copying import Copies, range_to_copy
@@ -99,9 +99,9 @@ class Uploads(Operations):
         return upload_name(asked.bucket, asked.query["uploadId"], name_of(asked.bucket, asked.key))
 
     async def create_multipart_upload(self, asked: Asked) -> web.Response:
-        """200. 400 KeyTooLongError, MetadataTooLarge; 404 NoSuchBucket; 507 InsufficientStorage."""
+        """200. 400 InvalidTag, KeyTooLongError, MetadataTooLarge; 404 NoSuchBucket; 507 InsufficientStorage."""
         await self.gateway.need_bucket(asked.bucket)
-        name, values = name_of(asked.bucket, asked.key), {**values_of(asked), "k": asked.key, "i": str(now_ms())}
+        name, values = name_of(asked.bucket, asked.key), {**values_of(asked), **tags.in_headers(asked.headers), "k": asked.key, "i": str(now_ms())}
         algorithm, headers = algorithm_wanted(asked), dict[str, str]()
         kind = kind_wanted(asked, algorithm)
         if algorithm:
@@ -128,7 +128,7 @@ class Uploads(Operations):
         number, session = part_number(asked), self.session_of(asked)
         text, put = asked.headers.get("x-amz-copy-source-range"), PutPart(asked, self.name_of(asked), number)
         md5 = await self.copies.copied(
-            asked, lambda store, source, _: put(store, source), lambda found: range_to_copy(text, found.size), put.name, session
+            self.copies.source_of(asked), asked, lambda store, source, _: put(store, source), lambda found: range_to_copy(text, found.size), put.name, session
         )
         inner = [element(each.element, each.value) for each in put.checksums]
         return answer(document("CopyPartResult", element("LastModified", iso(now_ms())), element("ETag", f'"{md5}"'), *inner))
