@@ -37,8 +37,9 @@ def wait(is_there, process, log):
 class Gateway:
     """A gateway with some sessions of carol, which is killed and started again."""
 
-    def __init__(self, settings, room, sessions="all", keys=f"carol {SECRET}\n", port=None):
+    def __init__(self, settings, room, sessions="all", keys=f"carol {SECRET}\n", port=None, program=(GATEWAY,), words=()):
         self.settings, self.sessions, self.room, self.port = settings, sessions, room, port or free_port()
+        self.program, self.words = program, words
         self.url = f"http://127.0.0.1:{self.port}"
         self.keys, self.log = os.path.join(room, f"keys.{sessions}"), os.path.join(room, f"log.{sessions}")
         with open(os.open(self.keys, os.O_WRONLY | os.O_CREAT | os.O_TRUNC, 0o600), "w") as out:
@@ -47,7 +48,7 @@ class Gateway:
         self.start()
 
     def start(self):
-        words = [GATEWAY, "--config", self.settings, "--keys", self.keys, "--listen", f"127.0.0.1:{self.port}"]
+        words = [*self.program, "--config", self.settings, "--keys", self.keys, "--listen", f"127.0.0.1:{self.port}", *self.words]
         environment = {"GRIDFS_TIMEOUT": "20", **os.environ, "GRIDFS_SESSION": self.sessions, "GRIDFS_LOCKS": os.path.join(self.room, "locks")}
         with open(self.log, "ab") as log:
             begun = log.tell()

@@ -150,6 +150,8 @@ class Model:
             self.tag(key, "first")
         for key in ("from the beginning", *(f"begun {number}" for number in range(STAGES))):
             self.begin(key)
+        self.rules = [{"ID": "goes", "Status": "Enabled", "Filter": {"Prefix": "expires"}, "Expiration": {"Date": "2026-01-01T00:00:00Z"}}]
+        s3.put_bucket_lifecycle_configuration(Bucket="moved", LifecycleConfiguration={"Rules": self.rules})
 
     def expect(self, what, found, wanted):
         if found != wanted:
@@ -228,7 +230,18 @@ class Model:
         upload, _ = self.uploads.pop("given up")
         s3.abort_multipart_upload(Bucket="moved", Key="given up", UploadId=upload)
         self.refused(s3.list_parts, "NoSuchUpload", Key="given up", UploadId=upload)
+        self.expire(f"expires {stage}")
         self.look()
+
+    def expire(self, key):
+        """What is put goes by the rules of the bucket."""
+        told = self.s3.get_bucket_lifecycle_configuration(Bucket="moved")["Rules"]
+        self.expect("the rules", [{**each, "Expiration": {"Date": each["Expiration"]["Date"].strftime("%Y-%m-%dT%H:%M:%SZ")}} for each in told], self.rules)
+        self.s3.put_object(Bucket="moved", Key=key, Body=b"hello")
+        until = time.monotonic() + endpoint.PATIENCE
+        while (left := "Contents" in self.s3.list_objects_v2(Bucket="moved", Prefix=key)) and time.monotonic() < until:
+            time.sleep(0.1)
+        self.expect(f"{key} is there", left, False)
 
     def look(self):
         for key, body in self.objects.items():
@@ -254,7 +267,7 @@ def at_each_stage(is_following, count=3):
             out.write(read_map(found.map).text())
         with open(settings, "w", encoding="ascii") as out:
             out.write(f"[gridfs]\nmap = {found.map if is_following else first}\n")
-        gateway = endpoint.Gateway(settings, found.room)
+        gateway = endpoint.Gateway(settings, found.room, words=("--lifecycle", "0.3"))
         try:
             model = Model(gateway.client())
             for number, (slices, target) in enumerate((((0, SLICES - 1), "west"), ((0, 40_000), "east"), ((20_000, 60_000), "west"))[:count]):

@@ -55,6 +55,11 @@ BUGS = {
     "a copy onto itself loses its tags": ("test_operations.py Tags.test_copies", "copying.py", "(old_tags if new_tags is None else new_tags)", "(new_tags or {})"),
     "what others may change is judged": ("test_operations.py Tags.test_some_sessions", "gateway.py", "if not self.grids.has_all and all(", "if False and all("),
     "two tags may have the same key": ("test_forms.py Tags.test_limits", "tags.py", "    if len(dict(pairs)) < len(pairs):\n", "    if False:\n"),
+    "what was put anew goes, as it had expired": ("test_lifecycle.py Looks.test_put_meanwhile", "expiring.py", "lambda now: expect_same(now, held)", "lambda now: None"),
+    "rules that were taken back go on": ("test_lifecycle.py Looks.test_put_meanwhile", "expiring.py", "                in_force.pop(bucket)\n", "                pass\n"),
+    "what has no time has expired": ("test_lifecycle.py Rules.test_what_stays", "lifecycle.py", "not self.is_enabled or not found.time or not", "not self.is_enabled or not"),
+    "what is old by a clock that nobody agrees with goes": ("test_lifecycle.py Looks.test_clock", "expiring.py", "if not self.gateway.clock.is_agreed():", "if False:"),
+    "a bucket has the rules of an earlier one": ("test_lifecycle.py Looks.test_what_was_given", "expiring.py", '"b") != made:', '"b") < 0:'),
     "a client that leaves is a fault": ("test_malformed.py Malformed.test_a_client_that_leaves", "connections.py", " or isinstance(exc, (ConnectionError, RequestPayloadError)):", ":"),
 }
 

@@ -11,14 +11,14 @@ from .bodies import body_of
 from .errors import S3Error
 from .gateway import Operations
 from .markup import document, element, escape, many
-from .places import BUCKETS, KEYS, UPLOADS, check_bucket, number_of, of_words, upload_of
+from .places import BUCKETS, KEYS, SETTINGS, UPLOADS, check_bucket, number_of, of_words, upload_of
 from .requests import Asked, answer, iso, place_of, token_of
 from .store import Store
 
 
 MOST_BUCKETS = 10_000  # in one answer
 NEVER_GIVEN = {
-    "cors": "NoSuchCORSConfiguration", "encryption": "ServerSideEncryptionConfigurationNotFoundError", "lifecycle": "NoSuchLifecycleConfiguration",
+    "cors": "NoSuchCORSConfiguration", "encryption": "ServerSideEncryptionConfigurationNotFoundError",
     "object-lock": "ObjectLockConfigurationNotFoundError", "ownershipControls": "OwnershipControlsNotFoundError", "policy": "NoSuchBucketPolicy",
     "publicAccessBlock": "NoSuchPublicAccessBlockConfiguration", "replication": "ReplicationConfigurationNotFoundError", "tagging": "NoSuchTagSet",
     "website": "NoSuchWebsiteConfiguration",
@@ -66,7 +66,7 @@ class Buckets(Operations):
         return answer(headers={"x-amz-bucket-region": self.gateway.region})
 
     async def delete_bucket(self, asked: Asked) -> web.Response:
-        """204; uploads that are under way go with it. 404 NoSuchBucket, 409 BucketNotEmpty."""
+        """204; uploads that are under way go with it, and what it was given. 404 NoSuchBucket, 409 BucketNotEmpty."""
         await self.gateway.need_bucket(asked.bucket)
         prefixes = (f"{asked.bucket}/", f"{KEYS}{asked.bucket}/")
 
@@ -74,7 +74,7 @@ class Buckets(Operations):
             names = [held.name for held in every]
             if any(name.startswith(prefixes) for name in names):
                 raise S3Error("BucketNotEmpty", BucketName=asked.bucket)
-            return [name for name in names if name.startswith(f"{UPLOADS}{asked.bucket}/")]
+            return [name for name in names if name.startswith((f"{UPLOADS}{asked.bucket}/", f"{SETTINGS}{asked.bucket}/"))]
 
         for name in [*await self.gateway.all(look), BUCKETS + asked.bucket]:
             await self.gateway.change(name, lambda store, name=name: store.delete(name), number=self.session_of(name))  # type: ignore[misc]

@@ -29,6 +29,7 @@ def parser() -> argparse.ArgumentParser:
     found.add_argument("--region", default="us-east-1", metavar="WORD", help="the region that is told (us-east-1)")
     found.add_argument("--domain", metavar="NAME", help="BUCKET.NAME is a bucket's own host name")
     found.add_argument("--timeout", metavar="SECONDS", default=None, help="seconds to wait for a node's answer (20)")
+    found.add_argument("--lifecycle", metavar="SECONDS", type=float, default=3600, help="seconds between looks for what has expired by the rules of its bucket (3600)")
     found.add_argument("--drain", metavar="SECONDS", type=float, default=30, help="seconds in which what is under way has to end after SIGTERM (30)")
     return found
 

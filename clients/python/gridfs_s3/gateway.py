@@ -33,6 +33,7 @@ MOST_GRIDS = 4  # of a way, whose pages are settled
 LENT_FOR = 20.0  # seconds for which a condition waits for a session that another command has
 WATCH, WATCH_FOR, MOST_FAILURES = 10.0, 60.0, 3  # seconds after which it looks whether it still can do anything, for which it waits, and failures that are too many
 PROBE = f"{BUCKETS}-"  # (which no bucket is)
+SET = 900.0  # seconds by which a clock is off that was set to another time
 MAP_AGAIN = 5.0  # seconds after which a later map is looked for
 
 
@@ -51,6 +52,22 @@ def whole(held: Held | None) -> tuple[int, int]:
     return 0, held.content.size
 
 
+class Clock:
+    """Whether this machine's clock is one that clients agree with. What is removed because it is old rests on that: a clock that is years ahead would have all go."""
+
+    def __init__(self, wall: Callable[[], float] = time.time, steady: Callable[[], float] = time.monotonic):
+        self.wall, self.steady = wall, steady
+        self.agreed: float | None = None  # by how much the clock was ahead of the steady one when a client agreed last
+
+    def is_confirmed(self) -> None:
+        """A client has signed a request by a time that is near the clock's."""
+        self.agreed = self.wall() - self.steady()
+
+    def is_agreed(self) -> bool:
+        """Whether a client agreed since the start, and the clock was not set to another time since."""
+        return self.agreed is not None and abs(self.wall() - self.steady() - self.agreed) < SET
+
+
 class NotSettled(Exception):
     """A condition can't be judged now: a change of the page got no answer since. Nothing was changed."""
 
@@ -61,6 +78,7 @@ class Gateway:
     def __init__(self, grids: Grids, tenant: str, keys: Mapping[str, Key], region: str, domain: str | None):
         self.grids, self.tenant, self.keys, self.region, self.domain = grids, tenant, keys, region, domain
         self.known_buckets: dict[str, float] = {}
+        self.clock = Clock()
         self.places, self.documents = Places(), asyncio.Semaphore(IN_HAND)
         self.map_faults = list[str]()  # what was the matter when a later map was looked for last
 
@@ -249,8 +267,7 @@ class Gateway:
 
     def judged(self, name: str, judge: Condition) -> Condition:
         """This condition, as nobody can change the name between it and the change. 501 NotImplemented where others may."""
-        if not self.grids.has_all and all(pool.is_open for pool in self.grids.pools.values()):
-            raise S3Error("NotImplemented", "Conditional puts, and changes of tags, need a gateway that has all sessions of its tenant: others write by the rest.")
+        self.expect_all()
 
         def condition(held: Held | None) -> None:
             if not self.grids.is_settled(name):
@@ -258,6 +275,12 @@ class Gateway:
             judge(held)
 
         return condition
+
+    def expect_all(self) -> None:
+        """501 NotImplemented where this gateway has not all sessions."""
+        if not self.grids.has_all and all(pool.is_open for pool in self.grids.pools.values()):
+            what = "Conditional puts, changes of tags, and objects that expire"
+            raise S3Error("NotImplemented", f"{what} need a gateway that has all sessions of its tenant: others write by the rest.")
 
     # Bodies
 

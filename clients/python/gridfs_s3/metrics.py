@@ -17,6 +17,7 @@ seconds = Histogram("gridfs_s3_request_seconds", "From a request's head to the e
 waits = Histogram("gridfs_s3_wait_seconds", "Until a request had a session", TENANT, registry=registry, buckets=(0.001, 0.01, 0.1, 1, 10, 60))
 taken = Counter("gridfs_s3_received_bytes", "Bytes of contents that were put", TENANT, registry=registry)
 given = Counter("gridfs_s3_sent_bytes", "Bytes of contents that were got", TENANT, registry=registry)
+expired = Counter("gridfs_s3_expired", "Objects and uploads that went by the lifecycle of their bucket", ["tenant", "what"], registry=registry)
 room = Gauge("gridfs_s3_slot_bytes", "Bytes of the slots of this gateway's sessions, as far as they are known", ["tenant", "state", "grid"], registry=registry)
 pages = Gauge("gridfs_s3_fullest_page_ratio", "How full the fullest page is that is known: at 1 a put is refused", ["tenant", "grid"], registry=registry)
 sessions = Gauge("gridfs_s3_sessions", "Sessions: all, busy, or with a home that is silent", ["tenant", "state", "grid"], registry=registry)

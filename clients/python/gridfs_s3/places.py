@@ -3,6 +3,7 @@
     BUCKET/KEY                the object, where that is a name: 1 to 255 bytes of UTF-8, no control character, no / at the end
     .s3/key/BUCKET/DIGEST     any other object: DIGEST is SHA-256 of the key, in 43 letters of base64url; the words have the key
     .s3/bucket/BUCKET         the bucket is there
+    .s3/set/BUCKET/lifecycle  the rules that the bucket was given, in XML
     .s3/up/BUCKET/ID/=DIGEST  an upload in parts that is under way: what was uploaded, in the order of the parts. DIGEST is SHA-256 of the object's
                               name, so that both are in the same page, at the same grid
 
@@ -15,6 +16,7 @@ quoted as in a URL:
     k    its key, where the name does not tell it                  u    the upload by which it came
     s    its checksum, as `crc32.BASE64`, of an upload also -N     a    of an upload: the algorithm that was named, and its kind, as `crc32.FULL_OBJECT`
     i    of an upload: when it was begun                           g-NAME   a tag
+    b    of what a bucket was given: when the bucket was made
     p    of an upload: NUMBER.MD5.SIZE.SECONDS of each part, with / between: MD5 is in base64url, SECONDS are since the upload was begun. Behind that
          .CHECKSUM, where one is kept, in base64url, and its .ALGORITHM, where that is another one than was named. (Earlier uploads have NUMBER.MD5.SIZE.TIME,
          with , between and MD5 in hexadecimal)
@@ -40,7 +42,7 @@ OLD_PART = re.compile(r"([0-9]{1,5})\.([0-9a-f]{32})\.([0-9]{1,19})\.([0-9]{1,13
 LONGEST_KEY, MOST_METADATA, MOST_KEPT = 1_024, 2_048, 8_192
 Values = dict[str, str]  # what stands beside a content, by its letters above
 TAG = "g-"
-BUCKETS, KEYS, UPLOADS = ".s3/bucket/", ".s3/key/", ".s3/up/"
+BUCKETS, KEYS, UPLOADS, SETTINGS = ".s3/bucket/", ".s3/key/", ".s3/up/", ".s3/set/"
 PLAIN, FROM_PLAIN = str.maketrans("+/", "-_"), str.maketrans("-_", "+/")  # of base64
 
 
@@ -63,6 +65,17 @@ def name_of(bucket: str, key: str) -> str:
         return name
     except BadName:
         return f"{KEYS}{bucket}/{digest_of(key.encode())}"
+
+
+def setting_name(bucket: str, kind: str) -> str:
+    """The name of what a bucket was given."""
+    return f"{SETTINGS}{bucket}/{kind}"
+
+
+def bucket_in(name: str) -> str:
+    """The bucket to which an object or an upload belongs that has this name."""
+    prefix = next((each for each in (KEYS, UPLOADS) if name.startswith(each)), "")
+    return name.removeprefix(prefix).partition("/")[0]
 
 
 def upload_name(bucket: str, upload: str, object_name: str) -> str:

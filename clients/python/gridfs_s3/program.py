@@ -74,7 +74,8 @@ async def serve(asked: argparse.Namespace) -> None:
     rest = "" if grids.has_all else " (not all of the tenant: no conditional puts)"
     sessions = "; ".join(f"{pool.grid} {', '.join(map(str, pool.workers))}".strip() for pool in grids.pools.values())
     tell(f"{tenant} at {asked.listen}, sessions {sessions}{rest}")
-    following = loop.create_task(gateway.follow_maps()) if grids.map else None
+    following = [loop.create_task(endpoint.lifecycles.look_again_and_again(asked.lifecycle))]
+    following += [loop.create_task(gateway.follow_maps())] if grids.map else []
 
     def read_again() -> None:
         try:
@@ -94,8 +95,8 @@ async def serve(asked: argparse.Namespace) -> None:
         os._exit(1)
     watching.cancel()
     server.close()
-    if following:
-        following.cancel()
+    for task in following:
+        task.cancel()
     await drained(endpoint, asked.drain)
     try:
         await asyncio.wait_for(asyncio.gather(*(pool.flush() for pool in grids.pools.values())), 3)

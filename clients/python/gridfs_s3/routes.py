@@ -8,12 +8,13 @@ from dataclasses import dataclass, field
 from aiohttp import web
 from aiohttp.web_protocol import RequestPayloadError
 
-from . import metrics, signing, tags
+from . import lifecycle, metrics, signing, tags
 from .buckets import NEVER_GIVEN, Buckets
 from .checksums import ALGORITHMS, HEADER
 from .connections import Connection, error_answer
 from .copying import Copies
 from .errors import S3Error, error_of, tell
+from .expiring import Lifecycles
 from .gateway import Gateway
 from .grids import asked_by
 from .listing import Listings
@@ -79,6 +80,7 @@ class Endpoint:
         self.copies = Copies(self.objects)
         self.uploads = Uploads(self.objects, self.copies)
         self.tagging = Tagging(self.objects, self.copies)
+        self.lifecycles = Lifecycles(self.buckets)
         self.page = Page(gateway, self.listings)
         self.under_way, self.is_ending, self.is_over = 0, False, False
 
@@ -132,6 +134,8 @@ class Endpoint:
             self.refuse_browsers(asked)
         asked.signed = signing.check(asked.method, asked.path, asked.raw_query, asked.all_headers(), self.gateway.keys)
         who_asks.set(f"url {asked.signed.signature}" if signing.IN_QUERY + "Signature" in asked.query else f"key {asked.signed.key.access}")
+        if signing.IN_QUERY + "Signature" not in asked.query:
+            self.gateway.clock.is_confirmed()  # (the time of a signed URL may be days ago)
         self.expect_known(asked)
         operation = self.operation_of(asked)
         asked.operation = "".join(word.capitalize() for word in getattr(operation, "__name__").split("_"))
@@ -178,8 +182,11 @@ class Endpoint:
         upload, part, tagging, version = {"uploadId"}, {"partNumber"}, {"tagging"}, {"versionId"}
         if not is_of_object:
             of_buckets = {
-                "PUT": [Change(self.buckets.create_bucket, headers={"x-amz-object-ownership"}, elements=OF_BUCKETS)],
-                "DELETE": [Change(self.buckets.delete_bucket)],
+                "PUT": [
+                    Change(self.buckets.create_bucket, headers={"x-amz-object-ownership"}, elements=OF_BUCKETS),
+                    Change(self.lifecycles.put_bucket_lifecycle_configuration, {"lifecycle"}, elements=lifecycle.ELEMENTS),
+                ],
+                "DELETE": [Change(self.buckets.delete_bucket), Change(self.lifecycles.delete_bucket_lifecycle, {"lifecycle"})],
                 "POST": [Change(self.objects.delete_objects, {"delete"}, elements=OF_REMOVALS)],
             }
             return of_buckets.get(method, [])
@@ -228,6 +235,7 @@ class Endpoint:
             "location": self.buckets.get_bucket_location,
             "versioning": self.buckets.get_bucket_versioning,
             "acl": self.buckets.get_bucket_acl,
+            "lifecycle": self.lifecycles.get_bucket_lifecycle_configuration,
             "uploads": self.listings.list_multipart_uploads,
             "versions": self.listings.list_object_versions,
             **dict.fromkeys(NEVER_GIVEN, self.buckets.get_what_was_never_given),

@@ -1,0 +1,193 @@
+"""The lifecycles that buckets are given, and the looks by which what has expired goes.
+
+A look removes nothing of which the gateway is not sure: an object only where it is still as it was seen, and only while the clock is one that clients agree with.
+"""
+
+import asyncio
+import hashlib
+import time
+from collections import Counter
+from collections.abc import Iterable, Iterator
+from dataclasses import dataclass
+
+from aiohttp import web
+
+from gridfs_client.buckets import Held
+
+from . import lifecycle, metrics
+from .bodies import Whole
+from .buckets import Buckets
+from .errors import S3Error, error_of, tell
+from .gateway import Operations
+from .lifecycle import Rule, document_of, rules_of
+from .markup import parse
+from .places import BUCKETS, SETTINGS, UPLOADS, bucket_in, number_of, object_of, of_words, setting_name, upload_of
+from .requests import Asked, answer
+from .sessions import now_ms
+from .store import Changed, Store, expect_same
+from .workers import who_asks
+
+KIND = "lifecycle"
+SURE_FOR = 2.0  # seconds for which rules that were seen are taken to be in force
+
+
+@dataclass(frozen=True)
+class InForce:
+    """The rules of a bucket, as they were seen."""
+
+    held: Held
+    rules: tuple[Rule, ...]
+    seen: float
+
+
+def text_of(store: Store, name: str) -> tuple[Held, bytes]:
+    """What was given, and its text. NoSuchKey (404) where there is nothing."""
+
+    def whole(held: Held | None) -> tuple[int, int]:
+        if not held:
+            raise S3Error("NoSuchKey")
+        return 0, held.content.size
+
+    held, parts, data = store.read(name, whole)
+    return held, data + b"".join(parts)
+
+
+class Lifecycles(Operations):
+    def __init__(self, buckets: Buckets):
+        super().__init__(buckets.gateway)
+        self.buckets = buckets
+
+    # As they are given
+
+    async def put_bucket_lifecycle_configuration(self, asked: Asked) -> web.Response:
+        """200: the bucket has these rules and no others. The errors of a body; 400 InvalidArgument, InvalidRequest, MalformedXML; 404 NoSuchBucket; 501
+        NotImplemented for what is not taken here, and for objects that go where this gateway has not all sessions; 507 InsufficientStorage."""
+        made = await self.made(asked.bucket)
+        rules, name = rules_of(await self.gateway.document(asked, "LifecycleConfiguration")), setting_name(asked.bucket, KIND)
+        if any(rule.days is not None or rule.date is not None for rule in rules):
+            self.gateway.expect_all()
+        text = document_of(rules)
+        source = Whole(text, hashlib.md5(text).hexdigest())
+        await self.gateway.change(name, lambda store: store.put_object(name, source, lambda: {"b": str(made)}))
+        return answer()
+
+    async def get_bucket_lifecycle_configuration(self, asked: Asked) -> web.Response:
+        """200. 404 NoSuchBucket, NoSuchLifecycleConfiguration."""
+        found = await self.in_force(asked.bucket, await self.made(asked.bucket))
+        if not found:
+            raise S3Error("NoSuchLifecycleConfiguration", BucketName=asked.bucket)
+        return answer(document_of(found.rules))
+
+    async def delete_bucket_lifecycle(self, asked: Asked) -> web.Response:
+        """204, also where there is none. 404 NoSuchBucket."""
+        await self.made(asked.bucket)
+        name = setting_name(asked.bucket, KIND)
+        await self.gateway.change(name, lambda store: store.delete(name))
+        return answer(status=204)
+
+    async def made(self, bucket: str) -> int:
+        """When the bucket was made. What an earlier one of its name was given is not its own. 400 InvalidBucketName, 404 NoSuchBucket."""
+        await self.gateway.need_bucket(bucket)
+        held = await self.gateway.look(BUCKETS + bucket, lambda store: store.look(BUCKETS + bucket))
+        if not held:
+            raise S3Error("NoSuchBucket", BucketName=bucket)
+        return number_of(of_words(held.words), "t")
+
+    async def in_force(self, bucket: str, made: int) -> InForce | None:
+        """The rules of a bucket that was made then; None where it has none."""
+        name, seen = setting_name(bucket, KIND), time.monotonic()
+        try:
+            held, text = await self.gateway.look(name, lambda store: text_of(store, name))
+        except S3Error as fault:
+            if fault.code == "NoSuchKey":
+                return None
+            raise
+        if number_of(of_words(held.words), "b") != made:
+            return None
+        return InForce(held, tuple(rules_of(parse(text, "LifecycleConfiguration", lifecycle.ELEMENTS))), seen)
+
+    # What has expired
+
+    async def look_again_and_again(self, seconds: float) -> None:
+        who_asks.set("lifecycle")
+        while True:
+            await asyncio.sleep(seconds)
+            try:
+                await self.remove_what_expired(now_ms())
+            except Exception as fault:
+                tell(f"what has expired stays for now: {error_of(fault).message}")
+
+    async def remove_what_expired(self, now: int) -> Counter[tuple[str, str]]:
+        """Has objects and uploads go by the rules of their buckets; how many of each bucket went. ClientError, S3Error: the rest stays until the next look."""
+        in_force = await self.all_in_force()
+        gone = Counter[tuple[str, str]]()
+        if not in_force:
+            return gone
+        if not self.gateway.clock.is_agreed():
+            tell("what has expired stays for now: no client has signed a request by the time of this machine's clock yet, or it was set since")
+            return gone
+        if not self.grids.has_all and any(rule.has_objects_go for found in in_force.values() for rule in found.rules):
+            tell("objects that have expired stay: that they go needs a gateway that has all sessions of its tenant")
+        wanted = await self.gateway.all(lambda every: list(self.expired(every, in_force, now)))
+        try:
+            for bucket, held in wanted:
+                if await self.is_still_in_force(bucket, in_force) and await self.is_removed(held):
+                    gone[bucket, "uploads" if held.name.startswith(UPLOADS) else "objects"] += 1
+        finally:
+            for (bucket, what), count in gone.items():
+                tell(f"{bucket}: {count} {what} have expired, and are gone")
+                metrics.expired.labels(self.gateway.tenant, what).inc(count)
+        return gone
+
+    async def all_in_force(self) -> dict[str, InForce]:
+        """The rules of each bucket that has some. What is none is told, and passed over."""
+        kept = await self.gateway.all(lambda every: [held for held in every if held.name.startswith((BUCKETS, SETTINGS))])
+        made = {held.name.removeprefix(BUCKETS): number_of(of_words(held.words), "t") for held in kept if held.name.startswith(BUCKETS)}
+        found: dict[str, InForce] = {}
+        for bucket in sorted(made):
+            if any(held.name == setting_name(bucket, KIND) for held in kept):
+                try:
+                    if rules := await self.in_force(bucket, made[bucket]):
+                        found[bucket] = rules
+                except S3Error as fault:
+                    tell(f"the lifecycle of {bucket} is passed over: {fault.message}")
+        return found
+
+    def expired(self, every: Iterable[Held], in_force: dict[str, InForce], now: int) -> Iterator[tuple[str, Held]]:
+        """What has expired and can go by this gateway, each with its bucket."""
+        for held in every:
+            bucket = bucket_in(held.name)
+            rules = in_force[bucket].rules if bucket in in_force else ()
+            if held.name.startswith(UPLOADS):
+                words = of_words(held.words)
+                is_here = bool(self.grids.map) or self.buckets.session_of(held.name) is not None
+                if is_here and upload_of(held.name) and any(rule.has_ended(words.get("k", ""), number_of(words, "i"), now) for rule in rules):
+                    yield bucket, held
+            elif self.grids.has_all and (found := object_of(bucket, held)) and any(rule.has_expired(found, now) for rule in rules):
+                yield bucket, held
+
+    async def is_still_in_force(self, bucket: str, in_force: dict[str, InForce]) -> bool:
+        """Whether the bucket and its rules are as they were when it was seen what has expired; that may be some seconds ago."""
+        found = in_force.get(bucket)
+        if found and time.monotonic() - found.seen > SURE_FOR:
+            self.gateway.known_buckets.pop(bucket, None)
+            try:
+                again = await self.in_force(bucket, await self.made(bucket))
+            except S3Error:
+                again = None
+            if again and again.held.version == found.held.version:
+                in_force[bucket] = again
+            else:
+                in_force.pop(bucket)
+        return bucket in in_force
+
+    async def is_removed(self, held: Held) -> bool:
+        """Has an object go, if it is as it was seen, or an upload."""
+        name = held.name
+        if name.startswith(UPLOADS):
+            return await self.gateway.change(name, lambda store: store.delete(name), number=self.buckets.session_of(name))
+        condition = self.gateway.judged(name, lambda now: expect_same(now, held))
+        try:
+            return await self.gateway.change(name, lambda store: store.delete(name, condition), condition=condition)
+        except Changed:
+            return False
