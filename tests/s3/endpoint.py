@@ -11,6 +11,8 @@ import time
 sys.path.insert(0, os.path.dirname(os.path.abspath(__file__)))
 from code_of_s3 import GATEWAY, HERE
 
+import gridfs_client.contents
+
 SECRET = "a.secret.of.the.tests"
 PLAN = os.path.join(HERE, "plan")
 PATIENCE = 60  # seconds until something is up, on a machine that does much else
@@ -18,6 +20,11 @@ PATIENCE = 60  # seconds until something is up, on a machine that does much else
 
 class NotStarted(Exception):
     pass
+
+
+def digest_of(name):
+    """By which a name that ends so stands beside this one."""
+    return gridfs_client.contents.digest_of(name.encode())
 
 
 def free_port():

@@ -39,7 +39,7 @@ PATHS = ["/one/k"] * 40 + ["/one"] * 20 + [
 ]  # fmt: skip
 ODD = ["", "0", "1", "2", "-1", "+1", "1e3", "10001", "99999999999999999999", "null", "true", "x", "k", "/", "%", "%FF", "%00", "%ED%A0%80", "%D9%A3", "%C3%A9", "a" * 3_000, "%2F", "1.000000000000000000000000", "99.x", "..", "*", "\"x\"", "url", "%0D%0A"]  # fmt: skip
 WORDS = [
-    "list-type", "prefix", "delimiter", "max-keys", "marker", "start-after", "continuation-token", "encoding-type", "fetch-owner", "uploads", "uploadId", "partNumber", "delete", "location", "acl", "versioning", "versions",
+    "list-type", "lifecycle", "prefix", "delimiter", "max-keys", "marker", "start-after", "continuation-token", "encoding-type", "fetch-owner", "uploads", "uploadId", "partNumber", "delete", "location", "acl", "versioning", "versions",
     "tagging", "versionId", "key-marker", "upload-id-marker", "version-id-marker", "max-uploads", "max-parts", "part-number-marker", "response-content-type", "response-expires", "x-id", "torrent", "policy", "cors", "after",
     "X-Amz-Signature", "X-Amz-Credential", "X-Amz-Expires", "Signature", "attributes",
 ]  # fmt: skip
@@ -59,7 +59,8 @@ PAYLOADS = ["UNSIGNED-PAYLOAD"] * 12 + ["STREAMING-UNSIGNED-PAYLOAD-TRAILER"] * 
 TREES = [
     "<Delete><Quiet>true</Quiet><Object><Key>k</Key></Object><Object><Key>l</Key><VersionId>null</VersionId></Object></Delete>", "<CreateBucketConfiguration><LocationConstraint>us-east-1</LocationConstraint></CreateBucketConfiguration>",
     "<CompleteMultipartUpload><Part><PartNumber>1</PartNumber><ETag>\"x\"</ETag></Part><Part><PartNumber>2</PartNumber><ETag>x</ETag></Part></CompleteMultipartUpload>",
-    "<Tagging><TagSet><Tag><Key>a</Key><Value>b</Value></Tag></TagSet></Tagging>", '<?xml version="1.0" encoding="UTF-8"?><Delete xmlns="http://s3.amazonaws.com/doc/2006-03-01/"><Object><Key>&#233;&lt;</Key></Object></Delete>',
+    "<Tagging><TagSet><Tag><Key>a</Key><Value>b</Value></Tag></TagSet></Tagging>", "<VersioningConfiguration><Status>Enabled</Status></VersioningConfiguration>",
+    "<LifecycleConfiguration><Rule><Status>Enabled</Status><Prefix/><Expiration><Days>1</Days></Expiration></Rule></LifecycleConfiguration>", '<?xml version="1.0" encoding="UTF-8"?><Delete xmlns="http://s3.amazonaws.com/doc/2006-03-01/"><Object><Key>&#233;&lt;</Key></Object></Delete>',
 ]  # fmt: skip
 PIECES = ["<a>", "</a>", "<", ">", "&", "&amp;", "&x;", "&#0;", "<!--", "-->", "<![CDATA[x]]>", "<!DOCTYPE a>", "<?x?>", "\x00", "é", "k" * 1_100, "<Object><Key>k</Key></Object>" * 30, "-1", "10001", "9" * 5_000, "٣"]
 

@@ -21,6 +21,7 @@ from gridfs_s3.errors import S3Error
 from gridfs_s3.places import of_words, upload_name
 from gridfs_s3.shared import Shared
 from gridfs_s3.store import PageFull, Store
+from gridfs_s3.versions import Target
 
 SHAPES = [
     registers.Shape(names=(1, 2), sessions=(2, 3, 4), pages=(1,), slots=(6, 12), kills=(0, 0.002, 0.01), gone=(0,), late=(0.1, 0.02, 0.005), many_sessions=(0.5, 0.9)),
@@ -92,7 +93,7 @@ class Objects:
         for number, part in ((1, b"x" * 50), (3, content[half:]), (2, b"left out"), (1, content[:half])):
             store.put_part(upload, number, Body(part), 5)
         found = {part.number: slots for part, slots in store.uploaded(store.upload(upload))}
-        store.complete(upload, name, values, [found[1], found[3]], None)
+        store.complete(upload, Target(name), values, [found[1], found[3]], None)
 
     def change_words(self, name, values):
         """Gives a content other words where it stands, if it is there still: that changes nothing of it. (Beside another gateway it would be one

@@ -25,6 +25,7 @@ from gridfs_s3.errors import S3Error
 from gridfs_s3.places import of_words, upload_name
 from gridfs_s3.shared import Shared, Turns
 from gridfs_s3.store import PageFull, Store
+from gridfs_s3.versions import Target
 from gridfs_s3.trips import Elsewhere, Trip
 
 MOST = 60  # histories in which a bug has to be found
@@ -97,7 +98,7 @@ class Objects:
 
     def complete(self, store, upload, name, values):
         held = store.own_upload(upload)
-        store.complete(upload, name, values, [slots for _, slots in store.uploaded(held)], None)
+        store.complete(upload, Target(name), values, [slots for _, slots in store.uploaded(held)], None)
 
     def remove(self, name):
         if not self.do(name, lambda store: store.delete(name)):

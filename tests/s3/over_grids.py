@@ -151,6 +151,7 @@ class Model:
         for key in ("from the beginning", *(f"begun {number}" for number in range(STAGES))):
             self.begin(key)
         self.rules = [{"ID": "goes", "Status": "Enabled", "Filter": {"Prefix": "expires"}, "Expiration": {"Date": "2026-01-01T00:00:00Z"}}]
+        self.refused(s3.put_bucket_versioning, "NotImplemented", VersioningConfiguration={"Status": "Enabled"})
         s3.put_bucket_lifecycle_configuration(Bucket="moved", LifecycleConfiguration={"Rules": self.rules})
 
     def expect(self, what, found, wanted):
@@ -196,9 +197,9 @@ class Model:
     def refused(self, work, *codes, **words):
         try:
             work(Bucket="moved", **words)
-            self.expect(f"{work.__name__} of {words['Key']}", "done", codes)
+            self.expect(f"{work.__name__} of {words.get('Key')}", "done", codes)
         except kills.ClientError as fault:
-            self.expect(f"{work.__name__} of {words['Key']}", kills.code_of(fault) in codes or kills.code_of(fault), True)
+            self.expect(f"{work.__name__} of {words.get('Key')}", kills.code_of(fault) in codes or kills.code_of(fault), True)
 
     def use(self, stage):
         """Each operation once; and what is there then."""

@@ -11,7 +11,7 @@ import endpoint
 from botocore.exceptions import ClientError
 from code_of_s3 import CODE
 from gridfs_client.asking import ask_plan
-from gridfs_client.contents import Inline, digest_of
+from gridfs_client.contents import Inline
 from gridfs_client.buckets import Held
 from gridfs_client.core import Version
 from gridfs_client.layout import layout_of
@@ -31,10 +31,10 @@ SLOW = """
 import asyncio, sys
 from gridfs_s3 import expiring, program
 expiring.SURE_FOR, is_removed = 0, expiring.Lifecycles.is_removed
-async def slowly(self, held):
-    print("goes", held.name, file=sys.stderr, flush=True)
+async def slowly(self, going):
+    print("goes", going.held.name, file=sys.stderr, flush=True)
     await asyncio.sleep(1)
-    return await is_removed(self, held)
+    return await is_removed(self, going)
 expiring.Lifecycles.is_removed = slowly
 program.main(sys.argv[1:])
 """
@@ -85,6 +85,19 @@ class Rules(unittest.TestCase):
         for key, begun, found in (("b", DAY, two), ("a/b", 0, two), ("a/b", DAY, rule(text, "Disabled")), ("a/b", DAY, rule("<Filter/><Expiration><Days>1</Days></Expiration>"))):
             self.assertFalse(found.has_ended(key, begun, 99 * DAY), key)
 
+    def test_versions(self):
+        """An older one goes by when the next one came, as long as enough newer ones are left; a marker once it is alone."""
+        two = rule("<Filter/><NoncurrentVersionExpiration><NoncurrentDays>2</NoncurrentDays><NewerNoncurrentVersions>1</NewerNoncurrentVersions></NoncurrentVersionExpiration>")
+        self.assertTrue(two.has_aged(an_object(), DAY + 1, 1, 4 * DAY))
+        for since, newer, now in ((DAY + 1, 0, 4 * DAY), (DAY + 1, 1, 4 * DAY - 1), (0, 1, 9 * DAY)):
+            self.assertFalse(two.has_aged(an_object(), since, newer, now))
+        self.assertFalse(two.has_expired(an_object(), 99 * DAY))
+        alone, marker = rule("<Filter/><Expiration><ExpiredObjectDeleteMarker>true</ExpiredObjectDeleteMarker></Expiration>"), an_object(words="d=1")
+        self.assertTrue(alone.is_over(marker, 1))
+        for found, count in ((marker, 2), (an_object(), 1)):
+            self.assertFalse(alone.is_over(found, count))
+        self.assertFalse(two.is_over(marker, 1))
+
     def test_filters(self):
         """Each condition by itself, at its bounds, and all of them together."""
         tag, other = "<Tag><Key>k</Key><Value>v</Value></Tag>", "<Tag><Key>l</Key><Value/></Tag>"
@@ -109,6 +122,8 @@ class Rules(unittest.TestCase):
             "<ObjectSizeLessThan>9</ObjectSizeLessThan></And></Filter><Expiration><Days>3</Days></Expiration></Rule>"
             f"<Rule><ID>2</ID><Prefix>old</Prefix><Status>Disabled</Status><Expiration><Date>2027-01-31T00:00:00Z</Date></Expiration>{uploads}</Rule>"
             f"<Rule><Status>Enabled</Status><Filter><Prefix/></Filter>{uploads}</Rule>"
+            "<Rule><Status>Enabled</Status><Filter/><NoncurrentVersionExpiration><NoncurrentDays>2</NoncurrentDays><NewerNoncurrentVersions>3</NewerNoncurrentVersions></NoncurrentVersionExpiration></Rule>"
+            "<Rule><Status>Enabled</Status><Filter/><Expiration><ExpiredObjectDeleteMarker>true</ExpiredObjectDeleteMarker></Expiration></Rule>"
         )
         told = lifecycle.rules_of(markup.parse(lifecycle.document_of(given), "LifecycleConfiguration", lifecycle.ELEMENTS))
         self.assertEqual(told, given)
@@ -131,8 +146,12 @@ class Rules(unittest.TestCase):
             ("InvalidArgument", one(f"<Filter><ObjectSizeLessThan>x</ObjectSizeLessThan></Filter>{days}")), ("InvalidArgument", one(f"<Filter><Tag><Value>v</Value></Tag></Filter>{days}")),
             ("InvalidArgument", f"<Rule><ID>{'i' * 256}</ID><Status>Enabled</Status>{prefix}{days}</Rule>"),
             ("NotImplemented", one(f"{prefix}<Transition><Days>1</Days><StorageClass>GLACIER</StorageClass></Transition>")),
-            ("NotImplemented", one(f"{prefix}{days}<NoncurrentVersionExpiration><NoncurrentDays>1</NoncurrentDays></NoncurrentVersionExpiration>")),
-            ("NotImplemented", one(f"{prefix}<Expiration><ExpiredObjectDeleteMarker>true</ExpiredObjectDeleteMarker></Expiration>")),
+            ("NotImplemented", one(f"{prefix}{days}<NoncurrentVersionTransition><NoncurrentDays>1</NoncurrentDays></NoncurrentVersionTransition>")),
+            ("MalformedXML", one(f"{prefix}<Expiration><Days>1</Days><ExpiredObjectDeleteMarker>true</ExpiredObjectDeleteMarker></Expiration>")),
+            ("MalformedXML", one(f"{prefix}<Expiration><ExpiredObjectDeleteMarker>false</ExpiredObjectDeleteMarker></Expiration>")),
+            ("InvalidRequest", one("<Filter><Tag><Key>k</Key><Value/></Tag></Filter><Expiration><ExpiredObjectDeleteMarker>true</ExpiredObjectDeleteMarker></Expiration>")),
+            ("InvalidArgument", one(f"{prefix}<NoncurrentVersionExpiration/>")),
+            ("InvalidArgument", one(f"{prefix}<NoncurrentVersionExpiration><NoncurrentDays>1</NoncurrentDays><NewerNoncurrentVersions>101</NewerNoncurrentVersions></NoncurrentVersionExpiration>")),
         ):  # fmt: skip
             self.fails(code, text)
 
@@ -151,14 +170,16 @@ class Rules(unittest.TestCase):
         self.assertTrue(clock.is_agreed())
 
 
-class Looks(unittest.TestCase):
-    """By gateways that look often."""
+class Common(unittest.TestCase):
+    """A stand-in with gateways, and what an earlier one left."""
+
+    SLOW = (sys.executable, "-B", "-c", SLOW)
 
     def setUp(self):
         self.room = self.enterContext(endpoint.stand_in())
 
     def gateway(self, *sessions, **more):
-        return self.enterContext(endpoint.gateways(self.room, *sessions, words=OFTEN, **more))
+        return self.enterContext(endpoint.gateways(self.room, *sessions, **{"words": OFTEN, **more}))
 
     def begin(self, **more):
         (self.found,) = self.gateway(**more)
@@ -191,6 +212,10 @@ class Looks(unittest.TestCase):
                 files = NamedFiles(sessions.first(), layout_of(told), None, sessions.helpers, others=sessions.others)
                 files.put(name, b"hello", lambda: words)
                 files.close()
+
+
+class Looks(Common):
+    """By gateways that look often."""
 
     def test_what_goes(self):
         """By date, days, tags and sizes, in that bucket alone; also where the page tells of names that are none."""
@@ -225,7 +250,7 @@ class Looks(unittest.TestCase):
     def test_uploads(self):
         """One that was begun long ago goes, with the room of its parts; one that was begun today stays, and is completed."""
         s3 = self.begin()
-        self.put_by_name(f".s3/up/some/1.{'0' * 24}/=" + digest_of(b"some/a"), "t=1000&k=a&i=1000")
+        self.put_by_name(f".s3/up/some/1.{'0' * 24}/=" + endpoint.digest_of("some/a"), "t=1000&k=a&i=1000")
         upload = s3.create_multipart_upload(Bucket="some", Key="b")["UploadId"]
         part = s3.upload_part(Bucket="some", Key="b", UploadId=upload, PartNumber=1, Body=b"hello")["ETag"]
         under_way = lambda: [each["Key"] for each in s3.list_multipart_uploads(Bucket="some").get("Uploads", [])]
@@ -279,7 +304,7 @@ class Looks(unittest.TestCase):
 
     def test_put_meanwhile(self):
         """An object that is put anew after it was seen to have expired stays; so does what is left when the rules are taken back."""
-        s3 = self.begin(program=(sys.executable, "-B", "-c", SLOW))
+        s3 = self.begin(program=self.SLOW)
         for key in "abc":
             self.put_by_name(f"some/{key}", "t=1000")
         self.give({"Filter": {"Prefix": ""}, "Expiration": {"Days": 1}})
@@ -301,12 +326,12 @@ class Looks(unittest.TestCase):
         with self.assertRaisesRegex(ClientError, "NotImplemented"):
             self.give({"Filter": {"Prefix": ""}, "Expiration": {"Days": 1}})
         for session in (1, 3):
-            self.put_by_name(f".s3/up/some/{session}.{'0' * 24}/=" + digest_of(b"some/a"), "t=1000&k=a&i=1000")
+            self.put_by_name(f".s3/up/some/{session}.{'0' * 24}/=" + endpoint.digest_of("some/a"), "t=1000&k=a&i=1000")
         self.give({"Filter": {"Prefix": ""}, "AbortIncompleteMultipartUpload": {"DaysAfterInitiation": 1}})
         two.client().list_buckets()
         self.until(lambda: "Uploads" not in self.s3.list_multipart_uploads(Bucket="some"))
 
 
+os.environ["PYTHONPATH"] = CODE  # (of SLOW)
 if __name__ == "__main__":
-    os.environ["PYTHONPATH"] = CODE
     unittest.main()

@@ -252,7 +252,7 @@ class Malformed(unittest.TestCase):
         removal = lambda more: (f"Content-Length: {75 + len(more)}\r\n\r\n<Delete><Object><Key>k</Key>{more}</Object><Object><Key>l</Key></Object></Delete>").encode()
         for method, path, headers, rest in [
             ("PUT", "/two/k?renameObject", {}, empty), ("PUT", "/two/k?anything", {}, body), ("PUT", "/two/k?partNumber=1", {}, body), ("PUT", "/two/k?acl", {}, body), ("PUT", "/two?anything=1", {}, empty),
-            ("PUT", in_parts + "&partNumber=1&anything", {}, body), ("DELETE", "/two/k?anything", {}, empty), ("DELETE", "/two/k?partNumber=1", {}, empty), ("DELETE", "/two/k?versionId=7", {}, empty),
+            ("PUT", in_parts + "&partNumber=1&anything", {}, body), ("DELETE", "/two/k?anything", {}, empty), ("DELETE", "/two/k?partNumber=1", {}, empty),
             ("DELETE", "/empty?metadataTable", {}, empty), ("DELETE", "/empty?x-amz-anything", {}, empty), ("POST", "/two/k?restore", {}, empty), ("POST", "/two/k", {}, body), ("POST", "/two", {}, body),
             ("POST", "/two/k?uploads&anything", {}, empty), ("POST", in_parts + "&anything", {}, completion), ("PUT", "/two/k", {"x-amz-rename-source": "l"}, empty), ("PUT", "/two/k", {"x-amz-anything": "l"}, body),
             ("PUT", "/two/k", {"If-Unmodified-Since": "Mon, 01 Jan 2001 00:00:00 GMT"}, body), ("DELETE", "/two/k", {"If-Modified-Since": "Mon, 01 Jan 2001 00:00:00 GMT"}, empty),
@@ -264,13 +264,15 @@ class Malformed(unittest.TestCase):
             ("PUT", in_parts + "&partNumber=1", {"x-amz-metadata-directive": "REPLACE"}, body), ("DELETE", "/two/k", {"x-amz-copy-source": "two/k"}, empty), ("PUT", "/two/k", {"x-amz-checksum-type": "COMPOSITE"}, body),
             ("PUT", "/three", {}, sized(b"<CreateBucketConfiguration><Tags><Tag><Key>a</Key></Tag></Tags></CreateBucketConfiguration>")),
             ("POST", "/two?delete", {}, sized(b"<Delete><Object><Key>k</Key></Object><BypassAll>true</BypassAll></Delete>")),
-            ("PUT", "/two/k?tagging", {"If-Match": "x"}, tagged), ("PUT", "/two/k?tagging&anything", {}, tagged), ("PUT", "/two/k?tagging&versionId=7", {}, tagged), ("DELETE", "/two/k?tagging", {"If-Match": "x"}, empty),
+            ("PUT", "/two/k?tagging", {"If-Match": "x"}, tagged), ("PUT", "/two/k?tagging&anything", {}, tagged), ("DELETE", "/two/k?tagging", {"If-Match": "x"}, empty),
             ("PUT", "/two/k?tagging", {}, sized(b"<Tagging><TagSet><Tag><Key>a</Key><Value>b</Value><Kind/></Tag></TagSet></Tagging>")), ("PUT", "/two?tagging", {}, tagged), ("DELETE", "/two?tagging", {}, empty),
             ("PUT", "/two/k", {"x-amz-tagging-directive": "REPLACE"}, body), ("PUT", in_parts + "&partNumber=1", {"x-amz-tagging": "a=b"}, body), ("POST", in_parts, {"x-amz-tagging": "a=b"}, completion),
             ("POST", in_parts, {}, sized(of_parts.replace(b"</Part>", b"<Size>4</Size></Part>"))), ("POST", in_parts, {}, sized(of_parts.replace(b"</ETag>", b"<x/></ETag>"))),
         ]:  # fmt: skip
             told = code_of(exchange(signed(method, path, headers) + rest))
             self.assertEqual(told, (501, "NotImplemented"), (method, path, headers))
+        for method, path, rest in (("DELETE", "/two/k?versionId=7", empty), ("PUT", "/two/k?tagging&versionId=7", tagged), ("DELETE", "/two/k?versionId", empty)):
+            self.tells(400, "InvalidArgument", signed(method, path) + rest)
         for method, path in (("PUT", "/two/k"), ("DELETE", "/two/k"), ("DELETE", "/empty")):
             self.tells(403, "AccessDenied", signed(method, path, {"x-amz-expected-bucket-owner": "dave"}) + body)
         self.tells(405, "MethodNotAllowed", signed("PATCH", "/two/k") + body)

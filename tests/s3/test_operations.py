@@ -136,11 +136,10 @@ class Buckets(Case):
 
     def test_what_is_not_done(self):
         for call, words in [
-            (self.s3.put_bucket_versioning, {"VersioningConfiguration": {"Status": "Enabled"}}), (self.s3.get_bucket_logging, {}),
+            (self.s3.get_bucket_logging, {}),
             (self.s3.put_object, {"Key": "a", "Body": b"", "ServerSideEncryption": "AES256"}),
             (self.s3.put_object, {"Key": "a", "Body": b"", "ACL": "public-read"}),
             (self.s3.put_object, {"Key": "a", "Body": b"", "StorageClass": "GLACIER"}),
-            (self.s3.delete_objects, {"Delete": {"Objects": [{"Key": "a", "VersionId": "1"}]}}),
         ]:  # fmt: skip
             self.fails("NotImplemented", call, Bucket=self.bucket, **words)
 
@@ -376,6 +375,17 @@ class Uploads(Case):
         # (a gateway that has not the session of the content puts it anew, as one)
         etag = found["ETag"] if IS_ONE_OF_SEVERAL else f'"{md5}-3"'
         self.assertEqual((found["Body"].read(), found["ETag"], found["Metadata"]), (content, etag, {"e": "f"}))
+
+    def test_keys_that_say_where_they_stand(self):
+        """A name that ends so stands in the page that it says itself. Its parts are beside it, and are its own once it is complete."""
+        body = os.urandom(min(MOST, 200_000))
+        for letter in "BCD":
+            words, told = self.upload(f"a/={letter * 43}", {1: body})
+            self.complete(words, told)
+            self.assertNotIn("Uploads", self.s3.list_multipart_uploads(Bucket=self.bucket))
+            self.fails("NoSuchUpload", self.s3.abort_multipart_upload, **words)
+            self.put("another", os.urandom(len(body)))
+            self.assertEqual(self.get(words["Key"])["Body"].read(), body)
 
     def test_given_up(self):
         words, told = self.upload("never", {1: b"x" * 2_000})

@@ -21,6 +21,7 @@ from gridfs_s3.errors import S3Error
 from gridfs_s3.places import of_words, parts_of, upload_name
 from gridfs_s3.shared import Shared
 from gridfs_s3.store import Store
+from gridfs_s3.versions import Target
 
 NAME, BUCKET = "bucket/key", "bucket"
 OLD, PARTS = b"old" * 100, [b"a" * 500, b"b" * 10, b"c" * 700]
@@ -56,7 +57,7 @@ def complete(objects, upload):
     name = upload_name(BUCKET, upload, NAME)
     held = objects.upload(name)
     chosen = [slots for _, slots in objects.uploaded(held)]
-    return objects.complete(name, NAME, {"m": "joined", "n": "3"}, chosen, None)
+    return objects.complete(name, Target(NAME), {"m": "joined", "n": "3"}, chosen, None)
 
 
 def kill_at(step):
@@ -265,7 +266,7 @@ class Steps(unittest.TestCase):
         name = upload_name(BUCKET, upload, NAME)
         chosen = [slots for _, slots in files.uploaded(files.upload(name))]
         with self.assertRaises(S3Error):
-            files.complete(name, NAME, {"m": "joined"}, chosen, refuse)
+            files.complete(name, Target(NAME), {"m": "joined"}, chosen, refuse)
         for number in range(6):
             put(files, "bucket/other", b"%d" % number * 900)
         complete(files, upload)

@@ -4,14 +4,15 @@ from collections.abc import Iterable
 
 from aiohttp import web
 
-from gridfs_client.buckets import Held
-from gridfs_client.contents import Inline
+from gridfs_client.buckets import Bucket, Held
+from gridfs_client.contents import Content, Inline
 
+from . import versions
 from .bodies import body_of
 from .errors import S3Error
 from .gateway import Operations
 from .markup import document, element, escape, many
-from .places import BUCKETS, KEYS, SETTINGS, UPLOADS, check_bucket, number_of, of_words, upload_of
+from .places import BUCKETS, KEYS, SETTINGS, UPLOADS, VERSIONS, check_bucket, number_of, of_words, upload_of
 from .requests import Asked, answer, iso, place_of, token_of
 from .store import Store
 
@@ -68,7 +69,7 @@ class Buckets(Operations):
     async def delete_bucket(self, asked: Asked) -> web.Response:
         """204; uploads that are under way go with it, and what it was given. 404 NoSuchBucket, 409 BucketNotEmpty."""
         await self.gateway.need_bucket(asked.bucket)
-        prefixes = (f"{asked.bucket}/", f"{KEYS}{asked.bucket}/")
+        prefixes = (f"{asked.bucket}/", f"{KEYS}{asked.bucket}/", f"{VERSIONS}{asked.bucket}/")
 
         def look(every: Iterable[Held]) -> list[str]:
             names = [held.name for held in every]
@@ -92,9 +93,31 @@ class Buckets(Operations):
         return answer(document("LocationConstraint", escape("" if self.gateway.region == "us-east-1" else self.gateway.region)))
 
     async def get_bucket_versioning(self, asked: Asked) -> web.Response:
-        """200: never enabled. 404 NoSuchBucket."""
+        """200: whether they are enabled or suspended; neither where they never were. 404 NoSuchBucket."""
+        state = await self.gateway.need_bucket(asked.bucket)
+        return answer(document("VersioningConfiguration", element("Status", state) if state else None))
+
+    async def put_bucket_versioning(self, asked: Asked) -> web.Response:
+        """200. Other gateways go on for two seconds by what was before. The errors of a body; 400 IllegalVersioningConfigurationException; 404 NoSuchBucket; 501
+        NotImplemented over several grids."""
         await self.gateway.need_bucket(asked.bucket)
-        return answer(document("VersioningConfiguration"))
+        state = (await self.gateway.document(asked, "VersioningConfiguration")).told("Status") or ""
+        if state not in (versions.ENABLED, versions.SUSPENDED):
+            raise S3Error("IllegalVersioningConfigurationException")
+        if self.grids.map:
+            raise S3Error("NotImplemented", "Versions are not told apart over several grids.")
+        name, words = BUCKETS + asked.bucket, dict[str, str]()
+
+        def expect(_: Bucket, held: Held | None) -> Content:
+            if not held:
+                raise S3Error("NoSuchBucket", BucketName=asked.bucket)
+            words.update(of_words(held.words))
+            return Inline(b"")
+
+        # (the bucket was made when it was made)
+        await self.gateway.change(name, lambda store: store.change(name, expect, lambda: {**words, "v": state}))
+        self.gateway.known_buckets.pop(asked.bucket, None)
+        return answer()
 
     async def get_bucket_acl(self, asked: Asked) -> web.Response:
         """200: all is the tenant's. 404 NoSuchBucket."""

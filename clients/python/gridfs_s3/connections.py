@@ -19,7 +19,7 @@ def error_answer(fault: S3Error, asked: Asked | None) -> web.Response:
     """An error in the form of S3; with no body to a HEAD."""
     if fault.code == "NotModified":
         return answer(status=304)
-    headers = {"Content-Type": "application/xml", **({"Retry-After": "1"} if fault.status == 503 else {})}
+    headers = {"Content-Type": "application/xml", **({"Retry-After": "1"} if fault.status == 503 else {}), **fault.headers}
     return answer(b"" if asked and asked.method == "HEAD" else error_text(fault, asked), fault.status, headers)
 
 

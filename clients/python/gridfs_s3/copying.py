@@ -3,7 +3,7 @@
 import asyncio
 import hashlib
 import re
-from collections.abc import Callable, Generator, Sequence
+from collections.abc import Callable, Generator, Mapping, Sequence
 from contextlib import closing
 from typing import Any, TypeVar
 from urllib.parse import unquote
@@ -21,10 +21,11 @@ from .gateway import TURNS, NotSettled, Operations
 from .grids import Want
 from .markup import document, element
 from .objects import Objects, algorithm_wanted, values_by, values_of
-from .places import KEYS, Object, Values, name_of
+from .places import Object, Values
 from .requests import Asked, answer, iso, judge
 from .store import Body, Condition, NoLine, PageFull, Store
 from .trips import Elsewhere
+from .versions import Place
 from .workers import Crowded
 
 Told = TypeVar("Told")
@@ -75,8 +76,9 @@ class Copies(Operations):
         super().__init__(objects.gateway)
         self.objects = objects
 
-    def source_of(self, asked: Asked) -> tuple[str, str]:
-        """Bucket and key that are to be copied. 400 InvalidArgument; 403 AccessDenied, where the access key is not for that bucket."""
+    async def source_of(self, asked: Asked) -> Place:
+        """Where the object is looked for that is to be copied. 400 InvalidArgument; 403 AccessDenied, where the access key is not for that bucket; 404
+        NoSuchBucket."""
         text, _, version = asked.headers["x-amz-copy-source"].partition("?versionId=")
         try:
             bucket, _, key = unquote(text, errors="strict").removeprefix("/").partition("/")
@@ -85,14 +87,12 @@ class Copies(Operations):
             key = ""
         if not key:
             raise S3Error("InvalidArgument", "x-amz-copy-source is BUCKET/KEY, in UTF-8.")
-        if version not in ("", "null"):
-            raise S3Error("NotImplemented", "There are no versions here.")
         asked.signed.key.expect(bucket, is_change=False)
-        return bucket, key
+        return await self.gateway.place_of(bucket, key, version or None)
 
     async def copied(
         self,
-        place: tuple[str, str],
+        place: Place,
         asked: Asked,
         put: Callable[[Store, Body, Object], Told],
         choose: Callable[[Object], tuple[int, int]],
@@ -100,27 +100,23 @@ class Copies(Operations):
         number: int | None = None,
         condition: Condition | None = None,
     ) -> Told:
-        """Has one session read an object, by its bucket and key, in the range that is chosen, and another one put it: `put` is given what reads the content.
-        404 NoSuchBucket, NoSuchKey; 412 PreconditionFailed; 416 InvalidRange."""
-        bucket, key = place
-        await self.gateway.need_bucket(bucket)
-        name, part, found = name_of(bucket, key), (0, 0), list[Object]()
+        """Has one session read an object in the range that is chosen, and another one put it: `put` is given what reads the content. 404 NoSuchKey, NoSuchVersion; 405
+        MethodNotAllowed; 412 PreconditionFailed; 416 InvalidRange."""
+        name, part, found = place.name, (0, 0), list[Object]()
 
         def choice(held: Held | None) -> tuple[int, int]:
             nonlocal part
-            if not held:
-                raise S3Error("NoSuchKey", Key=key)
-            found[:] = [Object(key, held)]
+            found[:] = [place.expect(held)]
             judge(asked.headers, found[0], "x-amz-copy-source-", is_read=False)
             part = choose(found[0])
             return part
 
         def begin(store: Store) -> tuple[bytes, Generator[bytes, None, None]]:
-            _, parts, data = store.read(name, choice)
+            _, parts, data = store.read(name, choice, place.is_latest)
             return data, parts
 
         def small(store: Store) -> bytes | None:
-            _, parts, data = store.read(name, choice)
+            _, parts, data = store.read(name, choice, place.is_latest)
             with closing(parts):
                 return data + b"".join(parts) if part[1] - part[0] <= LONG else None
 
@@ -163,40 +159,42 @@ class Copies(Operations):
     async def copy_object(self, asked: Asked) -> web.Response:
         """200; a copy of an object onto itself with other metadata or tags moves no content. 400 InvalidArgument, InvalidRequest (nothing would change), InvalidTag;
         404 NoSuchBucket, NoSuchKey; 412 PreconditionFailed; 507 InsufficientStorage."""
-        await self.gateway.need_bucket(asked.bucket)
-        bucket, key = self.source_of(asked)
-        name, directive = name_of(asked.bucket, asked.key), asked.headers.get("x-amz-metadata-directive", "COPY")
+        target, place = await self.objects.target_of(asked), await self.source_of(asked)
+        name, directive = target.name, asked.headers.get("x-amz-metadata-directive", "COPY")
+        is_onto_itself = (place.bucket, place.key, place.version) == (asked.bucket, asked.key, None)
         if directive not in ("COPY", "REPLACE"):
             raise S3Error("InvalidArgument", "x-amz-metadata-directive is COPY or REPLACE.")
         new_tags = tags.in_place_of_the_sources(asked.headers)
-        if (bucket, key) == (asked.bucket, asked.key) and directive == "COPY" and new_tags is None:
+        if is_onto_itself and directive == "COPY" and new_tags is None:
             raise S3Error("InvalidRequest", "A copy onto itself has to change something: REPLACE.")
         new, algorithm = values_of(asked), algorithm_wanted(asked)
 
         def values_for(found: Object, source: Body | None) -> Values:
             old = found.values
             old_tags = tags.among(old)
-            kept = new if directive == "REPLACE" else {each: value for each, value in old.items() if each not in ("k", "u", "n", "m", "s", "t", *old_tags)}
-            values = {**kept, **(old_tags if new_tags is None else new_tags), **({"k": asked.key} if name.startswith(KEYS) else {})}
+            kept = new if directive == "REPLACE" else {each: value for each, value in old.items() if each not in ("k", "o", "u", "n", "m", "s", "t", *old_tags)}
+            values = {**kept, **(old_tags if new_tags is None else new_tags), **target.values}
             if source is None:  # (the content stays where it is)
                 return {**values, **{each: old[each] for each in ("m", "n", "s") if each in old}}
             return {**values, **values_by(source, algorithm or (found.checksum.algorithm if found.checksum else ""))}
 
         condition = await self.gateway.condition_of(asked, name)
-        if (bucket, key) == (asked.bucket, asked.key) and not condition and not algorithm:
-            if held := await self.touched(asked, name, lambda found: values_for(found, None)):
+        if is_onto_itself and not place.state and not condition and not algorithm:
+            if held := await self.touched(asked, place, lambda found: values_for(found, None)):
                 return self.result("CopyObjectResult", Object(asked.key, held))
+        source_told = dict[str, str]()
 
         def put(store: Store, source: Body, found: Object) -> Held:
-            return store.put_object(name, source, lambda: values_for(found, source), condition)
+            source_told.update({"x-amz-copy-source-version-id": found.version} if place.state else {})
+            return store.put_object(name, source, lambda: values_for(found, source), condition, target.about)
 
-        held = await self.copied((bucket, key), asked, put, lambda found: (0, found.size), name, condition=condition)
-        return self.result("CopyObjectResult", Object(asked.key, held))
+        held = await self.copied(place, asked, put, lambda found: (0, found.size), name, condition=condition)
+        return self.result("CopyObjectResult", Object(asked.key, held), {**source_told, **target.told})
 
-    async def touched(self, asked: Asked, name: str, values: Callable[[Object], Values], condition: Condition | None = None) -> Held | None:
+    async def touched(self, asked: Asked, place: Place, values: Callable[[Object], Values], condition: Condition | None = None) -> Held | None:
         """Gives an object other words where it stands; None where it has to be put anew."""
         for _ in range(3):
-            found = await self.objects.found(asked)
+            found, name = await self.objects.found(place), place.name
             judge(asked.headers, found, "x-amz-copy-source-", is_read=False)
             number = None if not found.held.content.pieces else found.held.version.session
             if number is not None and not self.grids.has_session(number):
@@ -209,9 +207,9 @@ class Copies(Operations):
                 return None  # (of its own session; another one may have room)
         return None
 
-    def result(self, name: str, found: Object) -> web.Response:
+    def result(self, name: str, found: Object, headers: Mapping[str, str] = {}) -> web.Response:
         inner = found.checksum.elements() if found.checksum else []
-        return answer(document(name, element("LastModified", iso(found.time)), element("ETag", f'"{found.etag}"'), *inner))
+        return answer(document(name, element("LastModified", iso(found.time)), element("ETag", f'"{found.etag}"'), *inner), headers=headers)
 
 
 def range_to_copy(text: str | None, size: int) -> tuple[int, int]:

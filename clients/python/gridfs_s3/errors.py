@@ -2,6 +2,7 @@
 
 import sys
 import traceback
+from collections.abc import Mapping
 
 from gridfs_client.errors import CarrierFault, ClientError, NoRoom, Replaced, SessionTaken, Unanswered
 from gridfs_client.local import visible
@@ -16,6 +17,7 @@ ERRORS = {
     "BucketAlreadyOwnedByYou": (409, "The bucket exists already, and is yours."),
     "BucketNotEmpty": (409, "The bucket is not empty."),
     "EntityTooLarge": (400, "The content is longer than one request may put."),
+    "IllegalVersioningConfigurationException": (400, "The Status of a bucket's versions is Enabled or Suspended."),
     "IncompleteBody": (400, "The content is not as long as the request says."),
     "InsufficientStorage": (507, "The tenant has no room for it."),
     "InternalError": (500, "The gateway met a fault that it does not know."),
@@ -42,6 +44,7 @@ ERRORS = {
     "NoSuchPublicAccessBlockConfiguration": (404, "The bucket has no public access block."),
     "NoSuchTagSet": (404, "The bucket has no tags."),
     "NoSuchUpload": (404, "There is no such upload: it was completed or aborted, or never begun."),
+    "NoSuchVersion": (404, "There is no such version of this key."),
     "NotImplemented": (501, "This endpoint does not do that."),
     "NotModified": (304, ""),
     "NoSuchWebsiteConfiguration": (404, "The bucket has no website configuration."),
@@ -60,10 +63,11 @@ ERRORS = {
 
 
 class S3Error(Exception):
-    """What a client is told by a code, with its status, a message, and elements besides."""
+    """What a client is told by a code, with its status, a message, elements besides, and headers."""
 
     def __init__(self, code: str, message: str = "", **more: str):
         self.code, self.more = code, more
+        self.headers: Mapping[str, str] = {}
         self.status, usual = ERRORS[code]
         self.message = message or usual
         super().__init__(self.message)

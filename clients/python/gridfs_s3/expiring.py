@@ -7,7 +7,7 @@ import asyncio
 import hashlib
 import time
 from collections import Counter
-from collections.abc import Iterable, Iterator
+from collections.abc import Callable, Iterable, Iterator
 from dataclasses import dataclass
 
 from aiohttp import web
@@ -21,10 +21,11 @@ from .errors import S3Error, error_of, tell
 from .gateway import Operations
 from .lifecycle import Rule, document_of, rules_of
 from .markup import parse
-from .places import BUCKETS, SETTINGS, UPLOADS, bucket_in, number_of, object_of, of_words, setting_name, upload_of
+from .places import BUCKETS, SETTINGS, UPLOADS, Object, bucket_in, name_of, number_of, object_of, of_words, setting_name, upload_of
 from .requests import Asked, answer
 from .sessions import now_ms
 from .store import Changed, Store, expect_same
+from .versions import Target, target_of
 from .workers import who_asks
 
 KIND = "lifecycle"
@@ -33,11 +34,27 @@ SURE_FOR = 2.0  # seconds for which rules that were seen are taken to be in forc
 
 @dataclass(frozen=True)
 class InForce:
-    """The rules of a bucket, as they were seen."""
+    """The rules of a bucket, as they were seen, and the state of its versions."""
 
     held: Held
     rules: tuple[Rule, ...]
+    state: str
     seen: float
+
+
+@dataclass(frozen=True)
+class Going:
+    """What has expired: an upload, or a version of an object."""
+
+    bucket: str
+    held: Held
+    about: str | None = None  # the object's name, where the bucket has versions
+    mark: Target | None = None  # the version is the latest, and gets a marker
+    is_older: bool = False  # it goes only as long as it is not the latest
+
+    @property
+    def what(self) -> str:
+        return "uploads" if self.held.name.startswith(UPLOADS) else "versions" if self.about and not self.mark else "objects"
 
 
 def text_of(store: Store, name: str) -> tuple[Held, bytes]:
@@ -62,9 +79,9 @@ class Lifecycles(Operations):
     async def put_bucket_lifecycle_configuration(self, asked: Asked) -> web.Response:
         """200: the bucket has these rules and no others. The errors of a body; 400 InvalidArgument, InvalidRequest, MalformedXML; 404 NoSuchBucket; 501
         NotImplemented for what is not taken here, and for objects that go where this gateway has not all sessions; 507 InsufficientStorage."""
-        made = await self.made(asked.bucket)
+        made, _ = await self.made(asked.bucket)
         rules, name = rules_of(await self.gateway.document(asked, "LifecycleConfiguration")), setting_name(asked.bucket, KIND)
-        if any(rule.days is not None or rule.date is not None for rule in rules):
+        if any(rule.has_objects_go for rule in rules):
             self.gateway.expect_all()
         text = document_of(rules)
         source = Whole(text, hashlib.md5(text).hexdigest())
@@ -73,7 +90,7 @@ class Lifecycles(Operations):
 
     async def get_bucket_lifecycle_configuration(self, asked: Asked) -> web.Response:
         """200. 404 NoSuchBucket, NoSuchLifecycleConfiguration."""
-        found = await self.in_force(asked.bucket, await self.made(asked.bucket))
+        found = await self.in_force(asked.bucket, *await self.made(asked.bucket))
         if not found:
             raise S3Error("NoSuchLifecycleConfiguration", BucketName=asked.bucket)
         return answer(document_of(found.rules))
@@ -85,15 +102,17 @@ class Lifecycles(Operations):
         await self.gateway.change(name, lambda store: store.delete(name))
         return answer(status=204)
 
-    async def made(self, bucket: str) -> int:
-        """When the bucket was made. What an earlier one of its name was given is not its own. 400 InvalidBucketName, 404 NoSuchBucket."""
+    async def made(self, bucket: str) -> tuple[int, str]:
+        """When the bucket was made, and the state of its versions. What an earlier one of its name was given is not its own. 400 InvalidBucketName, 404
+        NoSuchBucket."""
         await self.gateway.need_bucket(bucket)
         held = await self.gateway.look(BUCKETS + bucket, lambda store: store.look(BUCKETS + bucket))
         if not held:
             raise S3Error("NoSuchBucket", BucketName=bucket)
-        return number_of(of_words(held.words), "t")
+        words = of_words(held.words)
+        return number_of(words, "t"), words.get("v", "")
 
-    async def in_force(self, bucket: str, made: int) -> InForce | None:
+    async def in_force(self, bucket: str, made: int, state: str) -> InForce | None:
         """The rules of a bucket that was made then; None where it has none."""
         name, seen = setting_name(bucket, KIND), time.monotonic()
         try:
@@ -104,7 +123,7 @@ class Lifecycles(Operations):
             raise
         if number_of(of_words(held.words), "b") != made:
             return None
-        return InForce(held, tuple(rules_of(parse(text, "LifecycleConfiguration", lifecycle.ELEMENTS))), seen)
+        return InForce(held, tuple(rules_of(parse(text, "LifecycleConfiguration", lifecycle.ELEMENTS))), state, seen)
 
     # What has expired
 
@@ -126,13 +145,13 @@ class Lifecycles(Operations):
         if not self.gateway.clock.is_agreed():
             tell("what has expired stays for now: no client has signed a request by the time of this machine's clock yet, or it was set since")
             return gone
-        if not self.grids.has_all and any(rule.has_objects_go for found in in_force.values() for rule in found.rules):
+        if not self.grids.has_all and any(rule.is_enabled and rule.has_objects_go for found in in_force.values() for rule in found.rules):
             tell("objects that have expired stay: that they go needs a gateway that has all sessions of its tenant")
         wanted = await self.gateway.all(lambda every: list(self.expired(every, in_force, now)))
         try:
-            for bucket, held in wanted:
-                if await self.is_still_in_force(bucket, in_force) and await self.is_removed(held):
-                    gone[bucket, "uploads" if held.name.startswith(UPLOADS) else "objects"] += 1
+            for each in wanted:
+                if await self.is_still_in_force(each.bucket, in_force) and await self.is_removed(each):
+                    gone[each.bucket, each.what] += 1
         finally:
             for (bucket, what), count in gone.items():
                 tell(f"{bucket}: {count} {what} have expired, and are gone")
@@ -142,19 +161,20 @@ class Lifecycles(Operations):
     async def all_in_force(self) -> dict[str, InForce]:
         """The rules of each bucket that has some. What is none is told, and passed over."""
         kept = await self.gateway.all(lambda every: [held for held in every if held.name.startswith((BUCKETS, SETTINGS))])
-        made = {held.name.removeprefix(BUCKETS): number_of(of_words(held.words), "t") for held in kept if held.name.startswith(BUCKETS)}
+        words = {held.name.removeprefix(BUCKETS): of_words(held.words) for held in kept if held.name.startswith(BUCKETS)}
         found: dict[str, InForce] = {}
-        for bucket in sorted(made):
+        for bucket in sorted(words):
             if any(held.name == setting_name(bucket, KIND) for held in kept):
                 try:
-                    if rules := await self.in_force(bucket, made[bucket]):
+                    if rules := await self.in_force(bucket, number_of(words[bucket], "t"), words[bucket].get("v", "")):
                         found[bucket] = rules
                 except S3Error as fault:
                     tell(f"the lifecycle of {bucket} is passed over: {fault.message}")
         return found
 
-    def expired(self, every: Iterable[Held], in_force: dict[str, InForce], now: int) -> Iterator[tuple[str, Held]]:
-        """What has expired and can go by this gateway, each with its bucket."""
+    def expired(self, every: Iterable[Held], in_force: dict[str, InForce], now: int) -> Iterator[Going]:
+        """What has expired and can go by this gateway."""
+        versions = dict[tuple[str, str], list[Object]]()
         for held in every:
             bucket = bucket_in(held.name)
             rules = in_force[bucket].rules if bucket in in_force else ()
@@ -162,9 +182,17 @@ class Lifecycles(Operations):
                 words = of_words(held.words)
                 is_here = bool(self.grids.map) or self.buckets.session_of(held.name) is not None
                 if is_here and upload_of(held.name) and any(rule.has_ended(words.get("k", ""), number_of(words, "i"), now) for rule in rules):
-                    yield bucket, held
-            elif self.grids.has_all and (found := object_of(bucket, held)) and any(rule.has_expired(found, now) for rule in rules):
-                yield bucket, held
+                    yield Going(bucket, held)
+            elif rules and self.grids.has_all and (found := object_of(bucket, held)):
+                if in_force[bucket].state:
+                    versions.setdefault((bucket, found.key), []).append(found)
+                elif any(rule.has_expired(found, now) for rule in rules):
+                    yield Going(bucket, held)
+        for (bucket, key), several in versions.items():
+            try:
+                yield from expired_of(bucket, key, in_force[bucket], several, now)
+            except S3Error:
+                pass  # (another client wrote a line that has no key)
 
     async def is_still_in_force(self, bucket: str, in_force: dict[str, InForce]) -> bool:
         """Whether the bucket and its rules are as they were when it was seen what has expired; that may be some seconds ago."""
@@ -172,22 +200,42 @@ class Lifecycles(Operations):
         if found and time.monotonic() - found.seen > SURE_FOR:
             self.gateway.known_buckets.pop(bucket, None)
             try:
-                again = await self.in_force(bucket, await self.made(bucket))
+                again = await self.in_force(bucket, *await self.made(bucket))
             except S3Error:
                 again = None
-            if again and again.held.version == found.held.version:
+            if again and (again.held.version, again.state) == (found.held.version, found.state):
                 in_force[bucket] = again
             else:
                 in_force.pop(bucket)
         return bucket in in_force
 
-    async def is_removed(self, held: Held) -> bool:
-        """Has an object go, if it is as it was seen, or an upload."""
-        name = held.name
+    async def is_removed(self, going: Going) -> bool:
+        """Has an object go, or a version, if it is as it was seen, or an upload."""
+        name, mark = going.held.name, going.mark
         if name.startswith(UPLOADS):
             return await self.gateway.change(name, lambda store: store.delete(name), number=self.buckets.session_of(name))
-        condition = self.gateway.judged(name, lambda now: expect_same(now, held))
+
+        def judge(now: Held | None) -> None:
+            if not going.is_older:
+                expect_same(now, going.held)
+            elif not now or now.name == name:
+                raise Changed
+
+        condition = self.gateway.judged(name, judge)
+        work: Callable[[Store], bool] = lambda store: bool(store.mark(mark, condition)) if mark else store.delete(name, condition, going.about)
         try:
-            return await self.gateway.change(name, lambda store: store.delete(name, condition), condition=condition)
+            return await self.gateway.change(mark.name if mark else name, work, condition=condition)
         except Changed:
             return False
+
+
+def expired_of(bucket: str, key: str, in_force: InForce, found: list[Object], now: int) -> Iterator[Going]:
+    """What has expired of the versions of one key. S3Error where it is no key."""
+    about, (latest, *older) = name_of(bucket, key), sorted(found, key=lambda each: each.order, reverse=True)
+    if not latest.is_marker and any(rule.has_expired(latest, now) for rule in in_force.rules):
+        yield Going(bucket, latest.held, about, mark=target_of(bucket, key, in_force.state))
+    if any(rule.is_over(latest, len(found)) for rule in in_force.rules):
+        yield Going(bucket, latest.held, about)
+    for newer, (after, each) in enumerate(zip((latest, *older), older)):
+        if any(rule.has_aged(each, after.time, newer, now) for rule in in_force.rules):
+            yield Going(bucket, each.held, about, is_older=True)

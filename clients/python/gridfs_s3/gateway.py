@@ -19,10 +19,11 @@ from .errors import S3Error, tell
 from .grids import Grids, Taken, Want
 from .keys import Key
 from .markup import Element, element, many, parse
-from .places import BUCKETS, Object, check_bucket
+from .places import BUCKETS, Object, check_bucket, of_words
 from .requests import Asked, matches
 from .store import Condition, NoLine, PageFull, Store
 from .trips import Elsewhere
+from .versions import Place, expect_id, is_there
 from .workers import Crowded
 
 Told = TypeVar("Told")
@@ -77,7 +78,7 @@ class Gateway:
 
     def __init__(self, grids: Grids, tenant: str, keys: Mapping[str, Key], region: str, domain: str | None):
         self.grids, self.tenant, self.keys, self.region, self.domain = grids, tenant, keys, region, domain
-        self.known_buckets: dict[str, float] = {}
+        self.known_buckets: dict[str, tuple[float, str]] = {}  # until when, and the state of their versions
         self.clock = Clock()
         self.places, self.documents = Places(), asyncio.Semaphore(IN_HAND)
         self.map_faults = list[str]()  # what was the matter when a later map was looked for last
@@ -256,6 +257,7 @@ class Gateway:
             raise S3Error("NotImplemented", "If-None-Match of a put has to be *.")
 
         def judge(held: Held | None) -> None:
+            held = is_there(held)
             if none and held:
                 raise S3Error("PreconditionFailed", Condition="If-None-Match")
             if match is not None and not held:
@@ -302,17 +304,29 @@ class Gateway:
 
     # Buckets
 
-    async def need_bucket(self, bucket: str) -> None:
-        """400 InvalidBucketName, 404 NoSuchBucket."""
+    async def need_bucket(self, bucket: str) -> str:
+        """The state of a bucket's versions, empty where it never had any. 400 InvalidBucketName, 404 NoSuchBucket; 501 NotImplemented where it has versions, over
+        several grids."""
         check_bucket(bucket)
-        if self.known_buckets.get(bucket, 0) > time.monotonic():
-            return
-        if not await self.look(BUCKETS + bucket, lambda store: store.look(BUCKETS + bucket)):
-            self.known_buckets.pop(bucket, None)
+        until, state = self.known_buckets.get(bucket, (0.0, ""))
+        if until > time.monotonic():
+            return state
+        self.known_buckets.pop(bucket, None)
+        held = await self.look(BUCKETS + bucket, lambda store: store.look(BUCKETS + bucket))
+        if not held:
             raise S3Error("NoSuchBucket", BucketName=bucket)
+        state = of_words(held.words).get("v", "")
+        if state and self.grids.map:
+            raise S3Error("NotImplemented", "The bucket has versions, which are not told apart over several grids.")
         if len(self.known_buckets) > 1_000:
             self.known_buckets.clear()
-        self.known_buckets[bucket] = time.monotonic() + KNOWN_FOR
+        self.known_buckets[bucket] = time.monotonic() + KNOWN_FOR, state
+        return state
+
+    async def place_of(self, bucket: str, key: str, version: str | None) -> Place:
+        """Where an object is looked for. 400 InvalidArgument for what is no ID of a version; the errors of need_bucket."""
+        state = await self.need_bucket(bucket)
+        return Place(bucket, key, state, expect_id(version))
 
     def owner(self, name: str = "Owner") -> str:
         return many(name, element("ID", self.tenant), element("DisplayName", self.tenant))

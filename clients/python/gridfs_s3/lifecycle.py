@@ -13,18 +13,18 @@ from .places import TAG, Object
 from .requests import iso
 
 DAY = 86_400_000  # milliseconds
-MOST_RULES, LONGEST_ID, MOST_DAYS = 1_000, 255, 2**31 - 1
+MOST_RULES, LONGEST_ID, MOST_DAYS, MOST_NEWER = 1_000, 255, 2**31 - 1, 100
 # An action, or a filter, that is not here is told 501: a rule does all that it says, or is not taken.
 ELEMENTS = {
     "LifecycleConfiguration": {"Rule"},
-    "Rule": {"ID", "Status", "Filter", "Prefix", "Expiration", "AbortIncompleteMultipartUpload"},
+    "Rule": {"ID", "Status", "Filter", "Prefix", "Expiration", "NoncurrentVersionExpiration", "AbortIncompleteMultipartUpload"},
     "Filter": {"Prefix", "Tag", "ObjectSizeGreaterThan", "ObjectSizeLessThan", "And"},
     "And": {"Prefix", "Tag", "ObjectSizeGreaterThan", "ObjectSizeLessThan"},
     "Tag": {"Key", "Value"},
-    "Expiration": {"Days", "Date"},
+    "Expiration": {"Days", "Date", "ExpiredObjectDeleteMarker"},
+    "NoncurrentVersionExpiration": {"NoncurrentDays", "NewerNoncurrentVersions"},
     "AbortIncompleteMultipartUpload": {"DaysAfterInitiation"},
 }
-IN_FILTERS = ("Prefix", "Tag", "ObjectSizeGreaterThan", "ObjectSizeLessThan")
 
 
 @dataclass(frozen=True)
@@ -40,10 +40,13 @@ class Rule:
     days: int | None = None
     date: int | None = None
     days_of_uploads: int | None = None
+    days_of_older: int | None = None  # versions that are not the latest
+    newer: int = 0  # so many of these stay, the newest
+    is_of_markers: bool = False  # markers that are the only version
 
     @property
     def has_objects_go(self) -> bool:
-        return self.is_enabled and (self.days is not None or self.date is not None)
+        return self.days is not None or self.date is not None or self.days_of_older is not None or self.is_of_markers
 
     def is_for(self, found: Object) -> bool:
         """Whether the rule's filter names this object."""
@@ -59,6 +62,15 @@ class Rule:
         if not self.is_enabled or not found.time or not self.is_for(found):
             return False
         return (self.days is not None and now >= midnight_after(found.time, self.days)) or (self.date is not None and now >= self.date)
+
+    def has_aged(self, found: Object, since: int, newer: int, now: int) -> bool:
+        """Whether a version is to go that is not the latest since that time, and has so many newer ones that are not the latest either."""
+        is_old = self.days_of_older is not None and since > 0 and now >= midnight_after(since, self.days_of_older)
+        return self.is_enabled and is_old and newer >= self.newer and self.is_for(found)
+
+    def is_over(self, found: Object, count: int) -> bool:
+        """Whether a marker is to go, as its object has so many versions."""
+        return self.is_enabled and self.is_of_markers and found.is_marker and count == 1 and self.is_for(found)
 
     def has_ended(self, key: str, begun: int, now: int) -> bool:
         """Whether an upload for this key, begun then, is to go."""
@@ -77,6 +89,14 @@ class Rule:
             element("Status", "Enabled" if self.is_enabled else "Disabled"),
             many("Expiration", element("Days", self.days)) if self.days is not None else None,
             many("Expiration", element("Date", iso(self.date))) if self.date is not None else None,
+            many("Expiration", element("ExpiredObjectDeleteMarker", "true")) if self.is_of_markers else None,
+            many(
+                "NoncurrentVersionExpiration",
+                element("NoncurrentDays", self.days_of_older),
+                element("NewerNoncurrentVersions", self.newer) if self.newer else None,
+            )
+            if self.days_of_older is not None
+            else None,
             many("AbortIncompleteMultipartUpload", element("DaysAfterInitiation", self.days_of_uploads)) if self.days_of_uploads is not None else None,
         )
 
@@ -124,12 +144,20 @@ def rule_of(found: Element) -> Rule:
     if (chosen is None) == (one_of(found, "Prefix") is None):
         raise S3Error("MalformedXML", "A rule has a Filter, or else a Prefix.")
     rule = filtered(chosen if chosen is not None else found, name, status == "Enabled", is_filter=chosen is not None)
-    expiration, uploads = one_of(found, "Expiration"), one_of(found, "AbortIncompleteMultipartUpload")
-    if expiration is None and uploads is None:
+    expiration, uploads, older = (one_of(found, each) for each in ("Expiration", "AbortIncompleteMultipartUpload", "NoncurrentVersionExpiration"))
+    if expiration is None and uploads is None and older is None:
         raise S3Error("InvalidRequest", "A rule has at least one action.")
-    days, date = (text_of(expiration, each) for each in ("Days", "Date")) if expiration is not None else (None, None)
-    if expiration is not None and (days is None) == (date is None):
-        raise S3Error("MalformedXML", "Expiration has Days, or else a Date.")
+    days, date, marker = (text_of(expiration, each) for each in ("Days", "Date", "ExpiredObjectDeleteMarker")) if expiration is not None else (None, None, None)
+    if marker is not None and marker.strip() not in ("true", "false"):
+        raise S3Error("MalformedXML", "ExpiredObjectDeleteMarker is true or false.")
+    is_of_markers = marker is not None and marker.strip() == "true"
+    if expiration is not None and [days is not None, date is not None, is_of_markers].count(True) != 1:
+        raise S3Error("MalformedXML", "Expiration has Days, or a Date, or ExpiredObjectDeleteMarker.")
+    if is_of_markers and rule.tags:
+        raise S3Error("InvalidRequest", "Markers have no tags.")
+    newer = text_of(older, "NewerNoncurrentVersions") if older is not None else None
+    if newer is not None and not number_in(newer, MOST_NEWER):
+        raise S3Error("InvalidArgument", f"NewerNoncurrentVersions is a number from 1 to {MOST_NEWER}.")
     if uploads is not None and (rule.tags or rule.above is not None or rule.below is not None):
         raise S3Error("InvalidRequest", "Uploads have no tags and no size: AbortIncompleteMultipartUpload takes a prefix alone.")
     return Rule(
@@ -137,6 +165,9 @@ def rule_of(found: Element) -> Rule:
         days_of(days, "Days") if days is not None else None,
         date_of(date) if date is not None else None,
         days_of(text_of(uploads, "DaysAfterInitiation") or "", "DaysAfterInitiation") if uploads is not None else None,
+        days_of(text_of(older, "NoncurrentDays") or "", "NoncurrentDays") if older is not None else None,
+        number_in(newer or "0", MOST_NEWER) or 0,
+        is_of_markers,
     )  # fmt: skip
 
 

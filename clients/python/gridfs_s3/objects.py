@@ -17,9 +17,10 @@ from .checksums import HEADER, algorithm_of
 from .errors import S3Error, error_of, tell
 from .gateway import Gateway, Operations, let_body_come
 from .markup import document, element, many
-from .places import KEYS, MOST_KEPT, MOST_METADATA, Object, Values, name_of
+from .places import MOST_KEPT, MOST_METADATA, Object, Values
 from .requests import SERVER, Asked, answer, http_date, judge, range_wanted
 from .store import Body, Condition, Store
+from .versions import HEADER as VERSION, MARKER, Place, Target, target_of
 
 MANY = 4 << 20  # bytes from which on idle sessions help
 HELPERS = 3
@@ -50,8 +51,6 @@ def values_of(asked: Asked) -> Values:
         "".join(f"{name}{value}" for name, value in values.items()).encode()
     except UnicodeEncodeError:
         raise S3Error("InvalidArgument", "What is kept beside a content is UTF-8.") from None
-    if name_of(asked.bucket, asked.key).startswith(KEYS):
-        values["k"] = asked.key
     return values
 
 
@@ -86,11 +85,11 @@ def headers_of(found: Object, asked: Asked) -> dict[str, str]:
     return {name: value for name, value in told.items() if not re.search(r"[\r\n\x00]", name + value)}
 
 
-def begun(asked: Asked, found: Object, part: tuple[int, int] | None) -> web.StreamResponse:
+def begun(asked: Asked, place: Place, found: Object, part: tuple[int, int] | None) -> web.StreamResponse:
     """The answer whose body is an object, or a part of it."""
     first, end = part or (0, found.size)
     # (in a browser an object is no page of this host, whatever it is: other tenants have their pages here)
-    headers = {**headers_of(found, asked), "x-amz-request-id": asked.id, "Server": SERVER, "Content-Security-Policy": "sandbox"}
+    headers = {**headers_of(found, asked), **place.told(found), "x-amz-request-id": asked.id, "Server": SERVER, "Content-Security-Policy": "sandbox"}
     if found.checksum and not part and asked.headers.get(f"{HEADER}mode", "").upper() == "ENABLED":
         headers |= found.checksum.headers()
     if count := len(tags.among(found.values)):
@@ -115,8 +114,8 @@ class Get:
     """One get: what is chosen of the object, and its answer, which begins once the first bytes are there. A session puts what is longer than a little into a
     file, from which it is given as it is taken: so no session waits for who takes it."""
 
-    def __init__(self, gateway: Gateway, asked: Asked):
-        self.gateway, self.asked, self.name = gateway, asked, name_of(asked.bucket, asked.key)
+    def __init__(self, gateway: Gateway, asked: Asked, place: Place):
+        self.gateway, self.asked, self.place = gateway, asked, place
         self.part: tuple[int, int] | None = None
         self.response: web.StreamResponse | None = None
         self.loop = asyncio.get_running_loop()
@@ -127,9 +126,7 @@ class Get:
         self.begun, self.given = 0.0, 0
 
     def choose(self, held: Held | None) -> tuple[int, int]:
-        if not held:
-            raise S3Error("NoSuchKey", Key=self.asked.key)
-        found = Object(self.asked.key, held)
+        found = self.place.expect(held)
         judge(self.asked.headers, found)
         self.part = range_wanted(self.asked.headers, found)
         first, end = self.part or (0, found.size)
@@ -138,7 +135,7 @@ class Get:
         return first, end
 
     async def begin(self, held: Held) -> None:
-        response = begun(self.asked, Object(self.asked.key, held), self.part)
+        response = begun(self.asked, self.place, Object(self.asked.key, held), self.part)
         await response.prepare(self.asked.request)
         self.response, self.begun = response, self.loop.time()
 
@@ -170,7 +167,7 @@ class Get:
 
     def send(self, store: Store) -> tuple[Held, bytes] | None:
         """(A thread's.) Has what is read given; or tells it, where it is little."""
-        held, parts, data = store.read(self.name, self.choose)
+        held, parts, data = store.read(self.place.name, self.choose, self.place.is_latest)
         first, end = self.part or (0, held.content.size)
         with closing(parts):  # (what it reads ahead ends before the session has other work)
             if len(data) == end - first <= IN_MEMORY:
@@ -197,7 +194,7 @@ class Get:
 
     async def answered(self) -> web.StreamResponse:
         try:
-            rest = await self.gateway.look(self.name, self.send, HELPERS, lambda: self.response is not None)
+            rest = await self.gateway.look(self.place.name, self.send, HELPERS, lambda: self.response is not None)
             if rest:
                 held, data = rest
                 await self.begin(held)
@@ -230,36 +227,40 @@ class Objects(Operations):
         super().__init__(gateway)
         self.buckets, self.small = buckets, asyncio.Semaphore(IN_HAND)
 
-    async def found(self, asked: Asked) -> Object:
-        """The object that is asked for. 404 NoSuchKey."""
-        name = name_of(asked.bucket, asked.key)
-        held = await self.gateway.look(name, lambda store: store.look(name))
-        if not held:
-            raise S3Error("NoSuchKey", Key=asked.key)
-        return Object(asked.key, held)
+    async def place_of(self, asked: Asked) -> Place:
+        """Where the object is looked for that is asked for. 400 InvalidArgument; 404 NoSuchBucket."""
+        return await self.gateway.place_of(asked.bucket, asked.key, asked.query.get("versionId"))
+
+    async def found(self, place: Place) -> Object:
+        """The object there. 404 NoSuchKey, NoSuchVersion; 405 MethodNotAllowed."""
+        look: Callable[[Store], Held | None] = lambda store: store.latest(place.name) if place.is_latest else store.look(place.name)
+        return place.expect(await self.gateway.look(place.name, look))
+
+    async def target_of(self, asked: Asked, version: str = "") -> Target:
+        """Where a new version of the object that is asked for is to stand. 404 NoSuchBucket."""
+        return target_of(asked.bucket, asked.key, await self.gateway.need_bucket(asked.bucket), version)
 
     async def get_object(self, asked: Asked) -> web.StreamResponse:
-        """200; 206 with Range. 304 NotModified; 404 NoSuchBucket, NoSuchKey; 412 PreconditionFailed; 416 InvalidRange. Where it is replaced again and
-        again 503, or a connection that ends early."""
-        await self.gateway.need_bucket(asked.bucket)
+        """200; 206 with Range. 304 NotModified; 404 NoSuchBucket, NoSuchKey, NoSuchVersion; 405 MethodNotAllowed for a marker; 412 PreconditionFailed; 416
+        InvalidRange. Where it is replaced again and again 503, or a connection that ends early."""
+        place = await self.place_of(asked)
         expect_whole(asked)
-        return await Get(self.gateway, asked).run()
+        return await Get(self.gateway, asked, place).run()
 
     async def head_object(self, asked: Asked) -> web.StreamResponse:
         """The same with no body."""
-        await self.gateway.need_bucket(asked.bucket)
+        place = await self.place_of(asked)
         expect_whole(asked)
-        found = await self.found(asked)
+        found = await self.found(place)
         judge(asked.headers, found)
-        response = begun(asked, found, range_wanted(asked.headers, found))
+        response = begun(asked, place, found, range_wanted(asked.headers, found))
         await response.prepare(asked.request)
         await response.write_eof()
         return response
 
     async def get_object_acl(self, asked: Asked) -> web.Response:
-        """200: all is the tenant's. 404 NoSuchBucket, NoSuchKey."""
-        await self.gateway.need_bucket(asked.bucket)
-        await self.found(asked)
+        """200: all is the tenant's. 404 NoSuchBucket, NoSuchKey, NoSuchVersion."""
+        await self.found(await self.place_of(asked))
         return answer(self.buckets.acl())
 
     async def get_object_attributes(self, asked: Asked) -> web.Response:
@@ -267,8 +268,8 @@ class Objects(Operations):
         wanted = {word.strip() for word in asked.headers.get("x-amz-object-attributes", "").split(",")}
         if not wanted <= ATTRIBUTES:
             raise S3Error("InvalidArgument", f"x-amz-object-attributes names some of {', '.join(sorted(ATTRIBUTES))}.")
-        await self.gateway.need_bucket(asked.bucket)
-        found = await self.found(asked)
+        place = await self.place_of(asked)
+        found = await self.found(place)
         count = found.values.get("n")
         told = {
             "ETag": element("ETag", found.etag),
@@ -278,7 +279,7 @@ class Objects(Operations):
             "ObjectSize": element("ObjectSize", found.size),
         }
         inner = [each for name, each in told.items() if name in wanted]
-        return answer(document("GetObjectAttributesResponse", *inner), headers={"Last-Modified": http_date(found.time)})
+        return answer(document("GetObjectAttributesResponse", *inner), headers={"Last-Modified": http_date(found.time), **place.told(found)})
 
     @asynccontextmanager
     async def source_of(self, asked: Asked, body: bodies.Body) -> AsyncIterator[Whole | Spooled]:
@@ -298,50 +299,65 @@ class Objects(Operations):
         """200. With If-None-Match or If-Match: 412 PreconditionFailed, 404 NoSuchKey. 404 NoSuchBucket; 411 MissingContentLength; 507
         InsufficientStorage; 400 BadDigest, EntityTooLarge, IncompleteBody, InvalidDigest, InvalidTag, KeyTooLongError, MetadataTooLarge,
         RequestTimeout, XAmzContentSHA256Mismatch; 403 SignatureDoesNotMatch (of a chunk). After these nothing was changed."""
-        await self.gateway.need_bucket(asked.bucket)
-        name, body = name_of(asked.bucket, asked.key), body_of(asked)
+        target, body = await self.target_of(asked), body_of(asked)
         if body.told_size > LONGEST_PUT:
             raise S3Error("EntityTooLarge")
+        name = target.name
         values, condition, algorithm = values_of(asked) | tags.in_headers(asked.headers), await self.gateway.condition_of(asked, name), algorithm_wanted(asked)
         async with self.source_of(asked, body) as source:
 
             def put(store: Store) -> Held:
-                return store.put_object(name, source, lambda: {**values, **values_by(source, algorithm)}, condition)
+                return store.put_object(name, source, lambda: {**values, **values_by(source, algorithm), **target.values}, condition, target.about)
 
             await self.gateway.need_bucket(asked.bucket)  # (it may have been removed while the content came)
             held = await self.gateway.change(name, put, HELPERS if body.told_size >= MANY else 0, condition=condition)
         found = Object(asked.key, held)
-        return answer(headers={"ETag": f'"{found.etag}"', **(found.checksum.headers() if found.checksum else {})})
+        return answer(headers={"ETag": f'"{found.etag}"', **(found.checksum.headers() if found.checksum else {}), **target.told})
 
     async def delete_object(self, asked: Asked) -> web.Response:
-        """204, also where there is no such key. With If-Match: 412 PreconditionFailed. 404 NoSuchBucket."""
-        await self.gateway.need_bucket(asked.bucket)
-        name = name_of(asked.bucket, asked.key)
-        await self.delete(name, await self.gateway.condition_of(asked, name))
-        return answer(status=204)
+        """204, also where there is no such key. In a bucket with versions a marker is put, or that version goes which is named. With If-Match: 412
+        PreconditionFailed. 400 InvalidArgument; 404 NoSuchBucket."""
+        place = await self.place_of(asked)
+        condition = await self.gateway.condition_of(asked, place.name)
+        if condition and place.state and place.version:
+            raise S3Error("NotImplemented", "A condition of a removal is of the latest version, so it names none.")
+        return answer(status=204, headers=await self.delete(place, condition))
 
-    async def delete(self, name: str, condition: Condition | None = None) -> None:
-        await self.gateway.change(name, lambda store: store.delete(name, condition), condition=condition)
+    async def delete(self, place: Place, condition: Condition | None = None) -> dict[str, str]:
+        """Has an object go, or one version; the headers that tell of which version."""
+        if place.is_latest:
+            target = target_of(place.bucket, place.key, place.state)
+            await self.gateway.change(target.name, lambda store: store.mark(target, condition), condition=condition)
+            return {MARKER: "true", **target.told}
+        seen = list[Held]()
+
+        def remove(store: Store) -> None:
+            held = store.look(place.name) if place.state else None
+            store.delete(place.name, condition, place.about)
+            seen[:] = [held] if held else []
+
+        await self.gateway.change(place.name, remove, condition=condition)
+        of_marker = {MARKER: "true"} if seen and Object(place.key, seen[0]).is_marker else {}
+        return {**of_marker, **({VERSION: place.version} if place.state and place.version else {})}
 
     async def delete_objects(self, asked: Asked) -> web.Response:
         """200, with what was told of each key. 400 MalformedXML, BadDigest; 404 NoSuchBucket."""
         await self.gateway.need_bucket(asked.bucket)
         wanted = await self.gateway.document(asked, "Delete")
-        keys = [each.told("Key") or "" for each in wanted.all("Object")]
-        if not 1 <= len(keys) <= 1_000 or not all(keys):
+        listed = [(each.told("Key") or "", each.told("VersionId") or None) for each in wanted.all("Object")]
+        if not 1 <= len(listed) <= 1_000 or not all(key for key, _ in listed):
             raise S3Error("MalformedXML")
-        if any(each.told("VersionId") not in (None, "", "null") for each in wanted.all("Object")):
-            raise S3Error("NotImplemented", "There are no versions here.")
         at_once = asyncio.Semaphore(max(1, self.grids.workers))
-        removed: Callable[[str], str | None] = lambda key: None if wanted.told("Quiet") == "true" else many("Deleted", element("Key", key))
 
-        async def one(key: str) -> str | None:
+        async def one(key: str, version: str | None) -> str | None:
+            named = [element("Key", key), element("VersionId", version) if version else None]
             try:
                 async with at_once:
-                    await self.delete(name_of(asked.bucket, key))
-                return removed(key)
+                    headers = await self.delete(await self.gateway.place_of(asked.bucket, key, version))
             except Exception as fault:
                 told = error_of(fault)
-                return many("Error", element("Key", key), element("Code", told.code), element("Message", told.message))
+                return many("Error", *named, element("Code", told.code), element("Message", told.message))
+            marker = [element("DeleteMarker", "true"), element("DeleteMarkerVersionId", headers[VERSION])] if MARKER in headers else []
+            return None if wanted.told("Quiet") == "true" else many("Deleted", *named, *marker)
 
-        return answer(document("DeleteResult", *await asyncio.gather(*map(one, keys))))
+        return answer(document("DeleteResult", *await asyncio.gather(*(one(*each) for each in listed))))

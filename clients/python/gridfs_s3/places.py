@@ -6,6 +6,8 @@
     .s3/set/BUCKET/lifecycle  the rules that the bucket was given, in XML
     .s3/up/BUCKET/ID/=DIGEST  an upload in parts that is under way: what was uploaded, in the order of the parts. DIGEST is SHA-256 of the object's
                               name, so that both are in the same page, at the same grid
+    .s3/version/BUCKET/ID/=DIGEST
+                              a version of an object, but for the version `null`, which is the object's name; the words have the key
 
 A bucket's name begins with a letter or digit, so none of these are in each other's way. The words of a line are KEY=VALUE with & between, each
 quoted as in a URL:
@@ -16,7 +18,8 @@ quoted as in a URL:
     k    its key, where the name does not tell it                  u    the upload by which it came
     s    its checksum, as `crc32.BASE64`, of an upload also -N     a    of an upload: the algorithm that was named, and its kind, as `crc32.FULL_OBJECT`
     i    of an upload: when it was begun                           g-NAME   a tag
-    b    of what a bucket was given: when the bucket was made
+    b    of what a bucket was given: when the bucket was made       v    of a bucket: whether its versions are Enabled or Suspended
+    d    the version is a marker of a removal                      o    of a version whose words were changed: NUMBER.SESSION of what was there first
     p    of an upload: NUMBER.MD5.SIZE.SECONDS of each part, with / between: MD5 is in base64url, SECONDS are since the upload was begun. Behind that
          .CHECKSUM, where one is kept, in base64url, and its .ALGORITHM, where that is another one than was named. (Earlier uploads have NUMBER.MD5.SIZE.TIME,
          with , between and MD5 in hexadecimal)
@@ -29,7 +32,7 @@ from functools import cached_property
 from urllib.parse import parse_qsl, quote
 
 from gridfs_client.buckets import Held
-from gridfs_client.contents import digest_in_hex, digest_of, from_base64, to_base64
+from gridfs_client.contents import digest_in_hex, digest_of, digest_to_place, from_base64, to_base64
 from gridfs_client.errors import BadName, Damaged
 from gridfs_client.pages import check_name
 
@@ -39,10 +42,12 @@ from .errors import S3Error
 BUCKET = re.compile(r"(?!xn--)(?!.*\.\.)(?!\d+\.\d+\.\d+\.\d+$)[a-z0-9][a-z0-9.-]{1,61}[a-z0-9]", re.ASCII)
 PART = re.compile(r"([0-9]{1,5})\.([A-Za-z0-9_-]{22})\.([0-9]{1,19})\.([0-9]{1,9})(?:\.([A-Za-z0-9_-]+)(?:\.([a-z0-9]+))?)?")
 OLD_PART = re.compile(r"([0-9]{1,5})\.([0-9a-f]{32})\.([0-9]{1,19})\.([0-9]{1,13})")
+ORDER = re.compile(r"([0-9]{1,19})\.([0-9]{1,3})")
 LONGEST_KEY, MOST_METADATA, MOST_KEPT = 1_024, 2_048, 8_192
 Values = dict[str, str]  # what stands beside a content, by its letters above
 TAG = "g-"
-BUCKETS, KEYS, UPLOADS, SETTINGS = ".s3/bucket/", ".s3/key/", ".s3/up/", ".s3/set/"
+BUCKETS, KEYS, UPLOADS, SETTINGS, VERSIONS = ".s3/bucket/", ".s3/key/", ".s3/up/", ".s3/set/", ".s3/version/"
+NULL = "null"  # the ID of the version that stands at the object's name
 PLAIN, FROM_PLAIN = str.maketrans("+/", "-_"), str.maketrans("-_", "+/")  # of base64
 
 
@@ -73,13 +78,22 @@ def setting_name(bucket: str, kind: str) -> str:
 
 
 def bucket_in(name: str) -> str:
-    """The bucket to which an object or an upload belongs that has this name."""
-    prefix = next((each for each in (KEYS, UPLOADS) if name.startswith(each)), "")
+    """The bucket to which an object, a version or an upload belongs that has this name."""
+    prefix = next((each for each in (KEYS, UPLOADS, VERSIONS) if name.startswith(each)), "")
     return name.removeprefix(prefix).partition("/")[0]
 
 
 def upload_name(bucket: str, upload: str, object_name: str) -> str:
-    return f"{UPLOADS}{bucket}/{upload}/={digest_of(object_name.encode())}"
+    return f"{UPLOADS}{bucket}/{upload}{beside(object_name)}"
+
+
+def beside(object_name: str) -> str:
+    """How names end that stand in the page of an object's name."""
+    return f"/={to_base64(digest_to_place(object_name))}"
+
+
+def version_name(bucket: str, version: str, object_name: str) -> str:
+    return f"{VERSIONS}{bucket}/{version}{beside(object_name)}"
 
 
 def upload_of(name: str) -> str:
@@ -181,11 +195,36 @@ class Object:
         """Milliseconds since the epoch; 0 of what another client put."""
         return number_of(self.values, "t")
 
+    @property
+    def version(self) -> str:
+        """Its ID among the versions of its key."""
+        return self.held.name.removeprefix(VERSIONS).split("/")[1] if self.held.name.startswith(VERSIONS) else NULL
+
+    @property
+    def is_marker(self) -> bool:
+        return "d" in self.values
+
+    @cached_property
+    def order(self) -> tuple[int, int]:
+        """By which versions of one key come one after another: what the change that made it had as its number, and its session."""
+        found = ORDER.fullmatch(self.values.get("o", ""))
+        return (int(found[1]), int(found[2])) if found else (self.held.version.number, self.held.version.session)
+
+
+def version_in(name: str, held: Held) -> Object | None:
+    """The version that this is of the object of that name; None where it is another one's."""
+    bucket = bucket_in(name)
+    found = object_of(bucket, held)
+    try:
+        return found if found and (held.name == name or name_of(bucket, found.key) == name) else None
+    except S3Error:
+        return None  # (the words have no key)
+
 
 def object_of(bucket: str, held: Held) -> Object | None:
-    """The object that a name of this bucket holds."""
+    """The object that a name of this bucket holds, or the version of one."""
     if held.name.startswith(f"{bucket}/"):
         return Object(held.name[len(bucket) + 1 :], held)
-    if held.name.startswith(f"{KEYS}{bucket}/"):
+    if held.name.startswith((f"{KEYS}{bucket}/", f"{VERSIONS}{bucket}/")):
         return Object(of_words(held.words).get("k", ""), held)
     return None

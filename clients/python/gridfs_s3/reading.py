@@ -6,7 +6,7 @@ from contextlib import closing
 from dataclasses import dataclass
 from functools import partial
 
-from gridfs_client.buckets import Held
+from gridfs_client.buckets import Bucket, Held
 from gridfs_client.contents import Inline, InSlots, digest_in_hex
 from gridfs_client.errors import Damaged, Replaced, Unanswered
 from gridfs_client.layout import Layout
@@ -16,6 +16,7 @@ from gridfs_client.sessions import Files
 from gridfs_client.ways import Ground
 from gridfs_client.writers import Writer
 
+from .places import VERSIONS, beside, bucket_in, version_in
 from .shared import Shared, SharedWriter
 from .trips import Elsewhere, Trip
 
@@ -68,6 +69,19 @@ class Reader(NamedFiles):
         bucket = self.bucket(name)
         bucket.refresh()
         return bucket.held(name)
+
+    def latest(self, name: str) -> Held | None:
+        """The latest of all versions of the object of this name, which may be a marker."""
+        bucket = self.bucket(name)
+        bucket.refresh()
+        return self.latest_in(bucket, name)
+
+    def latest_in(self, bucket: Bucket, name: str) -> Held | None:
+        """The same, of what was seen last."""
+        begin, end = f"{VERSIONS}{bucket_in(name)}/", beside(name)
+        held = [bucket.held(name), *(each for each in self.shared.held_in(bucket) if each.name.startswith(begin) and each.name.endswith(end))]
+        versions = [each for each in (version_in(name, found) for found in held if found) if each]
+        return max(versions, key=lambda each: each.order).held if versions else None
 
     def all(self) -> Iterator[Held]:
         """All that names hold, each at some moment of the call."""
@@ -131,10 +145,11 @@ class Reader(NamedFiles):
                     raise
                 self.more, self.helpers = lambda _: (), {}
 
-    def read(self, name: str, choose: Callable[[Held | None], tuple[int, int]]) -> tuple[Held, Generator[bytes, None, None], bytes]:
-        """What a name holds, its bytes in the range that is chosen by that, and before them the first ones, which are there for sure."""
+    def read(self, name: str, choose: Callable[[Held | None], tuple[int, int]], is_latest: bool = False) -> tuple[Held, Generator[bytes, None, None], bytes]:
+        """What a name holds, or the latest version of the object of this name; its bytes in the range that is chosen by that, and before them the first ones, which
+        are there for sure."""
         for _ in range(BEGINNINGS):
-            held = self.look(name)
+            held = self.latest(name) if is_latest else self.look(name)
             first, end = choose(held)
             assert held
             if held.version.grid != self.grid:

@@ -8,7 +8,7 @@ from dataclasses import dataclass, field
 from aiohttp import web
 from aiohttp.web_protocol import RequestPayloadError
 
-from . import lifecycle, metrics, signing, tags
+from . import lifecycle, metrics, signing, tags, versions
 from .buckets import NEVER_GIVEN, Buckets
 from .checksums import ALGORITHMS, HEADER
 from .connections import Connection, error_answer
@@ -163,8 +163,6 @@ class Endpoint:
         for name in ("x-amz-expected-bucket-owner", "x-amz-source-expected-bucket-owner"):
             if asked.headers.get(name, self.tenant) != self.tenant:
                 raise S3Error("AccessDenied", "The bucket has another owner.")
-        if asked.query.get("versionId", "null") != "null":
-            raise S3Error("NotImplemented", "There are no versions here.")
 
     def operation_of(self, asked: Asked) -> Operation:
         if not asked.bucket:
@@ -184,6 +182,7 @@ class Endpoint:
             of_buckets = {
                 "PUT": [
                     Change(self.buckets.create_bucket, headers={"x-amz-object-ownership"}, elements=OF_BUCKETS),
+                    Change(self.buckets.put_bucket_versioning, {"versioning"}, elements=versions.ELEMENTS),
                     Change(self.lifecycles.put_bucket_lifecycle_configuration, {"lifecycle"}, elements=lifecycle.ELEMENTS),
                 ],
                 "DELETE": [Change(self.buckets.delete_bucket), Change(self.lifecycles.delete_bucket_lifecycle, {"lifecycle"})],

@@ -29,6 +29,7 @@ from .places import Part, Values, number_of, of_words, parts_of, to_words, uploa
 from .reading import Reader
 from .shared import Shared
 from .trips import Elsewhere
+from .versions import Target
 
 Condition = Callable[[Held | None], None]  # judges what a name holds, right before it is changed
 AGAIN = 60.0  # seconds until a page that is full is swept again, and all pages of a session are searched for room
@@ -136,21 +137,24 @@ class Store(Reader):
         values: Callable[[], Values] | None,
         condition: Condition | None = None,
         besides: frozenset[str] = frozenset(),
+        about: str | None = None,
     ) -> Held:
         """Gives a name a content with the words beside it, or has it removed where there are no words. The content is placed first; then, while no
-        other change of the name is under way in this gateway, the condition is judged, the time is taken, and the change announced and carried.
+        other change of the name is under way in this gateway, the condition is judged, the time is taken, and the change announced and carried. Where the
+        name is `about` an object, as a version of it, that is so for all its versions, and the condition is of the latest.
 
         What the condition raises, NoRoom, S3Error of the content: nothing was changed. Unanswered, SessionTaken, CarrierFault: it may take effect
         until this session has changed the page again.
         """
-        with self.shared.turns.under_way(name) as turn:
+        with self.shared.turns.under_way(about or name) as turn:
             held, bucket = self.look_for_change(name), self.bucket(name)
+            held = self.latest_in(bucket, about) if about else held
             if condition:
                 condition(held)  # (before a long content is moved)
             self.make_room(bucket, self.shortest_line(bucket, name, values))
             placed = content(bucket, held)
             with turn:
-                return self.commit_in_turn(bucket, name, placed, values, condition, besides)
+                return self.commit_in_turn(bucket, name, placed, values, condition, besides, about)
 
     def look_for_change(self, name: str) -> Held | None:
         """What a name holds, for a change by this session. Elsewhere where the change is another grid's."""
@@ -175,15 +179,24 @@ class Store(Reader):
         return words
 
     def commit_in_turn(
-        self, bucket: Bucket, name: str, content: Content | None, values: Callable[[], Values] | None, condition: Condition | None, besides: frozenset[str]
+        self,
+        bucket: Bucket,
+        name: str,
+        content: Content | None,
+        values: Callable[[], Values] | None,
+        condition: Condition | None,
+        besides: frozenset[str],
+        about: str | None,
     ) -> Held:
+        subject = about or name
         try:
             before = self.look_again(name, condition is not None)
+            before = self.latest_in(bucket, about) if about else before
             if condition:
                 condition(before)
             stamp = self.shared.turns.time_after(number_of(of_words(before.words), "t") if before else 0)
             words = self.words_at(values, str(stamp))
-            version = Version(self.shared.turns.number_for(name, bucket.new_version().number), self.me, self.grid)
+            version = Version(self.shared.turns.number_for(subject, bucket.new_version().number), self.me, self.grid)
             journal = self.writer.announcement(bucket, Line(name, version.number, content, words), besides)
             if journal is None:
                 raise self.no_line(bucket, name)
@@ -193,7 +206,7 @@ class Store(Reader):
         try:
             self.writer.change(bucket, journal)
         except (Unanswered, SessionTaken, CarrierFault):
-            self.shared.turns.is_unsure(name, version.number)
+            self.shared.turns.is_unsure(subject, version.number)
             self.settled.clear()
             raise
         self.settled.add(bucket.number)
@@ -202,7 +215,7 @@ class Store(Reader):
     def no_line(self, bucket: Bucket, name: str) -> NoLine:
         return NoLine(f"{name}: page {bucket.number} of session {self.me} has no room for one more line")
 
-    def put_object(self, name: str, body: Body, values: Callable[[], Values], condition: Condition | None = None) -> Held:
+    def put_object(self, name: str, body: Body, values: Callable[[], Values], condition: Condition | None = None, about: str | None = None) -> Held:
         """Puts a content, which is read as it comes. `values` are asked for before it, and again after it."""
         body.rewind()  # (it may have been begun before)
         bucket = self.bucket(name)
@@ -212,17 +225,21 @@ class Store(Reader):
                 raise self.no_line(bucket, name)  # (before a long content is moved)
             return self.placed(bucket, name, Source(cast(IO[bytes], body)), lambda: self.words_at(values, STAMP))
 
-        return self.change(name, placed, values, condition)
+        return self.change(name, placed, values, condition, about=about)
 
-    def delete(self, name: str, condition: Condition | None = None) -> bool:
+    def mark(self, target: Target, condition: Condition | None = None) -> Held:
+        """Has an object go by a marker, as its latest version."""
+        return self.change(target.name, lambda *_: Inline(b""), lambda: {**target.values, "d": "1"}, condition, about=target.about)
+
+    def delete(self, name: str, condition: Condition | None = None, about: str | None = None) -> bool:
         """Takes a name away; whether it held something. Where it holds nothing, nothing is changed."""
 
-        def expect(_: Bucket, held: Held | None) -> None:
-            if not held:
+        def expect(bucket: Bucket, held: Held | None) -> None:
+            if not (bucket.held(name) if about else held):
                 raise NoSuchName(name)
 
         try:
-            self.change(name, expect, None, condition)
+            self.change(name, expect, None, condition, about=about)
             return True
         except NoSuchName:
             return False
@@ -377,11 +394,11 @@ class Store(Reader):
         rest = iter(slots)
         return [(part, next(rest) if part.size else None) for part in parts]
 
-    def complete(self, name: str, object_name: str, values: Values, chosen: Sequence[InSlots | None], condition: Condition | None) -> Held:
+    def complete(self, name: str, target: Target, values: Values, chosen: Sequence[InSlots | None], condition: Condition | None) -> Held:
         """Gives the object the parts as they are, and has the upload go, in one change. Over several grids the upload stays, and has to be removed: another grid
         may still have an older line of it. (Both lines are in one page, so slots that one of them names stay.)"""
         besides = frozenset[str]() if self.trip else frozenset([name])
-        return self.change(object_name, lambda *_: joined(chosen), lambda: values, condition, besides)
+        return self.change(target.name, lambda *_: joined(chosen), lambda: values, condition, besides, target.about)
 
     # What there is room for
 

@@ -16,7 +16,7 @@ from .errors import S3Error, tell
 from .gateway import Operations
 from .markup import Element, document, element, many
 from .objects import HELPERS, LONGEST_PUT, MANY, Objects, algorithm_wanted, values_of
-from .places import KEYS, Object, Part, name_of, named_in, of_words, parts_of, upload_name
+from .places import Object, Part, name_of, named_in, of_words, parts_of, upload_name
 from .requests import Asked, answer, iso
 from .sessions import now_ms
 from .store import Body, Store
@@ -128,7 +128,7 @@ class Uploads(Operations):
         number, session = part_number(asked), self.session_of(asked)
         text, put = asked.headers.get("x-amz-copy-source-range"), PutPart(asked, self.name_of(asked), number)
         md5 = await self.copies.copied(
-            self.copies.source_of(asked), asked, lambda store, source, _: put(store, source), lambda found: range_to_copy(text, found.size), put.name, session
+            await self.copies.source_of(asked), asked, lambda store, source, _: put(store, source), lambda found: range_to_copy(text, found.size), put.name, session
         )
         inner = [element(each.element, each.value) for each in put.checksums]
         return answer(document("CopyPartResult", element("LastModified", iso(now_ms())), element("ETag", f'"{md5}"'), *inner))
@@ -149,7 +149,9 @@ class Uploads(Operations):
         numbers = [int(each.told("PartNumber") or "") for each in listed]
         if any(one >= two for one, two in zip(numbers, numbers[1:])):
             raise S3Error("InvalidPartOrder")
-        name, upload, place = name_of(asked.bucket, asked.key), asked.query["uploadId"], self.name_of(asked)
+        upload, place = asked.query["uploadId"], self.name_of(asked)
+        target = await self.objects.target_of(asked, upload.partition(".")[2])
+        name = target.name
         condition = await self.gateway.condition_of(asked, name)
 
         def finish(store: Store) -> Held:
@@ -171,18 +173,17 @@ class Uploads(Operations):
             values = {each: value for each, value in words.items() if each not in ("a", "p", "k", "i", "t")}
             if whole := judged(asked, given, words.get("a", ""), [found[number][0] for number in numbers]):
                 values["s"] = whole.text()
-            if name.startswith(KEYS):
-                values["k"] = asked.key
             md5 = hashlib.md5(b"".join(bytes.fromhex(found[number][0].md5) for number in numbers)).hexdigest()
-            values |= {"m": md5, "n": str(len(numbers)), "u": upload}
-            return store.complete(place, name, values, [found[number][1] for number in numbers], condition)
+            values |= {"m": md5, "n": str(len(numbers)), "u": upload, **target.values}
+            return store.complete(place, target, values, [found[number][1] for number in numbers], condition)
 
         held = await self.gateway.change(name, finish, number=session, condition=condition)
         if self.grids.map:
             await self.remove(place)
         inner = [element("Location", f"/{asked.bucket}/{asked.key}"), element("Bucket", asked.bucket), element("Key", asked.key)]
         done = Object(asked.key, held)
-        return answer(document("CompleteMultipartUploadResult", *inner, element("ETag", f'"{done.etag}"'), *(done.checksum.elements() if done.checksum else [])))
+        inner += [element("ETag", f'"{done.etag}"'), *(done.checksum.elements() if done.checksum else [])]
+        return answer(document("CompleteMultipartUploadResult", *inner), headers=target.told)
 
     async def remove(self, name: str) -> None:
         """Has an upload go whose object is there. (Where that fails it is told to whoever runs the gateway, since the completion was done.)"""
