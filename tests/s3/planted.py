@@ -67,6 +67,9 @@ BUGS = {
     "an older version goes, also as the latest": ("test_versions.py Versions.test_a_version_that_is_the_latest_again", "expiring.py", "            elif not now or now.name == name:\n", "            elif not now:\n"),
     "versions of others are a key's own": ("test_versions.py Versions.test_others_in_the_page", "reading.py", "in (version_in(name, found) for found in held if found) if each]", "in (__import__('gridfs_s3.places', fromlist=['x']).object_of(bucket_in(name), found) for found in held if found) if each]"),
     "an upload stands where its object does not": ("test_operations.py Uploads.test_keys_that_say_where_they_stand", "places.py", "to_base64(digest_to_place(object_name))", "digest_of(object_name.encode())"),
+    "an origin is allowed that ends as an allowed one": ("test_cors.py Rules.test_patterns", "cors.py", "text.startswith(begin) and text.endswith(end)", "text.endswith(end)"),
+    "leave is given for any method": ("test_cors.py Browsers.test_leave", "cors.py", "self.origin_of(origin) is not None and method in self.methods and", "self.origin_of(origin) is not None and"),
+    "headers of a browser are not asked for": ("test_cors.py Browsers.test_leave", "cors.py", "each.lets(origin, method, wanted)", "each.lets(origin, method)"),
     "a client that leaves is a fault": ("test_malformed.py Malformed.test_a_client_that_leaves", "connections.py", " or isinstance(exc, (ConnectionError, RequestPayloadError)):", ":"),
 }
 

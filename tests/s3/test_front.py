@@ -7,11 +7,13 @@ import subprocess
 import sys
 import time
 import unittest
+import urllib.request
 from pathlib import Path
 from unittest import mock
 
 sys.path.insert(0, os.path.dirname(os.path.abspath(__file__)))
 import endpoint
+from gridfs_s3 import cors
 from gridfs_s3.front import instances_of, nginx_conf
 
 SESSIONS = 8  # of carol in the plan
@@ -81,6 +83,18 @@ class Front(test_operations.Case):
             with test_operations.urllib.request.urlopen(url) as told:
                 self.assertEqual(told.read(), b"good")
             self.assertEqual(self.get("good")["Body"].read(), b"good")
+
+    def test_browsers_that_ask_for_leave(self):
+        """They sign nothing: nginx goes by the URL of a signed request, and where there is one tenant alone by that."""
+        self.s3.put_bucket_cors(Bucket=self.bucket, CORSConfiguration={"CORSRules": [{"AllowedOrigins": ["https://shop.example"], "AllowedMethods": ["PUT"]}]})
+        signed = self.s3.generate_presigned_url("put_object", {"Bucket": self.bucket, "Key": "a"})
+        time.sleep(cors.SURE_FOR)  # (both gateways know of it)
+        for url in (signed, signed.partition("?")[0]) * 2:
+            asked = urllib.request.Request(url, headers={"Origin": "https://shop.example", "Access-Control-Request-Method": "PUT"}, method="OPTIONS")
+            with urllib.request.urlopen(asked) as told:
+                self.assertEqual(told.headers["Access-Control-Allow-Origin"], "https://shop.example")
+        one, two = (nginx_conf(Path("/x"), {name: instances_of(name, 4, 1) for name in names}, {"carol": "a", "dave": "b"}, "x") for names in (["carol"], ["carol", "dave"]))
+        self.assertEqual((one.count(":cors$"), two.count(":cors$")), (1, 0))
 
     def test_expect_that_is_signed(self):
         """nginx has answered it, and does not pass it on."""

@@ -19,7 +19,7 @@ from .store import Store
 
 MOST_BUCKETS = 10_000  # in one answer
 NEVER_GIVEN = {
-    "cors": "NoSuchCORSConfiguration", "encryption": "ServerSideEncryptionConfigurationNotFoundError",
+    "encryption": "ServerSideEncryptionConfigurationNotFoundError",
     "object-lock": "ObjectLockConfigurationNotFoundError", "ownershipControls": "OwnershipControlsNotFoundError", "policy": "NoSuchBucketPolicy",
     "publicAccessBlock": "NoSuchPublicAccessBlockConfiguration", "replication": "ReplicationConfigurationNotFoundError", "tagging": "NoSuchTagSet",
     "website": "NoSuchWebsiteConfiguration",

@@ -4,7 +4,6 @@ A look removes nothing of which the gateway is not sure: an object only where it
 """
 
 import asyncio
-import hashlib
 import time
 from collections import Counter
 from collections.abc import Callable, Iterable, Iterator
@@ -15,10 +14,10 @@ from aiohttp import web
 from gridfs_client.buckets import Held
 
 from . import lifecycle, metrics
-from .bodies import Whole
 from .buckets import Buckets
 from .errors import S3Error, error_of, tell
 from .gateway import Operations
+from .given import Given
 from .lifecycle import Rule, document_of, rules_of
 from .markup import parse
 from .places import BUCKETS, SETTINGS, UPLOADS, Object, bucket_in, name_of, number_of, object_of, of_words, setting_name, upload_of
@@ -57,72 +56,41 @@ class Going:
         return "uploads" if self.held.name.startswith(UPLOADS) else "versions" if self.about and not self.mark else "objects"
 
 
-def text_of(store: Store, name: str) -> tuple[Held, bytes]:
-    """What was given, and its text. NoSuchKey (404) where there is nothing."""
-
-    def whole(held: Held | None) -> tuple[int, int]:
-        if not held:
-            raise S3Error("NoSuchKey")
-        return 0, held.content.size
-
-    held, parts, data = store.read(name, whole)
-    return held, data + b"".join(parts)
-
-
 class Lifecycles(Operations):
-    def __init__(self, buckets: Buckets):
+    def __init__(self, buckets: Buckets, given: Given):
         super().__init__(buckets.gateway)
-        self.buckets = buckets
+        self.buckets, self.given = buckets, given
 
     # As they are given
 
     async def put_bucket_lifecycle_configuration(self, asked: Asked) -> web.Response:
         """200: the bucket has these rules and no others. The errors of a body; 400 InvalidArgument, InvalidRequest, MalformedXML; 404 NoSuchBucket; 501
         NotImplemented for what is not taken here, and for objects that go where this gateway has not all sessions; 507 InsufficientStorage."""
-        made, _ = await self.made(asked.bucket)
-        rules, name = rules_of(await self.gateway.document(asked, "LifecycleConfiguration")), setting_name(asked.bucket, KIND)
+        made, _ = await self.given.made(asked.bucket)
+        rules = rules_of(await self.gateway.document(asked, "LifecycleConfiguration"))
         if any(rule.has_objects_go for rule in rules):
             self.gateway.expect_all()
-        text = document_of(rules)
-        source = Whole(text, hashlib.md5(text).hexdigest())
-        await self.gateway.change(name, lambda store: store.put_object(name, source, lambda: {"b": str(made)}))
+        await self.given.give(asked.bucket, made, KIND, document_of(rules))
         return answer()
 
     async def get_bucket_lifecycle_configuration(self, asked: Asked) -> web.Response:
         """200. 404 NoSuchBucket, NoSuchLifecycleConfiguration."""
-        found = await self.in_force(asked.bucket, *await self.made(asked.bucket))
+        found = await self.in_force(asked.bucket, *await self.given.made(asked.bucket))
         if not found:
             raise S3Error("NoSuchLifecycleConfiguration", BucketName=asked.bucket)
         return answer(document_of(found.rules))
 
     async def delete_bucket_lifecycle(self, asked: Asked) -> web.Response:
         """204, also where there is none. 404 NoSuchBucket."""
-        await self.made(asked.bucket)
-        name = setting_name(asked.bucket, KIND)
-        await self.gateway.change(name, lambda store: store.delete(name))
+        await self.given.take_away(asked.bucket, KIND)
         return answer(status=204)
-
-    async def made(self, bucket: str) -> tuple[int, str]:
-        """When the bucket was made, and the state of its versions. What an earlier one of its name was given is not its own. 400 InvalidBucketName, 404
-        NoSuchBucket."""
-        await self.gateway.need_bucket(bucket)
-        held = await self.gateway.look(BUCKETS + bucket, lambda store: store.look(BUCKETS + bucket))
-        if not held:
-            raise S3Error("NoSuchBucket", BucketName=bucket)
-        words = of_words(held.words)
-        return number_of(words, "t"), words.get("v", "")
 
     async def in_force(self, bucket: str, made: int, state: str) -> InForce | None:
         """The rules of a bucket that was made then; None where it has none."""
-        name, seen = setting_name(bucket, KIND), time.monotonic()
-        try:
-            held, text = await self.gateway.look(name, lambda store: text_of(store, name))
-        except S3Error as fault:
-            if fault.code == "NoSuchKey":
-                return None
-            raise
-        if number_of(of_words(held.words), "b") != made:
+        seen, found = time.monotonic(), await self.given.find(bucket, made, KIND)
+        if not found:
             return None
+        held, text = found
         return InForce(held, tuple(rules_of(parse(text, "LifecycleConfiguration", lifecycle.ELEMENTS))), state, seen)
 
     # What has expired
@@ -200,7 +168,7 @@ class Lifecycles(Operations):
         if found and time.monotonic() - found.seen > SURE_FOR:
             self.gateway.known_buckets.pop(bucket, None)
             try:
-                again = await self.in_force(bucket, *await self.made(bucket))
+                again = await self.in_force(bucket, *await self.given.made(bucket))
             except S3Error:
                 again = None
             if again and (again.held.version, again.state) == (found.held.version, found.state):

@@ -35,14 +35,14 @@ http {{
         "~\\|(?<user>[a-z]{{1,16}})(\\.[A-Za-z0-9_-]{{1,40}})?$" $user;
         default "";
     }}
-    # who signs no request is a browser with a form, or one that asks for leave
+    # who signs no request is a browser with a form, or one that asks for leave (by the URL of a signed request, or where there is one tenant alone)
     map "$request_method $http_origin $content_type" $by_browser {{
         "~^OPTIONS ." cors;
         "~*^POST .*multipart/form-data" form;
         default "";
     }}
     # and of its gateways any, or the one that has the session of an upload
-    map "$tenant:$arg_uploadId" $gateway {{
+    map "$tenant:$arg_uploadId:$by_browser" $gateway {{
         default "";
 {map}
     }}
@@ -101,7 +101,7 @@ http {{
         }}
         location @cors {{
             default_type application/xml;
-            return 403 '<?xml version="1.0" encoding="UTF-8"?>\\n<Error><Code>AccessForbidden</Code><Message>CORS is not enabled here.</Message></Error>';
+            return 403 '<?xml version="1.0" encoding="UTF-8"?>\\n<Error><Code>AccessForbidden</Code><Message>No tenant is named: before several, leave is asked for signed URLs alone.</Message></Error>';
         }}
         location @away {{
             default_type application/xml;
@@ -169,6 +169,8 @@ def nginx_conf(folder: Path, gateways: Mapping[str, Sequence[Instance]], sockets
             maps.append(f'        "~^{tenant}:({numbers})\\." gateway-{each.name};')
             upstreams.append(f"    upstream gateway-{each.name} {{ server unix:{sockets[each.name]} max_fails=0; keepalive 32; }}")
         maps.append(f'        "~^{tenant}:" gateway-{tenant};')
+        if len(gateways) == 1:
+            maps.append(f'        "~^:.*:cors$" gateway-{tenant};')
         servers = " ".join(f"server unix:{sockets[each.name]} {fails};" for each in found)
         upstreams.append(f"    upstream gateway-{tenant} {{ {servers} keepalive 32; }}")
     return NGINX.format(folder=folder, listen=listen, workers=workers, map="\n".join(maps), upstreams="\n".join(upstreams))

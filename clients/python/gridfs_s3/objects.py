@@ -89,7 +89,7 @@ def begun(asked: Asked, place: Place, found: Object, part: tuple[int, int] | Non
     """The answer whose body is an object, or a part of it."""
     first, end = part or (0, found.size)
     # (in a browser an object is no page of this host, whatever it is: other tenants have their pages here)
-    headers = {**headers_of(found, asked), **place.told(found), "x-amz-request-id": asked.id, "Server": SERVER, "Content-Security-Policy": "sandbox"}
+    headers = {**headers_of(found, asked), **place.told(found), **asked.cors, "x-amz-request-id": asked.id, "Server": SERVER, "Content-Security-Policy": "sandbox"}
     if found.checksum and not part and asked.headers.get(f"{HEADER}mode", "").upper() == "ENABLED":
         headers |= found.checksum.headers()
     if count := len(tags.among(found.values)):

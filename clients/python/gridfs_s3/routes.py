@@ -8,14 +8,16 @@ from dataclasses import dataclass, field
 from aiohttp import web
 from aiohttp.web_protocol import RequestPayloadError
 
-from . import lifecycle, metrics, signing, tags, versions
+from . import cors, lifecycle, metrics, signing, tags, versions
 from .buckets import NEVER_GIVEN, Buckets
 from .checksums import ALGORITHMS, HEADER
 from .connections import Connection, error_answer
 from .copying import Copies
+from .cors import Cors
 from .errors import S3Error, error_of, tell
 from .expiring import Lifecycles
 from .gateway import Gateway
+from .given import Given
 from .grids import asked_by
 from .listing import Listings
 from .objects import Objects
@@ -80,7 +82,8 @@ class Endpoint:
         self.copies = Copies(self.objects)
         self.uploads = Uploads(self.objects, self.copies)
         self.tagging = Tagging(self.objects, self.copies)
-        self.lifecycles = Lifecycles(self.buckets)
+        self.given = Given(gateway)
+        self.lifecycles, self.cors = Lifecycles(self.buckets, self.given), Cors(gateway, self.given)
         self.page = Page(gateway, self.listings)
         self.under_way, self.is_ending, self.is_over = 0, False, False
 
@@ -108,6 +111,7 @@ class Endpoint:
             if asked and not response.prepared:
                 response.headers["x-amz-request-id"] = asked.id
                 response.headers["Server"] = SERVER
+                response.headers.update(asked.cors)
                 # The rest of a body is not waited for. And a client that expects a word before its body may not know where it stands.
                 if asked.is_expecting or self.is_ending or (status >= 400 and not request.content.is_eof()):
                     response.force_close()
@@ -130,6 +134,9 @@ class Endpoint:
         if asked.path == "/-" or asked.path.startswith("/-/"):
             asked.operation = "Page"
             return await self.page.show(asked)
+        if asked.method == "OPTIONS" and "origin" in asked.headers and asked.bucket:
+            asked.operation = "Preflight"
+            return await self.cors.ask_for_leave(asked)
         if not self.is_signed(asked):
             self.refuse_browsers(asked)
         asked.signed = signing.check(asked.method, asked.path, asked.raw_query, asked.all_headers(), self.gateway.keys)
@@ -140,17 +147,17 @@ class Endpoint:
         operation = self.operation_of(asked)
         asked.operation = "".join(word.capitalize() for word in getattr(operation, "__name__").split("_"))
         asked.signed.key.expect(asked.bucket, asked.method not in READS)
+        if "origin" in asked.headers and asked.bucket:
+            asked.cors = await self.cors.headers_for(asked)
         return await operation(asked)
 
     def is_signed(self, asked: Asked) -> bool:
         return "authorization" in asked.headers or "X-Amz-Signature" in asked.query or "Signature" in asked.query
 
     def refuse_browsers(self, asked: Asked) -> None:
-        """What only browsers ask, who sign no request: 501 NotImplemented, 403 AccessForbidden."""
+        """What only browsers ask, who sign no request: 501 NotImplemented."""
         if asked.method == "POST" and asked.headers.get("content-type", "").lower().startswith("multipart/form-data"):
             raise S3Error("NotImplemented", "Forms are not taken here: put by a signed URL.")
-        if asked.method == "OPTIONS" and "origin" in asked.headers:
-            raise S3Error("AccessForbidden", "CORS is not enabled here.")
 
     def expect_known(self, asked: Asked) -> None:
         """501 NotImplemented, 400 InvalidArgument, 403 AccessDenied."""
@@ -184,8 +191,13 @@ class Endpoint:
                     Change(self.buckets.create_bucket, headers={"x-amz-object-ownership"}, elements=OF_BUCKETS),
                     Change(self.buckets.put_bucket_versioning, {"versioning"}, elements=versions.ELEMENTS),
                     Change(self.lifecycles.put_bucket_lifecycle_configuration, {"lifecycle"}, elements=lifecycle.ELEMENTS),
+                    Change(self.cors.put_bucket_cors, {"cors"}, elements=cors.ELEMENTS),
                 ],
-                "DELETE": [Change(self.buckets.delete_bucket), Change(self.lifecycles.delete_bucket_lifecycle, {"lifecycle"})],
+                "DELETE": [
+                    Change(self.buckets.delete_bucket),
+                    Change(self.lifecycles.delete_bucket_lifecycle, {"lifecycle"}),
+                    Change(self.cors.delete_bucket_cors, {"cors"}),
+                ],
                 "POST": [Change(self.objects.delete_objects, {"delete"}, elements=OF_REMOVALS)],
             }
             return of_buckets.get(method, [])
@@ -234,6 +246,7 @@ class Endpoint:
             "location": self.buckets.get_bucket_location,
             "versioning": self.buckets.get_bucket_versioning,
             "acl": self.buckets.get_bucket_acl,
+            "cors": self.cors.get_bucket_cors,
             "lifecycle": self.lifecycles.get_bucket_lifecycle_configuration,
             "uploads": self.listings.list_multipart_uploads,
             "versions": self.listings.list_object_versions,
