@@ -25,3 +25,5 @@ pub mod WorkedTables
 pub mod WorkedSteps
 pub mod WorkedWrites
 pub mod Happened
+pub mod Journals
+pub mod Renewed

@@ -542,6 +542,8 @@ all_worked many low =
       first_gone = ap (λ (nodes : Nodes). nodes.gone 1) end ∙ after.stands.gone_first;
       next_gone = ap (λ (nodes : Nodes). nodes.gone 65) end ∙ after.stands.gone_next;
       last_gone = ap (λ (nodes : Nodes). nodes.gone 129) end ∙ after.stands.gone_last;
+      stays = ap (λ (nodes : Nodes). nodes.gone 0) end ∙ after.stands.stays;
+      stays_there = ap (λ (nodes : Nodes). nodes.gone 193) end ∙ after.stands.stays_there;
       done = λ some. subst (IsDone (nodes_at grid_worked (run_worked many) 0)) number
           (let last : IsLast after.last (0 + many) = after.stands.done (omega arith) in
           subst (λ nodes. IsDone nodes (0 + many)) (sym end) (record { last = refl; idle = refl; done = last.outcome; first = last.here; second = last.there }));

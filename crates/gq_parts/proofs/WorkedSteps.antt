@@ -112,18 +112,19 @@ steps_to n p v w line incoming facts some read sees s = record {
 
 -- ---- facts that fit
 
+-- a fact of the tenant
+pub is_of_plan : (own : OwnFact) → FitsOwn own → FitsFact grid_worked.plan (fact_of 0 own)
+is_of_plan (Begun k op) fits = record { tenant = omega arith; own = fits }
+is_of_plan (Numbered k number) fits = record { tenant = omega arith; own = fits }
+is_of_plan (Kept file copy) fits = record { tenant = omega arith; own = fits }
+is_of_plan (Had file copy) fits = record { tenant = omega arith; own = fits }
+
 pub fits_one : (own : OwnFact) → FitsOwn own → All (FitsFact grid_worked.plan) (fact_of 0 own ∷ [])
-fits_one own fits k d low = subst (λ fact. FitsFact grid_worked.plan fact) (sym (one k low)) (its own fits)
+fits_one own fits k d low = subst (λ fact. FitsFact grid_worked.plan fact) (sym (one k low)) (is_of_plan own fits)
   where
     one : (k : ℕ) → k < 1 → slice_index_or (fact_of 0 own ∷ []) k d ≡ fact_of 0 own
     one zero low = refl
     one (suc k) low = absurd (omega arith)
-
-    its : (own : OwnFact) → FitsOwn own → FitsFact grid_worked.plan (fact_of 0 own)
-    its (Begun k op) fits = record { tenant = omega arith; own = fits }
-    its (Numbered k number) fits = record { tenant = omega arith; own = fits }
-    its (Kept file copy) fits = record { tenant = omega arith; own = fits }
-    its (Had file copy) fits = record { tenant = omega arith; own = fits }
 
 -- facts of which each fits, where it is there
 abbrev pub OptionFits : Option OwnFact → Type 0
@@ -292,7 +293,7 @@ fetch_steps new losses v has turn = record {
         (ap (λ c. transfer_line grid_worked.plan 0 (CodeBrings new file_worked c) ++ []) (sym sees.copy)) sees
 
 -- and the new one has it from then on
-given_all : (v place : ℕ) → lacks_in ((true ∷ []) ∷ []) (record { volume = v; place = place }) ≡ (lacks_in ([] ∷ []) (record { volume = v; place = place }) && not (is_file file (record { volume = v; place = place })))
+pub given_all : (v place : ℕ) → lacks_in ((true ∷ []) ∷ []) (record { volume = v; place = place }) ≡ (lacks_in ([] ∷ []) (record { volume = v; place = place }) && not (is_file file (record { volume = v; place = place })))
 given_all zero zero = refl
 given_all zero (suc place) = rw (not_first place) refl
 given_all (suc v) place = rw (not_first v) (sym (plain (nat_lt (suc v) 1 && true)))

@@ -89,7 +89,7 @@ busy_view op copy reserved heard two = home_view copy (busy_one op reserved hear
 
 -- ---- the parts that such tables have
 
-home_lacks : (f : File) → lacks_in [] f ≡ false
+pub home_lacks : (f : File) → lacks_in [] f ≡ false
 home_lacks f = rw (none_below f.volume) refl
 
 -- the part of the home, in which session 1 is this one
@@ -227,6 +227,13 @@ first_fits i r low = elim (cases_Bool (nat_le (i + 1) r.op)) [ inl is ↦ (rw is
 
 next_fits : (i : ℕ) (r : Reserved) → i + 1 < 2 ^ 32 → OptionFits (next_fact i r)
 next_fits i r low = elim (cases_Bool (nat_le (i + 1) r.floor)) [ inl is ↦ (rw is tt) | inr is ↦ (rw is (omega arith, omega arith)) ]
+
+-- the numbers that are reserved stay within their bounds
+pub reserved_fits : (i : ℕ) (r : Reserved) → i + 1 < 2 ^ 32 → r.op < 2 ^ 32 → r.floor < 2 ^ 64 → ((reserved_behind i r).op < 2 ^ 32) × ((reserved_behind i r).floor < 2 ^ 64)
+reserved_fits i r low op floor = elim (cases_Bool (nat_le (i + 1) r.op)) [
+  | inl within ↦ (elim (cases_Bool (nat_le (i + 1) r.floor)) [ inl also ↦ (rw (within, also) (op, floor)) | inr above ↦ (rw (within, above) (op, omega arith)) ])
+  | inr over ↦ (elim (cases_Bool (nat_le (i + 1) r.floor)) [ inl also ↦ (rw (over, also) (omega arith, floor)) | inr above ↦ (rw (over, above) (omega arith, omega arith)) ])
+]
 
 -- ---- the tenant asks, and the home asks and stores
 

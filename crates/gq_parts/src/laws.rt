@@ -55,7 +55,8 @@ pub fn all_nodes_worked()
     ensures { AllWorked }
 {}
 
-/// And so it happens: nodes of which none was ever started come to all of that run, line by line, and are nodes of the law.
+/// And so it happens: nodes of which none was ever started come to all of that run, line by line. Behind it one starts again by its journal, and that of
+/// the other is written anew before it starts again. All this is of nodes of the law.
 pub fn all_nodes_happen()
     ensures { AllWorkedHappen }
 {}
