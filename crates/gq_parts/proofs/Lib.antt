@@ -19,3 +19,11 @@ pub mod AllNodes
 pub mod Worked
 pub mod Replacing
 pub mod Writing
+pub mod Playing
+pub mod Chains
+pub mod WorkedTables
+pub mod WorkedSteps
+pub mod WorkedWrites
+pub mod Happened
+pub mod Journals
+pub mod Renewed

@@ -41,7 +41,7 @@ those-append t (fact ∷ a) b = elim (cases_Bool (tenant_of fact == t)) [
   | inr other ↦ (rw other (those-append t a b))
 ]
 
-its_fact : (t : ℕ) (fact : OwnFact) → own_fact (fact_of t fact) ≡ fact
+pub its_fact : (t : ℕ) (fact : OwnFact) → own_fact (fact_of t fact) ≡ fact
 its_fact t (Begun k op) = refl
 its_fact t (Numbered k number) = refl
 its_fact t (Kept file copy) = refl

@@ -140,7 +140,7 @@ replaced_known new losses =
 abbrev pub losses_known : List Known
 losses_known = Begun 0 0 ∷ Begun 1 0 ∷ replaced_known 65 1 ++ replaced_known 129 2 ++ replaced_known 193 3
 
-replaced_read : (new losses : ℕ) (tick : List ℕ) → new < 960 → losses < 4 → incoming_of grid_worked.plan new tick ≡ Tick → AreRead grid_worked (replaced_by new losses tick) (replaced_known new losses)
+pub replaced_read : (new losses : ℕ) (tick : List ℕ) → new < 960 → losses < 4 → incoming_of grid_worked.plan new tick ≡ Tick → AreRead grid_worked (replaced_by new losses tick) (replaced_known new losses)
 replaced_read new losses tick few low ticks =
     let asked = (joins_read_back grid_worked.plan 0 new losses (omega arith) few (omega arith)).asked in
     let answered = (joins_read_back grid_worked.plan new 0 losses (omega arith) (omega arith) (omega arith)).answered in
@@ -148,15 +148,15 @@ replaced_read new losses tick few low ticks =
     let brings = transfers_read_back grid_worked.plan 0 (Brings new file_worked first_copy) is_plan (record { tenant = omega arith; to_fits = omega arith; from_fits = omega arith; volume = omega arith; file = omega arith; given = ((omega arith, omega arith, λ i. omega arith), omega arith) }) in
     ((refl, refl), ((refl, refl), ((refl, refl, asked), ((refl, refl, answered), ((refl, refl, ticks), ((refl, refl, wants.2), ((refl, refl, brings.2), tt)))))))
 
-first_tick : incoming_of grid_worked.plan 65 (codes "65 65 tick") ≡ Tick
+pub first_tick : incoming_of grid_worked.plan 65 (codes "65 65 tick") ≡ Tick
 unfolding incoming_of_words number_up_to
 first_tick = refl
 
-next_tick : incoming_of grid_worked.plan 129 (codes "129 129 tick") ≡ Tick
+pub next_tick : incoming_of grid_worked.plan 129 (codes "129 129 tick") ≡ Tick
 unfolding incoming_of_words number_up_to
 next_tick = refl
 
-last_tick : incoming_of grid_worked.plan 193 (codes "193 193 tick") ≡ Tick
+pub last_tick : incoming_of grid_worked.plan 193 (codes "193 193 tick") ≡ Tick
 unfolding incoming_of_words number_up_to
 last_tick = refl
 

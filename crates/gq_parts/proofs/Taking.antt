@@ -196,7 +196,7 @@ unfolding hops
 hops_none zero site local = refl
 hops_none (suc n) site local = hops_none n site local
 
-left_none : (many : ℕ) (site : Site) (local : Local) → left_behind many site local [] ≡ []
+pub left_none : (many : ℕ) (site : Site) (local : Local) → left_behind many site local [] ≡ []
 unfolding left_behind
 left_none zero site local = refl
 left_none (suc n) site local = left_none n site local

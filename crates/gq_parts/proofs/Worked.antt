@@ -195,7 +195,7 @@ goes_after nodes after k known goes = ap (λ x. known_after grid_worked 0 x know
 abbrev came : (n : ℕ) → List Input → List Event
 came n inputs = map (λ input. Came n input) (inputs ++ [])
 
-abbrev known_of : ℕ → List Known
+abbrev pub known_of : ℕ → List Known
 known_of op =
     Gets 0 3 (Request 0 op (Write 1 0 0 content))
     ∷ Gets 0 3 (Letter 0 (message_of 0 (store op 0)))
@@ -315,7 +315,7 @@ next_idle s i =
     }
 
 -- a copy under a greater number is the one that is held
-newer : (i : ℕ) (copies : List StoredCopy) → (greatest (first_copy ∷ copies)).tag.number ≡ i → greatest (first_copy ∷ copies ++ written (i + 1) ∷ []) ≡ written (i + 1)
+pub newer : (i : ℕ) (copies : List StoredCopy) → (greatest (first_copy ∷ copies)).tag.number ≡ i → greatest (first_copy ∷ copies ++ written (i + 1) ∷ []) ≡ written (i + 1)
 newer i copies number = greatest-push first_copy (written (i + 1)) copies ∙ (rw less refl)
   where
     less : nat_lt (greatest (first_copy ∷ copies)).tag.number (i + 1) ≡ true
@@ -395,7 +395,7 @@ are_done (suc many) before s low stands =
 
 -- ---- the lines are read so
 
-content_bytes : (i : ℕ) → slice_index content i < 256
+pub content_bytes : (i : ℕ) → slice_index content i < 256
 content_bytes zero = omega arith
 content_bytes (suc zero) = omega arith
 content_bytes (suc (suc zero)) = omega arith
@@ -403,7 +403,7 @@ content_bytes (suc (suc (suc zero))) = omega arith
 content_bytes (suc (suc (suc (suc zero)))) = omega arith
 content_bytes (suc (suc (suc (suc (suc i))))) = omega arith
 
-write_read : (op : ℕ) → op < 2 ^ 32 → AreRead grid_worked (write_worked op) (known_of op)
+pub write_read : (op : ℕ) → op < 2 ^ 32 → AreRead grid_worked (write_worked op) (known_of op)
 write_read op low =
     let asked = requests_read_back grid_worked.plan 0 0 op (Write 1 0 0 content) is_plan (omega arith) (omega arith) (low, omega arith, omega arith, omega arith, (content_bytes, omega arith)) in
     let first = letters_read_back grid_worked.plan 0 0 (message_of 0 (store op 0)) is_plan
@@ -453,7 +453,7 @@ start =
       residents = other.residents;
     }
 
-one_named : {X : Type 0} (f : ℕ → X) (x : X) (a m : ℕ) → f a ≡ x → f m ≡ (if a == m then x else f m)
+pub one_named : {X : Type 0} (f : ℕ → X) (x : X) (a m : ℕ) → f a ≡ x → f m ≡ (if a == m then x else f m)
 one_named f x a m is = elim (cases_Bool (a == m)) [
   | inl same ↦ (ap f (sym (eqb-true a m same)) ∙ is ∙ sym (rw same refl))
   | inr other ↦ (sym (rw other refl))
@@ -484,7 +484,7 @@ has_file : (three_lost.local 193).lacks file ≡ false
 unfolding three_lost collect_quorum store_quorum ends_collect ends_store are_peers within hops
 has_file = refl
 
-lacks_no_more : (lacks : File → Bool) (f : File) → lacks file ≡ false → lacks f ≡ (if is_file file f then false else lacks f)
+pub lacks_no_more : (lacks : File → Bool) (f : File) → lacks file ≡ false → lacks f ≡ (if is_file file f then false else lacks f)
 lacks_no_more lacks f has = elim (cases_Bool (is_file file f)) [
   | inl same ↦ (ap lacks (sym (same_file file f same)) ∙ has ∙ sym (rw same refl))
   | inr other ↦ (sym (rw other refl))
@@ -542,6 +542,8 @@ all_worked many low =
       first_gone = ap (λ (nodes : Nodes). nodes.gone 1) end ∙ after.stands.gone_first;
       next_gone = ap (λ (nodes : Nodes). nodes.gone 65) end ∙ after.stands.gone_next;
       last_gone = ap (λ (nodes : Nodes). nodes.gone 129) end ∙ after.stands.gone_last;
+      stays = ap (λ (nodes : Nodes). nodes.gone 0) end ∙ after.stands.stays;
+      stays_there = ap (λ (nodes : Nodes). nodes.gone 193) end ∙ after.stands.stays_there;
       done = λ some. subst (IsDone (nodes_at grid_worked (run_worked many) 0)) number
           (let last : IsLast after.last (0 + many) = after.stands.done (omega arith) in
           subst (λ nodes. IsDone nodes (0 + many)) (sym end) (record { last = refl; idle = refl; done = last.outcome; first = last.here; second = last.there }));

@@ -105,10 +105,10 @@ some_no i = ne_eqb (i + 1) 0 (λ e. omega arith)
 next_no : (i : ℕ) → ((i + 1) == i) ≡ false
 next_no i = ne_eqb (i + 1) i (λ e. omega arith)
 
-same_yes : (n : ℕ) → (n == n) ≡ true
+pub same_yes : (n : ℕ) → (n == n) ≡ true
 same_yes n = eq-eqb n n refl
 
-above_yes : (n : ℕ) → n < 2 ^ 32 → has_above n ≡ true
+pub above_yes : (n : ℕ) → n < 2 ^ 32 → has_above n ≡ true
 above_yes n low = lt-ltb n 18446744073709551615 (omega arith)
 
 pub fits_yes : (n : ℕ) → n < 2 ^ 32 → copy_fits 64 (written n) ≡ true

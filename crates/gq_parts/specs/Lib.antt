@@ -8,3 +8,4 @@ pub mod Resting
 pub mod Laws
 pub mod AllNodes
 pub mod Worked
+pub mod Happened

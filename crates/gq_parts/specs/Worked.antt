@@ -2,7 +2,7 @@
 --
 -- Two servers in one column, and a tenant with two sessions and one file. Node 1 is lost, then the node in its place, and then the next one: each new one
 -- is told by node 0 that its plan has it, and is given the file. Then session 1, whose home is node 0, writes the file, one write after another.
-use Rattle.std.specs.Prelude.{◌≡◌, ℕ, zero, suc, ◌+◌, ◌^◌, ◌<◌, List, [], ◌∷◌, ◌++◌, true, None, Some, codes, decimal}
+use Rattle.std.specs.Prelude.{◌≡◌, ℕ, zero, suc, ◌+◌, ◌^◌, ◌<◌, List, [], ◌∷◌, ◌++◌, true, false, None, Some, codes, decimal}
 use Rattle.gq_tag.specs.declared.StoredCopy.{StoredCopy}
 use Rattle.gq_tag.specs.declared.Body.{Body}
 use Rattle.gq_tag.specs.declared.Body.TheVariants.{Store, Stored}
@@ -143,7 +143,7 @@ pub record IsDone (nodes : Nodes) (op : ℕ) : Type 0 where
   pub first : copy_in (part_in (nodes.local 0)) (record { volume = 0; place = 0 }) ≡ written op
   pub second : copy_in (part_in (nodes.local 193)) (record { volume = 0; place = 0 }) ≡ written op
 
--- All that the law asks of the lines is so, and so the tenant's file is one register. The lost nodes are gone.
+-- All that the law asks of the lines is so, and so the tenant's file is one register. The lost nodes are gone, and the two others are not.
 pub record IsWorked (many : ℕ) : Type 0 where
   pub sound : AreSound grid_worked
   pub opens : AllOpen (row_at grid_worked.plan 0) [] (grid_worked.opens 0)
@@ -152,6 +152,8 @@ pub record IsWorked (many : ℕ) : Type 0 where
   pub first_gone : (end_worked many).gone 1 ≡ true
   pub next_gone : (end_worked many).gone 65 ≡ true
   pub last_gone : (end_worked many).gone 129 ≡ true
+  pub stays : (end_worked many).gone 0 ≡ false
+  pub stays_there : (end_worked many).gone 193 ≡ false
   pub done : 0 < many → IsDone (end_worked many) many
 
 -- however many writes there are: a session has no more than so many numbers

@@ -3,6 +3,7 @@
 ghost use Rattle.gq_parts.specs.Alike.{AllDoSame, AllWriteSame};
 ghost use Rattle.gq_parts.specs.AllNodes.{AllByLaw, AllFollowLaw, AllRenewalsHappen, AllStartsHappen, AllStepsHappen};
 ghost use Rattle.gq_parts.specs.Worked.{AllWorked};
+ghost use Rattle.gq_parts.specs.Happened.{AllWorkedHappen};
 ghost use Rattle.gq_parts.specs.Laws.{AllFactsByParts, AllOthersLeftOut, AllRunsByParts, AllStartsByParts, AllTenantsApart, AllTextsByParts};
 
 /// How many hops of letters from a node to itself the line takes that made the node write them. What is left after them goes by lines, as to any
@@ -52,4 +53,10 @@ pub fn all_nodes()
 /// likes. The plans are sound, all its lines can come, and so its file is one register; each write is done, and both servers have it.
 pub fn all_nodes_worked()
     ensures { AllWorked }
+{}
+
+/// And so it happens: nodes of which none was ever started come to all of that run, line by line. Behind it one starts again by its journal, and that of
+/// the other is written anew before it starts again. All this is of nodes of the law.
+pub fn all_nodes_happen()
+    ensures { AllWorkedHappen }
 {}
