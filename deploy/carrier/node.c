@@ -459,17 +459,27 @@ double number(const char *what, const char *word, double least, double most) {
     return value;
 }
 
-/* The longest line of a plan: 255 bytes, and 128 for each block that a tenant's largest file may have. (The node itself
-   refuses a plan with a fault.) */
+/* The longest line of a plan: 255 bytes, and 128 for each block that a tenant's largest file may have; or, of what a tenant has, 400 and 15
+   for each of its lines `open`. (The node itself refuses a plan with a fault.) */
 static size_t longest_of(const char *plan) {
-    char row[256];
-    size_t found = LONGEST;
+    struct { char name[17]; size_t opens; } tenants[TENANTS] = {{"", 0}};
+    char row[256], name[17];
+    size_t found = LONGEST, many = 0;
+    bool behind = false;
     FILE *file = fopen(plan, "re");
     if (!file) say("%s: %s", plan, strerror(errno)), exit(1);
-    while (fgets(row, sizeof row, file) && strcmp(row, "go\n")) {
-        unsigned long most;
-        if (sscanf(row, "tenant %*s %*s %*s %*s %lu", &most) == 1 && most <= (LONGEST_EVER - 255) / 128 && 128 * most + 255 > found)
-            found = 128 * most + 255;
+    while (fgets(row, sizeof row, file)) {
+        unsigned long most = 0, files;
+        size_t length = 0;
+        if (!strcmp(row, "go\n")) behind = true;
+        else if (!behind && many < TENANTS && sscanf(row, "tenant %16s %*s %*s %*s %lu", tenants[many].name, &most) > 0) {
+            if (most <= (LONGEST_EVER - 255) / 128) length = 128 * most + 255;
+            many++;
+        } else if (behind && sscanf(row, "%16s open %lu", name, &files) == 2) {
+            for (size_t i = 0; i < many; i++)
+                if (!strcmp(tenants[i].name, name)) length = 15 * ++tenants[i].opens + 400;
+        }
+        if (found < length && length <= LONGEST_EVER) found = length;
     }
     fclose(file);
     return found;

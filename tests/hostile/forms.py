@@ -59,12 +59,12 @@ class Fault(Exception):
 
 
 class Row:
-    def __init__(self, name, share, sessions, steps, most=16):
-        self.name, self.share, self.sessions, self.steps, self.most = name, share, sessions, steps, most
+    def __init__(self, name, share, sessions, steps, most=16, volumes=64):
+        self.name, self.share, self.sessions, self.steps, self.most, self.volumes = name, share, sessions, steps, most, volumes
 
     def line(self, room):
         words = (self.name, self.share, self.sessions, self.steps)
-        return b"tenant %s %d %d %d" % words + (b" %d\n" % self.most if room else b"\n")
+        return b"tenant %s %d %d %d" % words + b" %d" % self.most * room + b" %d" % self.volumes * (self.volumes != 64) + b"\n"
 
 
 class Plan:
@@ -72,7 +72,7 @@ class Plan:
         self.rows, self.cols, self.blocks, self.tenants = rows, cols, blocks, tenants
 
     def text(self):
-        room = self.blocks > 4096 or any(row.most != 16 for row in self.tenants)
+        room = self.blocks > 4096 or any((row.most, row.volumes) != (16, 64) for row in self.tenants)
         head = b"grid %d %d\n%s %d\n" % (self.rows, self.cols, b"room" if room else b"blocks", self.blocks)
         return head + b"".join(row.line(room) for row in self.tenants) + b"go\n"
 
@@ -104,11 +104,11 @@ def plan_of(text):
     within(0, cols, 1, 8, "cols")
     room = words(1)[0] == b"room"
     (blocks,) = told(1, b"room" if room else b"blocks", 1)
-    within(1, blocks, 1, 67108864 if room else 4096, "blocks")
+    within(1, blocks, 1, 4294967295 if room else 4096, "blocks")
     tenants, place = [], 2
     while words(place) != [b"go"]:
         first, *rest = words(place)
-        values = numbers(rest[1:], 4 if room else 3) if first == b"tenant" and rest and is_name(rest[0]) else None
+        values = numbers(rest[1:], 5 if room and len(rest) == 6 else 4 if room else 3) if first == b"tenant" and rest and is_name(rest[0]) else None
         if values is None:
             raise Fault(f"line {place + 1}: form")
         tenants.append(Row(rest[0], *values))
@@ -121,6 +121,7 @@ def plan_of(text):
         within(line, row.sessions, 1, 16, "sessions")
         within(line, row.steps, 1, 1_000_000, "steps")
         within(line, row.most, 1, 16384, "most")
+        within(line, row.volumes, 1, 65536, "volumes")
         names.add(row.name)
     within(place, len(tenants), 1, 64, "notenant")
     shares = sum(row.share for row in tenants)
@@ -250,7 +251,7 @@ class Tenant:
     def opened(self, files, blocks):
         if not (1 <= files <= 64 and 1 <= blocks <= self.row.most):
             return b"refused size"
-        if len(self.volumes) == 64:
+        if len(self.volumes) == self.row.volumes:
             return b"refused volumes"
         if files * blocks > self.free:
             return b"refused share %d" % self.free

@@ -11,7 +11,7 @@ LINES = 250
 LONG = 16_000_000
 
 # Numbers at each limit, next to it and far beyond, and what is no number.
-EDGES = [b"%d" % (limit + step) for limit in (1, 8, 16, 64, 1024, 4096, 16384, 67_108_864, 1_000_000, 2**31, 2**32, 2**63, 2**64) for step in (-1, 0, 1)]
+EDGES = [b"%d" % (limit + step) for limit in (1, 8, 16, 64, 1024, 4096, 16384, 65_536, 67_108_864, 1_000_000, 2**31, 2**32, 2**63, 2**64) for step in (-1, 0, 1)]
 EDGES += [b"9" * 10, b"9" * 30, b"1" + b"0" * 400]
 NO_NUMBERS = [b"", b"-", b"-1", b"+1", b"00", b"01", b"0x1", b"1e3", b"1.0", b"1_0", b" 1", b"\xd9\xa1", b"1\r", b"1\0"]
 # Words that some line has, and some that look like them.
@@ -70,6 +70,7 @@ def a_plan(draw, tenants):
             draw.choice([1, 2, 15, 16]),
             draw.choice([1, 50, LINES, 1_000_000, 1_000_000]),
             draw.choice([4, 16, 17, 16384]) if room else 16,
+            draw.choice([64, 64, 1, 65, 65536]) if room else 64,
         )
         for name in names(draw, tenants)
     ]

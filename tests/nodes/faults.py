@@ -2,6 +2,7 @@
 closed, a second process on one journal."""
 
 import os
+import re
 import resource
 import signal
 import subprocess
@@ -10,13 +11,14 @@ from journals import batches, sealed
 from processes import MARKER, SECONDS, ended, get, put, words_of
 
 PLAN = f"grid 2 2\nblocks 64\ntenant ann 16 4 1\ntenant bob 16 2 1\n{MARKER}go\nann open 4 2\nbob open 1 1\nann open 1 1\n".encode()
+WIDE = PLAN.replace(b"blocks 64", b"room 128").replace(b"ann 16 4 1", b"ann 99 4 1 16 70").replace(b"bob 16 2 1", b"bob 16 2 1 16").replace(b" 1 1 1\n", b" 1 1 1 1\n")
 READY = b"gridfs: node 0 of 2 by 2: %d facts\n"
 NO_JOURNAL = b"gridfs: journal: no journal of a node\n"
 STRANGE = b"gridfs: journal: a line says no fact of this node\n"
 FIRST = b" ?\n"
-NO_OPENS = [b"ann write 1 0 0 aa", b"server 1 down", b"ann", b"", b"cat open 1 1", b"ann open 1", b"ann open 1 1 "]
+NO_OPENS = [b"ann write 1 0 0 aa", b"server 1 down", b"ann", b"", b"cat open 1 1", b"ann open 1", b"ann open 1 1 ", b"ann open 1 1 times 0", b"ann open 1 1 times", b"ann open 1 1 times 2 ", b"ann open 1 1 times -", b"ann open 1 1 Times 2", b"ann open 1 1 times 4294967296", b"cat open 1 1 times 2", b"ann write 1 1 times 2", b"ann open 1 x times 2"]
 SIZE, SHARE = "files or blocks of a file", "share, 7 blocks are left"
-WRONG_OPENS = {b"ann open 65 1": SIZE, b"ann open 0 1": SIZE, b"ann open 1 17": SIZE, b"ann open 8 1": SHARE, b"ann open 4294967295 1": SIZE}
+WRONG_OPENS = {b"ann open 65 1": SIZE, b"ann open 0 1": SIZE, b"ann open 1 17": SIZE, b"ann open 8 1": SHARE, b"ann open 4294967295 1": SIZE, b"ann open 65 1 times 2": SIZE, b"ann open 3 1 times 3": "share, 1 blocks are left"}
 # A plan's fault, and what is told of it.
 PLANS = [
     (b"", "line 1: end"),
@@ -29,6 +31,12 @@ PLANS = [
     *((PLAN + line + b"\n", "line 10: live") for line in NO_OPENS),
     *((PLAN + line + b"\n", f"line 10: open: {cause}") for line, cause in WRONG_OPENS.items()),
     (PLAN.replace(b"ann 16", b"ann 99").replace(b"blocks 64", b"blocks 128") + b"ann open 1 1\n" * 63, "line 72: open: volumes"),
+    (PLAN.replace(b"ann 16", b"ann 99").replace(b"blocks 64", b"blocks 128") + b"ann open 1 1 times 60\nann open 1 1 times 3\n", "line 11: open: volumes"),
+    (WIDE.replace(b"ann 99 4 1 16 70", b"ann 99 4 1 16 0"), "line 3: volumes"),
+    (WIDE.replace(b"ann 99 4 1 16 70", b"ann 99 4 1 16 65537"), "line 3: volumes"),
+    (WIDE.replace(b"ann 99 4 1 16 70", b"ann 99 4 1 0 0"), "line 3: most"),
+    (WIDE.replace(b"ann 99 4 1 16 70", b"ann 99 4 1 16 70 1"), "line 3: form"),
+    (WIDE + b"ann open 1 1 times 69\n", "line 10: open: volumes"),
 ]
 # Plans that do not go on from the first one, with what is told, and plans that do.
 NOT_BEHIND = {
@@ -42,6 +50,7 @@ NOT_BEHIND = {
     "a volume less": (PLAN.replace(b"bob open 1 1\n", b""), "line 4: volume 0 of the tenant was `open 1 1`"),
     "a tenant less": (PLAN.replace(b"tenant bob 16 2 1\n", b"").replace(b"bob open 1 1\n", b""), "line 4: another tenant stood here"),
     "the last tenant less": (PLAN.replace(MARKER.encode(), b""), "line 5: another tenant stood here"),
+    "more by one line before others": (PLAN.replace(b"ann 16", b"ann 17").replace(b"ann open 4 2\n", b"ann open 4 2 times 2\n"), "line 3: volume 1 of the tenant was `open 1 1`"),
     "a larger file": (PLAN.replace(b"bob open 1 1", b"bob open 1 2"), "line 4: volume 0 of the tenant was `open 1 1`"),
 }
 BEHIND = {
@@ -53,6 +62,8 @@ BEHIND = {
     "other steps": PLAN.replace(b"ann 16 4 1", b"ann 16 4 7"),
     "volumes of tenants mixed otherwise": PLAN.replace(b"bob open 1 1\nann open 1 1\n", b"ann open 1 1\nbob open 1 1\n"),
     "no newline at the end": PLAN[:-1],
+    "volumes by one line": PLAN.replace(b"bob open 1 1\nann open 1 1\n", b"ann open 1 1 times 1\nbob open 1 1 times 5\n"),
+    "more volumes than before, and more than 64": WIDE + b"ann open 1 1 times 68\n",
 }
 BOTH = "--plan plan --journal journal"
 NO_REQUESTS = ["node", f"node x {BOTH}", "node 0 --plan plan", "node 0 --journal journal", f"node 0 1 {BOTH}", f"node 0 {BOTH} --old"]
@@ -82,6 +93,11 @@ def of_node(number):
 
 def not_kept(plan, told):
     return f"gridfs: {plan}: does not go on from the plan in journal: {told}\n".encode()
+
+
+def one_by_one(plan):
+    """The plan with a line for each volume, where one opens several."""
+    return re.sub(rb"(\w+ open \d+ \d+) times (\d+)\n", lambda found: (found[1] + b"\n") * int(found[2]), plan)
 
 
 class Faults:
@@ -159,11 +175,12 @@ class Faults:
             put(self.at("journal"), text)
             put(self.at("next"), plan)
             self.held(name, self.node(plan="next"), (0, READY % 0, FIRST))
-            canonical = b"node 0 of 2 by 2\n" + (plan if plan.endswith(b"\n") else plan + b"\n")
+            canonical = b"node 0 of 2 by 2\n" + one_by_one(plan if plan.endswith(b"\n") else plan + b"\n")
             is_same = canonical == b"node 0 of 2 by 2\n" + PLAN
             found, ends = batches(get(self.at("journal")))
             self.held(f"the journal behind {name}", (found[1:], ends[-1]), ([] if is_same else [canonical], len(get(self.at("journal")))))
             self.held(f"{name}, again", self.node(plan="next"), (0, READY % 0, FIRST))
+        put(self.at("journal"), text)
         put(self.at("next"), BEHIND["a tenant more"])
         self.node(plan="next")
         self.refused("the plan before", 1, not_kept("plan", "line 6: another tenant stood here"))

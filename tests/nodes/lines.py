@@ -106,6 +106,22 @@ ROOM_LINES = {
 }
 
 
+# Lines that open several volumes. Of more than 64 those that are alike and follow one another are told at once, whichever lines opened them.
+WIDE = (
+    b"grid 2 2\nroom 500\ntenant ann 200 1 1 16 65536\ntenant bob 200 1 1 16\ntenant cat 100 1 1 16 72\ngo\n"
+    b"ann open 1 1 times 40\nbob open 1 2 times 1\nann open 1 1\nann open 1 1 times 23\nbob open 2 1 times 63\nann open 1 2\n"
+    b"cat open 1 1 times 64\ncat open 1 1\ncat open 2 1 times 2\ncat open 1 1 times 4\ncat open 1 2\nreplace 3\n"
+)
+WIDE_LINES = {
+    "wide, what a tenant of 65 volumes has": (b"0 ann plan\n", b"ann 0 plan 4 0 1 200 16 1.1.64 1.2.1 67\n"),
+    "wide, what one of 64 has": (b"0 bob plan\n", b"bob 0 plan 4 1 1 200 16 1.2" + 63 * b" 2.1" + b" 67\n"),
+    "wide, what one of several runs has": (b"0 cat plan\n", b"cat 0 plan 4 2 1 100 16 1.1.65 2.1.2 1.1.4 1.2.1 67\n"),
+    "wide, a file of the last volume": (b"0 ann read 1 1 64 0\n", b"1 0 ann 1 1 1 64 0 ask\n"),
+    "wide, one of none": (b"0 ann read 1 1 65 0\n0 ann read 1 1 64 1\n", b"ann 0 refused novolume 1 1 65\nann 0 refused nofile 1 1 64 1\n"),
+    "wide, a line of 4,096 bytes": (filled(4096) + READ, ASK),
+}
+
+
 # The only server of a grid takes all letters itself: of a listing those of 8 hops, here of four files, at once, and the rest by a line.
 ALONE = b"grid 1 1\nblocks 8\ntenant ann 8 1 100\ngo\nann open 6 1\n"
 LISTING = b"0 ann list 1 1 0\n"
@@ -160,12 +176,13 @@ def tell_lines(program, folder):
     """How many were tried, and what is wrong."""
     put(os.path.join(folder, "plan"), PLAN)
     put(os.path.join(folder, "room"), ROOM)
+    put(os.path.join(folder, "wide"), WIDE)
     put(os.path.join(folder, "alone"), ALONE)
     put(os.path.join(folder, "named"), NAMED)
     put(os.path.join(folder, "column"), COLUMN)
     put(os.path.join(folder, "row"), ROW)
     wrong = []
-    every = {"plan": LINES, "room": ROOM_LINES, "alone": ALONE_LINES, "named": NAMED_LINES, "column": COLUMN_LINES, "row": ROW_LINES}
+    every = {"plan": LINES, "room": ROOM_LINES, "wide": WIDE_LINES, "alone": ALONE_LINES, "named": NAMED_LINES, "column": COLUMN_LINES, "row": ROW_LINES}
     grids = {"alone": b"1 by 1", "column": b"2 by 1", "row": b"1 by 2"}
     for plan, lines in every.items():
         for place, (name, (given, wanted)) in enumerate(lines.items()):

@@ -47,7 +47,8 @@ def homes(plan):
 
 
 def longest_line(plan):
-    """The most bytes of a line, without its LF, that nodes of the plan take and write."""
+    """The most bytes of a line, without its LF, that nodes of the plan take. What they write is no longer, but for the answer `plan` of a tenant
+    with very many volumes."""
     rows = [line.split() for line in plan.partition("\ngo\n")[0].split("\n") if line.startswith("tenant ")]
     return max([SHORT_LINE, *(128 * int(words[5]) + 255 for words in rows if words[5:] and words[5].isdecimal())])
 

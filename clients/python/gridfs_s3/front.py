@@ -134,7 +134,7 @@ def tenants_of(plan: str) -> dict[str, int]:
         if words[:1] == ["tenant"] and len(words) > 3 and words[3].isdecimal():
             shapes[words[1]], sessions[words[1]] = set(), int(words[3])
         elif words[1:2] == ["open"] and words[0] in shapes:
-            shapes[words[0]].add(" ".join(words[2:]))
+            shapes[words[0]].add(" ".join(words[2:4]))
     return {name: sessions[name] for name, found in shapes.items() if len(found) > 1}
 
 

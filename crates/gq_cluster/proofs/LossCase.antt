@@ -25,7 +25,7 @@ abbrev column : Grid
 column = record { rows = 2; cols = 1 }
 
 abbrev row : TenantRow
-row = record { name = 97 ∷ []; share = 4; sessions = 2; steps = 100; most_blocks = 16 }
+row = record { name = 97 ∷ []; share = 4; sessions = 2; steps = 100; most_blocks = 16; most_volumes = 64 }
 
 abbrev home : ℕ → ℕ
 home k = (k - 1) % 2

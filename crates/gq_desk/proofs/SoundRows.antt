@@ -12,8 +12,8 @@ use Rattle.gq_desk.specs.CheckedPlan.{CheckedPlan, row_at}
 use Rattle.gq_desk.specs.Plans.{is_in, is_of, number_fault, row_fault, rows_fault, table_fault, plan_fault}
 use Rattle.gq_desk.specs.declared.plans.TenantRow.{TenantRow}
 use Rattle.gq_desk.specs.declared.plans.PlanFault.{PlanFault}
-use Rattle.gq_desk.specs.declared.plans.PlanFault.TheVariants.{TooMany, SameName, ZeroShare, Sessions, Steps, Most}
-use Rattle.gq_desk.specs.declared.limits.TheConstants.{MOST_FILE_BLOCKS, MOST_SESSIONS, MOST_STEPS, MOST_TENANTS}
+use Rattle.gq_desk.specs.declared.plans.PlanFault.TheVariants.{TooMany, SameName, ZeroShare, Sessions, Steps, Most, Volumes}
+use Rattle.gq_desk.specs.declared.limits.TheConstants.{MOST_FILE_BLOCKS, MOST_SESSIONS, MOST_STEPS, MOST_TENANTS, MOST_VOLUMES}
 
 pub same_word : (word : List ℕ) → bytes_eq word word ≡ true
 same_word word = (bytes_eq-Decides word word).1 refl
@@ -108,14 +108,20 @@ row_few t row none = within_few row.sessions (unless_none _ _ _ (unless_none _ _
 within_most : (blocks : ℕ) → not (is_in 1 MOST_FILE_BLOCKS blocks) ≡ false → blocks ≤ MOST_FILE_BLOCKS
 within_most blocks is = grind (arith, nat_tests)
 
-pub row_most : (t : ℕ) (row : TenantRow) → number_fault t row ≡ None → row.most_blocks ≤ MOST_FILE_BLOCKS
+within_volumes : (volumes : ℕ) → not (is_in 1 MOST_VOLUMES volumes) ≡ false → volumes ≤ MOST_VOLUMES
+within_volumes volumes is = grind (arith, nat_tests)
+
+pub row_most : (t : ℕ) (row : TenantRow) → number_fault t row ≡ None → (row.most_blocks ≤ MOST_FILE_BLOCKS) × (row.most_volumes ≤ MOST_VOLUMES)
 row_most t row none =
-    let last : Option PlanFault = cond (not (is_in 1 MOST_FILE_BLOCKS row.most_blocks)) (Some (Most t)) None in
+    let wide : Option PlanFault = cond (not (is_in 1 MOST_VOLUMES row.most_volumes)) (Some (Volumes t)) None in
+    let last : Option PlanFault = cond (not (is_in 1 MOST_FILE_BLOCKS row.most_blocks)) (Some (Most t)) wide in
     let late : Option PlanFault = cond (not (is_in 1 MOST_STEPS row.steps)) (Some (Steps t)) last in
     let share = unless_none (row.share == 0) (ZeroShare t) (cond (not (is_in 1 MOST_SESSIONS row.sessions)) (Some (Sessions t)) late) none in
     let sessions = unless_none (not (is_in 1 MOST_SESSIONS row.sessions)) (Sessions t) late share.1 in
     let steps = unless_none (not (is_in 1 MOST_STEPS row.steps)) (Steps t) last sessions.1 in
-    within_most row.most_blocks (unless_none (not (is_in 1 MOST_FILE_BLOCKS row.most_blocks)) (Most t) None steps.1).0
+    let most = unless_none (not (is_in 1 MOST_FILE_BLOCKS row.most_blocks)) (Most t) wide steps.1 in
+    let volumes = unless_none (not (is_in 1 MOST_VOLUMES row.most_volumes)) (Volumes t) None most.1 in
+    (within_most row.most_blocks most.0, within_volumes row.most_volumes volumes.0)
 
 -- a plan gives a tenant few sessions, and nobody none
 pub few_sessions : (plan : CheckedPlan) → plan_fault plan.blocks plan.rows ≡ None → (t : ℕ) → (row_at plan t).sessions ≤ MOST_SESSIONS

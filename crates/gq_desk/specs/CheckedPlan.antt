@@ -11,7 +11,7 @@ pub record CheckedPlan : Type 0 where
 
 -- the row of no tenant
 abbrev pub nobody : TenantRow
-nobody = record { name = []; share = 0; sessions = 0; steps = 0; most_blocks = 0 }
+nobody = record { name = []; share = 0; sessions = 0; steps = 0; most_blocks = 0; most_volumes = 0 }
 
 -- the row of the tenant at place t
 abbrev pub row_at : CheckedPlan → ℕ → TenantRow

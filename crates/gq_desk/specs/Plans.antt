@@ -3,11 +3,11 @@ use Rattle.std.specs.Prelude.{◌≡◌, ◌≤◌, true, ℕ, List, [], ◌∷�
 use Rattle.std.specs.List.{list_all, list_any}
 use Rattle.std.specs.Option.{option_or}
 use Rattle.std.specs.Str.{bytes_eq}
-use Rattle.gq_desk.specs.declared.limits.TheConstants.{MOST_TENANTS, MOST_BLOCKS, MOST_FILE_BLOCKS, MOST_SESSIONS, MOST_STEPS}
+use Rattle.gq_desk.specs.declared.limits.TheConstants.{MOST_TENANTS, MOST_BLOCKS, MOST_FILE_BLOCKS, MOST_SESSIONS, MOST_STEPS, MOST_VOLUMES}
 use Rattle.gq_desk.specs.Names.{is_name}
 use Rattle.gq_desk.specs.declared.plans.TenantRow.{TenantRow}
 use Rattle.gq_desk.specs.declared.plans.PlanFault.{PlanFault}
-use Rattle.gq_desk.specs.declared.plans.PlanFault.TheVariants.{NoTenant, SameName, ZeroShare, Sessions, Steps, Most, OverBlocks, TooMany}
+use Rattle.gq_desk.specs.declared.plans.PlanFault.TheVariants.{NoTenant, SameName, ZeroShare, Sessions, Steps, Most, Volumes, OverBlocks, TooMany}
 
 -- whether the row is of the name
 abbrev pub is_of : List ℕ → TenantRow → Bool
@@ -28,6 +28,7 @@ number_fault place row =
     else if not (is_in 1 MOST_SESSIONS row.sessions) then Some (Sessions place)
     else if not (is_in 1 MOST_STEPS row.steps) then Some (Steps place)
     else if not (is_in 1 MOST_FILE_BLOCKS row.most_blocks) then Some (Most place)
+    else if not (is_in 1 MOST_VOLUMES row.most_volumes) then Some (Volumes place)
     else None
 
 -- the first fault of a row, those before it being so

@@ -4,7 +4,6 @@ use Rattle.std.specs.Option.{option_and_then}
 use Rattle.gq_pool.specs.declared.TheConstants.{BLOCK_BYTES}
 use Rattle.gq_tag.specs.declared.FileId.{FileId}
 use Rattle.gq_tag.specs.declared.TheConstants.{MOST_FILES}
-use Rattle.gq_desk.specs.declared.limits.TheConstants.{MOST_VOLUMES}
 use Rattle.gq_desk.specs.Plans.{is_in}
 use Rattle.gq_desk.specs.declared.plans.TenantRow.{TenantRow}
 use Rattle.gq_desk.specs.declared.volumes.VolumeRow.{VolumeRow}
@@ -23,10 +22,11 @@ reserved volumes = sum_by blocks_of volumes
 abbrev pub is_sized : ℕ → VolumeRow → Bool
 is_sized most_blocks v = is_in 1 MOST_FILES v.files && is_in 1 most_blocks v.blocks
 
--- a tenant's share of every server's blocks, the most blocks of its files, and its volumes in order
+-- a tenant's share of every server's blocks, the most blocks of its files, how many volumes it may have, and its volumes in order
 pub record Account : Type 0 where
   pub share : ℕ
   pub most_blocks : ℕ
+  pub most_volumes : ℕ
   pub volumes : List VolumeRow
 
 -- the blocks of the share that no volume takes
@@ -46,7 +46,7 @@ pub data OpenFault : Type 0 where
 abbrev pub open_fault : Account → VolumeRow → Option OpenFault
 open_fault account v =
     if not (is_sized account.most_blocks v) then Some WrongSize
-    else if nat_le MOST_VOLUMES (length account.volumes) then Some NoVolumeLeft
+    else if nat_le account.most_volumes (length account.volumes) then Some NoVolumeLeft
     else if nat_lt (free_of account) (blocks_of v) then Some (OverShare (free_of account))
     else None
 
@@ -59,11 +59,11 @@ IsRefusedFor fault (Memory _) = fault ≡ None
 
 -- the account with one volume more
 abbrev pub with_volume : VolumeRow → Account → Account
-with_volume v account = record { share = account.share; most_blocks = account.most_blocks; volumes = account.volumes ++ v ∷ [] }
+with_volume v account = record { share = account.share; most_blocks = account.most_blocks; most_volumes = account.most_volumes; volumes = account.volumes ++ v ∷ [] }
 
 -- the account of no tenant
 abbrev pub no_account : Account
-no_account = record { share = 0; most_blocks = 0; volumes = [] }
+no_account = record { share = 0; most_blocks = 0; most_volumes = 0; volumes = [] }
 
 -- the account of the tenant at place t
 abbrev pub account_at : List Account → ℕ → Account
@@ -71,7 +71,7 @@ account_at accounts t = unwrap_or (slice_get accounts t) no_account
 
 -- the account of a tenant with these volumes
 abbrev pub account_with : TenantRow → List VolumeRow → Account
-account_with row volumes = record { share = row.share; most_blocks = row.most_blocks; volumes = volumes }
+account_with row volumes = record { share = row.share; most_blocks = row.most_blocks; most_volumes = row.most_volumes; volumes = volumes }
 
 -- and without one
 abbrev pub new_account : TenantRow → Account

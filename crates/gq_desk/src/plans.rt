@@ -5,7 +5,9 @@ ghost use Rattle.std.specs.List.{list_all, list_any, position_from};
 ghost use Rattle.gq_desk.specs.Plans.{number_fault, row_fault, rows_fault, table_fault, plan_fault, shares, is_of, is_in, is_named, IsSound};
 
 use crate::likely::Likely;
-use crate::limits::{MOST_BLOCKS, MOST_FILE_BLOCKS, MOST_SESSIONS, MOST_STEPS, MOST_TENANTS};
+use crate::limits::{
+    MOST_BLOCKS, MOST_FILE_BLOCKS, MOST_SESSIONS, MOST_STEPS, MOST_TENANTS, MOST_VOLUMES,
+};
 use crate::names::Name;
 use crate::rows::Rows;
 use gq_grid::Grid;
@@ -16,7 +18,7 @@ use std::marker::Model;
 use thiserror::Error;
 
 /// What the plan says of a tenant: its name, its share in blocks of every server, the number of its sessions, how many
-/// lines it may send, and how many blocks a file of it may have.
+/// lines it may send, how many blocks a file of it may have, and how many volumes it may open.
 #[derive(Clone, Copy, Debug, Drop)]
 pub struct TenantRow {
     pub name: Name,
@@ -24,6 +26,7 @@ pub struct TenantRow {
     pub sessions: u32,
     pub steps: u32,
     pub most_blocks: u32,
+    pub most_volumes: u32,
 }
 
 /// Why rows are no plan. A fault of a row names its place, from 0.
@@ -47,6 +50,9 @@ pub enum PlanFault {
     /// The most blocks of a file are not 1 to [`MOST_FILE_BLOCKS`].
     #[error("most")]
     Most { row: usize },
+    /// The volumes are not 1 to [`MOST_VOLUMES`].
+    #[error("volumes")]
+    Volumes { row: usize },
     /// The shares of all rows sum to more blocks than a server has: `sum` blocks and `blocks`.
     #[error("overblocks {sum} {blocks}")]
     OverBlocks { sum: u64, blocks: u32 },
@@ -101,6 +107,8 @@ fn number_fault(place: usize, row: &TenantRow) -> Option<PlanFault>
         Some(PlanFault::Steps { row: place })
     } else if !is_in(1, MOST_FILE_BLOCKS, row.most_blocks) {
         Some(PlanFault::Most { row: place })
+    } else if !is_in(1, MOST_VOLUMES, row.most_volumes) {
+        Some(PlanFault::Volumes { row: place })
     } else {
         None
     }
@@ -182,7 +190,7 @@ fn table_fault(blocks: u32, rows: &[TenantRow]) -> Option<PlanFault>
 
 impl Plan {
     /// The plan of these rows, of servers of `blocks` blocks each. The rows are tested in order, each for `TooMany`,
-    /// `SameName`, `ZeroShare`, `Sessions`, `Steps` and `Most`, and then all together for `NoTenant` and `OverBlocks`; the
+    /// `SameName`, `ZeroShare`, `Sessions`, `Steps`, `Most` and `Volumes`, and then all together for `NoTenant` and `OverBlocks`; the
     /// first fault is told, with the place of its row from 0. `Memory` may come before a later row is tested.
     pub fn check(
         alloc: Global,

@@ -41,7 +41,7 @@ pub enum OpenRefused {
     /// The files are not 1 to [`MOST_FILES`], or the blocks of a file not 1 to the most of the tenant's row.
     #[error("size")]
     Size,
-    /// The tenant has [`MOST_VOLUMES`] volumes already.
+    /// The tenant has as many volumes already as its row says.
     #[error("volumes")]
     Volumes,
     /// The volume's blocks are more than the `free` blocks that are left of the share.
@@ -52,11 +52,12 @@ pub enum OpenRefused {
     Memory(OutOfMemory),
 }
 
-// A tenant's volumes, the most blocks of its files, and how many blocks of its share no volume takes.
+// A tenant's volumes, the most blocks of its files, the most volumes that it may open, and how many blocks of its share no volume takes.
 #[derive(Drop)]
 struct Account {
     share: u32,
     most_blocks: u32,
+    most_volumes: u32,
     free: u32,
     volumes: Vec<VolumeRow>,
 }
@@ -69,20 +70,22 @@ impl Model for Account {
 
     ghost Value = { Holding };
 
-    ghost view = { λ a. record { share = a.share; most_blocks = a.most_blocks; volumes = a.volumes.items } };
+    ghost view = { λ a. record { share = a.share; most_blocks = a.most_blocks; most_volumes = a.most_volumes; volumes = a.volumes.items } };
 
-    ghost invariant = { λ a. (a.free + reserved a.volumes.items ≡ a.share) × (length a.volumes.items ≤ MOST_VOLUMES) × (a.most_blocks ≤ MOST_FILE_BLOCKS) × (list_all (is_sized MOST_FILE_BLOCKS) a.volumes.items ≡ true) };
+    ghost invariant = { λ a. (a.free + reserved a.volumes.items ≡ a.share) × (length a.volumes.items ≤ MOST_VOLUMES) × (a.most_blocks ≤ MOST_FILE_BLOCKS) × (a.most_volumes ≤ MOST_VOLUMES) × (list_all (is_sized MOST_FILE_BLOCKS) a.volumes.items ≡ true) };
 }
 
 impl Account {
     // All of the share is free.
     fn new(alloc: Global, row: &TenantRow) -> Account
-        requires { row.now.most_blocks ≤ MOST_FILE_BLOCKS }
+        requires blocks { row.now.most_blocks ≤ MOST_FILE_BLOCKS }
+        requires volumes { row.now.most_volumes ≤ MOST_VOLUMES }
         ensures { result ≡ new_account row.now }
     {
         Account {
             share: row.share,
             most_blocks: row.most_blocks,
+            most_volumes: row.most_volumes,
             free: row.share,
             volumes: Vec::new(alloc),
         }
@@ -102,7 +105,7 @@ impl Account {
         {
             return Some(OpenRefused::Size);
         }
-        if self.volumes.len() >= MOST_VOLUMES {
+        if self.volumes.len() >= self.most_volumes as usize {
             return Some(OpenRefused::Volumes);
         }
         if self.free < volume.files * volume.blocks {
@@ -115,6 +118,7 @@ impl Account {
     fn open(&mut self, volume: VolumeRow) -> Result<u32, OutOfMemory>
         requires { open_fault self.old volume ≡ None }
         ensures number { IfOk result (λ number. number ≡ length self.old.volumes) }
+        ensures few { IfOk result (λ number. number < MOST_VOLUMES) }
         ensures opened { OnOk result (self.new ≡ with_volume volume self.old) }
         ensures same { OnErr result (self.new ≡ self.old) }
     {
@@ -157,6 +161,7 @@ impl Desk {
     pub fn open_volume(&mut self, tenant: u8, files: u32, blocks: u32) -> Result<u32, OpenRefused>
         requires { tenant < length self.old }
         ensures number { IfOk result (λ number. number ≡ length (account_at self.old tenant).volumes) }
+        ensures few { IfOk result (λ number. number < MOST_VOLUMES) }
         ensures sound { OnOk result (open_fault (account_at self.old tenant) (record { files = files; blocks = blocks }) ≡ None) }
         ensures opened { OnOk result (self.new ≡ slice_set self.old tenant (with_volume (record { files = files; blocks = blocks }) (account_at self.old tenant))) }
         ensures refused { IfErr result (IsRefusedFor (open_fault (account_at self.old tenant) (record { files = files; blocks = blocks }))) }
@@ -178,6 +183,7 @@ impl Desk {
         requires { tenant < length self.now }
         ensures volumes { result.now ≡ (account_at self.now tenant).volumes }
         ensures within { reserved result.now ≤ (account_at self.now tenant).share }
+        ensures few { length result.now ≤ MOST_VOLUMES }
         ensures sized { list_all (is_sized MOST_FILE_BLOCKS) result.now ≡ true }
     {
         let account = &self.accounts[tenant as usize];

@@ -20,6 +20,7 @@ fn plan(rt: &impl Abort, alloc: Global) -> Plan {
         sessions: 2,
         steps: 10,
         most_blocks: 16,
+        most_volumes: 64,
     };
     Plan::check(alloc, grid, 16, &[row]).expect(rt, "a plan")
 }

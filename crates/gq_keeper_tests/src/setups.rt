@@ -60,6 +60,28 @@ fn reads_and_writes_a_setup(rt: HostRuntime) {
     writes(&rt, alloc, 3, &TEXT[..TEXT.len() - 1], NODE_TEXT);
 }
 
+// A line that opens several volumes is as many lines.
+const MANY: &[u8] =
+    b"grid 2 2\nblocks 16\ntenant ann 6 2 10\ntenant bob 4 1 10\ngo\nann open 2 1 times 1\nbob open 1 2\nann open 1 1 times 3\n";
+
+const NODE_MANY: &[u8] =
+    b"node 3 of 2 by 2\ngrid 2 2\nblocks 16\ntenant ann 6 2 10\ntenant bob 4 1 10\ngo\nann open 2 1\nbob open 1 2\nann open 1 1\nann open 1 1\nann open 1 1\n";
+
+#[test]
+fn reads_several_volumes_of_a_line(rt: HostRuntime) {
+    let alloc = rt.alloc();
+    let read = setup(&rt, alloc, MANY);
+    opens(
+        &rt,
+        &read,
+        &[(0, 2, 1), (1, 1, 2), (0, 1, 1), (0, 1, 1), (0, 1, 1)],
+    );
+    assert!(rt; read.volumes(0) == 4 && read.volumes(1) == 1);
+    writes(&rt, alloc, 3, MANY, NODE_MANY);
+    let plan = node_plan(&rt, alloc, 3, MANY);
+    assert!(rt; plan.goes_on(NODE_TEXT).ok() == Some(true));
+}
+
 // Whether the setup is that of LOSSES.
 fn has_losses(read: &Setup) -> bool {
     read.lost().places() == [3u8, 0, 3].as_slice()
@@ -195,6 +217,27 @@ fn tells_the_first_line_at_fault(rt: HostRuntime) {
         (
             b"grid 2 2\nblocks 4\ntenant ann 4 1 1\ngo\nann open 0 2\n",
             b"line 5: open: files or blocks of a file",
+        ),
+        // several by one line
+        (
+            b"grid 2 2\nblocks 4\ntenant ann 4 1 1\ngo\nann open 1 1\nann open 1 2 times 2\n",
+            b"line 6: open: share, 1 blocks are left",
+        ),
+        (
+            b"grid 2 2\nroom 9\ntenant ann 9 1 1 1 3\ngo\nann open 1 1 times 4294967295\n",
+            b"line 5: open: volumes",
+        ),
+        (
+            b"grid 2 2\nblocks 4\ntenant ann 4 1 1\ngo\nann open 1 1 times 0\n",
+            b"line 5: live",
+        ),
+        (
+            b"grid 2 2\nblocks 4\ntenant ann 4 1 1\ngo\nann open 1 1 times 1 \n",
+            b"line 5: live",
+        ),
+        (
+            b"grid 2 2\nblocks 4\ntenant ann 4 1 1\ngo\neve open 1 1 times 1\n",
+            b"line 5: live",
         ),
         // no number, none of the grid, one row
         (

@@ -17,7 +17,7 @@ abbrev grid : Grid
 grid = record { rows = 1; cols = 1 }
 
 abbrev row : TenantRow
-row = record { name = 97 ∷ []; share = 4; sessions = 2; steps = 100; most_blocks = 16 }
+row = record { name = 97 ∷ []; share = 4; sessions = 2; steps = 100; most_blocks = 16; most_volumes = 64 }
 
 abbrev turns : List Turn
 turns = Own (NewVolume 1 1) ∷ Own (Write 1 0 0 (104 ∷ 105 ∷ [])) ∷ Own (Lose 0) ∷ []

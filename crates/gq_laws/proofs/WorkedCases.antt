@@ -13,7 +13,7 @@ use Rattle.gq_laws.specs.Laws.{lone_operations}
 use Rattle.gq_laws.specs.Orders.{order}
 
 abbrev row : TenantRow
-row = record { name = 97 ∷ []; share = 4; sessions = 2; steps = 100; most_blocks = 16 }
+row = record { name = 97 ∷ []; share = 4; sessions = 2; steps = 100; most_blocks = 16; most_volumes = 64 }
 
 abbrev file : File
 file = record { volume = 0; place = 0 }

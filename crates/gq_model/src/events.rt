@@ -157,7 +157,7 @@ pub enum Refusal {
     NoMessage,
     /// The files are not 1 to `gq_tag::MOST_FILES`, or the blocks of a file not 1 to the most of the tenant's row.
     Size,
-    /// The tenant has `gq_desk::MOST_VOLUMES` volumes already.
+    /// The tenant has as many volumes already as its row says.
     Volumes,
     /// The volume's blocks are more than the `free` blocks that are left of the share.
     Share { free: u32 },

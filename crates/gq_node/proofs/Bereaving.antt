@@ -1,10 +1,8 @@
 -- The files of the first volumes were lost with the node that stood here before, and the sessions of a new node begin above all that it wrote.
-use Rattle.std.proofs.Common.{◌≡◌, ◌≢◌, ◌∙◌, ℕ, ◌+◌, ◌*◌, ◌<◌, ◌≤◌, Bool, true, false, List, [], length, replicate, refl, sym, ap, subst, inl, inr, arith}
+use Rattle.std.proofs.Common.{◌≡◌, ◌≢◌, ◌∙◌, ℕ, ◌+◌, ◌*◌, ◌<◌, ◌≤◌, Bool, true, false, List, [], length, refl, sym, ap, subst, inl, inr, arith}
 use Rattle.std.specs.Prelude.{◌==◌, ◌&&◌, not, nat_lt, slice_set, slice_index_or, if◌then◌else◌}
 use Rattle.std.proofs.lemmas.Bool.{cases_eq, cases_lt, eq-eqb, ne_eqb, lt-ltb, le-ltb, true≢false}
-use Rattle.std.proofs.lemmas.List.{get_or-set_same, get_or-set_other, get_or-replicate, length-set, length-replicate}
-use Rattle.std.proofs.Math.ListN.{get_or-eq_default}
-use Rattle.gq_tag.specs.declared.TheConstants.{MOST_FILES}
+use Rattle.std.proofs.lemmas.List.{get_or-set_same, get_or-set_other, length-set}
 use Rattle.gq_tag.specs.Tag.{File, file_of}
 use Rattle.gq_grid.proofs.Same.{none_below}
 use Rattle.gq_desk.specs.CheckedPlan.{CheckedPlan, row_at}
@@ -17,13 +15,14 @@ use Rattle.gq_cluster.specs.Cluster.{is_within}
 use Rattle.gq_cluster.specs.Facts.{Numbered}
 use Rattle.gq_replace.specs.declared.numbers.TheConstants.{NUMBERS_OF_A_LOSS}
 use Rattle.gq_replace.specs.Plans.{place_of, base}
-use Rattle.gq_node.specs.Lacks.{Given, lacks_in}
+use Rattle.gq_node.specs.Lacks.{Given, lacks_in, marks_for, all_lost}
 use Rattle.gq_node.specs.Local.{Local, Resident, Doing, new_local, new_resident, rested, recalled, recalls}
 use Rattle.gq_node.specs.Opening.{Becomes, lost_local, Loses, reserved_at, Reserves, Bereaves}
 use Rattle.gq_node.specs.Resting.{FirstPlan, begun_floor, bare_local, begun_local}
 use Rattle.gq_node.specs.Shape.{IsShaped}
 use Rattle.gq_node.specs.Sites.{Site, Here, site_of, is_new, has_session, session_at, session_state_place, home_of, home_place}
 use Rattle.gq_node.specs.Tables.{Tables, Agrees, Leads, SessionStateAgrees, session_states_at, session_state_in, given_at, lacks_at, is_new_node}
+use Rattle.gq_node.proofs.Lacking.{lost_count, lost_marks, none_given}
 use Rattle.gq_node.proofs.Recalling.{recalls_fits}
 use Rattle.gq_node.proofs.Placing.{place_again, has_placed, is_number}
 
@@ -31,23 +30,10 @@ use Rattle.gq_node.proofs.Placing.{place_again, has_placed, is_number}
 abbrev pub IsNew : Tables → ℕ → Type 0
 IsNew w t = Agrees w t (new_local w.plan.grid (place_of w.here.node) (account_at w.desk t).volumes)
 
--- all files of so many volumes
-abbrev pub all_lost : ℕ → Given
-all_lost n = replicate n (replicate MOST_FILES false)
-
-none_given : (n v place : ℕ) → slice_index_or (slice_index_or (all_lost n) v []) place false ≡ false
-none_given n v place = elim (cases_lt v n) [
-  | inl low ↦ (ap (λ (files : List Bool). slice_index_or files place false) (get_or-replicate n v (replicate MOST_FILES false) [] low) ∙ (elim (cases_lt place MOST_FILES) [
-    | inl inside ↦ (get_or-replicate MOST_FILES place false false inside)
-    | inr past ↦ (get_or-eq_default (replicate MOST_FILES false) false (subst (λ m. m ≤ place) (sym (length-replicate MOST_FILES false)) past))
-  ]))
-  | inr past ↦ (ap (λ (files : List Bool). slice_index_or files place false) (get_or-eq_default (all_lost n) [] (subst (λ m. m ≤ v) (sym (length-replicate n (replicate MOST_FILES false))) past)))
-]
-
-pub lost_lacks : (n : ℕ) (f : File) → lacks_in (all_lost n) f ≡ is_within n f
-lost_lacks n f =
-    ap (λ m. nat_lt f.volume m && not (slice_index_or (slice_index_or (all_lost n) f.volume []) f.place false)) (length-replicate n (replicate MOST_FILES false))
-    ∙ ap (λ b. nat_lt f.volume n && not b) (none_given n f.volume f.place)
+pub lost_lacks : (rows : List VolumeRow) (n : ℕ) (f : File) → lacks_in (all_lost rows n) f ≡ is_within n f
+lost_lacks rows n f =
+    ap (λ m. nat_lt f.volume m && not (slice_index_or (slice_index_or (all_lost rows n) f.volume []) f.place false)) (lost_count rows n)
+    ∙ ap (λ b. nat_lt f.volume n && not b) (none_given rows n f.volume f.place)
     ∙ plain (nat_lt f.volume n)
   where
     plain : (b : Bool) → (b && true) ≡ b
@@ -57,13 +43,13 @@ lost_lacks n f =
 abbrev pub with_lacks : Tables → ℕ → Given → Tables
 with_lacks w t given = record w { given = slice_set w.given t given }
 
-its_lacks : (w : Tables) (t lost : ℕ) (given : Given) (f : File) → t < length w.given → given ≡ all_lost lost → lacks_at (with_lacks w t given) t f ≡ is_within lost f
-its_lacks w t lost given f within is = ap (λ g. lacks_in g f) (get_or-set_same w.given t given [] within ∙ is) ∙ lost_lacks lost f
+its_lacks : (w : Tables) (t lost : ℕ) (given : Given) (f : File) → t < length w.given → given ≡ all_lost (account_at w.desk t).volumes lost → lacks_at (with_lacks w t given) t f ≡ is_within lost f
+its_lacks w t lost given f within is = ap (λ g. lacks_in g f) (get_or-set_same w.given t given [] within ∙ is) ∙ lost_lacks (account_at w.desk t).volumes lost f
 
 other_lacks : (w : Tables) (t u : ℕ) (given : Given) (f : File) → u ≢ t → lacks_at (with_lacks w t given) u f ≡ lacks_at w u f
 other_lacks w t u given f other = ap (λ g. lacks_in g f) (get_or-set_other w.given t u given [] other)
 
-pub loses : (w : Tables) (t lost : ℕ) (given : Given) → t < length w.given → is_new_node w ≡ true → given ≡ all_lost lost → IsNew w t → Loses w t lost (with_lacks w t given)
+pub loses : (w : Tables) (t lost : ℕ) (given : Given) → t < length w.given → is_new_node w ≡ true → given ≡ all_lost (account_at w.desk t).volumes lost → IsNew w t → Loses w t lost (with_lacks w t given)
 loses w t lost given within new is agrees = record {
   plan = refl;
   here = refl;
@@ -366,7 +352,7 @@ bereaves old mid new t first lost more = record {
     then_is : Bereaves mid t first new
     then_is = more first.volumes at_mid
 
-pub bereaved_shaped : (w : Tables) (t lost : ℕ) (given : Given) → IsShaped w → t < length w.given → lost ≤ MOST_VOLUMES → is_new_node w ≡ true → given ≡ all_lost lost → IsNew w t → IsShaped (with_lacks w t given)
+pub bereaved_shaped : (w : Tables) (t lost : ℕ) (given : Given) → IsShaped w → t < length w.given → lost ≤ MOST_VOLUMES → is_new_node w ≡ true → given ≡ all_lost (account_at w.desk t).volumes lost → IsNew w t → IsShaped (with_lacks w t given)
 bereaved_shaped w t lost given shaped within few new is agrees = record {
   place = shaped.place;
   few = shaped.few;
@@ -381,8 +367,12 @@ bereaved_shaped w t lost given shaped within few new is agrees = record {
     | inr other ↦ (shaped.bare u f (sym (other_lacks w t u given f other) ∙ lacks))
   ];
   few_given = λ u. elim (cases_eq u t) [
-    | inl same ↦ (subst (λ n. length (given_at (with_lacks w t given) n) ≤ MOST_VOLUMES) (sym same) (subst (λ (g : Given). length g ≤ MOST_VOLUMES) (sym (get_or-set_same w.given t given [] within ∙ is)) (subst (λ n. n ≤ MOST_VOLUMES) (sym (length-replicate lost (replicate MOST_FILES false))) few)))
+    | inl same ↦ (subst (λ n. length (given_at (with_lacks w t given) n) ≤ MOST_VOLUMES) (sym same) (subst (λ (g : Given). length g ≤ MOST_VOLUMES) (sym (get_or-set_same w.given t given [] within ∙ is)) (subst (λ n. n ≤ MOST_VOLUMES) (sym (lost_count (account_at w.desk t).volumes lost)) few)))
     | inr other ↦ (subst (λ (g : Given). length g ≤ MOST_VOLUMES) (sym (get_or-set_other w.given t u given [] other)) (shaped.few_given u))
+  ];
+  marks = λ u. elim (cases_eq u t) [
+    | inl same ↦ (subst (λ n. Marked (given_at (with_lacks w t given) n) n) (sym same) (subst (λ g. Marked g t) (sym (get_or-set_same w.given t given [] within ∙ is)) marked))
+    | inr other ↦ (subst (λ g. Marked g u) (sym (get_or-set_other w.given t u given [] other)) (shaped.marks u))
   ];
   peers = shaped.peers;
   grid_peers = shaped.grid_peers;
@@ -390,3 +380,9 @@ bereaved_shaped w t lost given shaped within few new is agrees = record {
   session_states = shaped.session_states;
   sessions = shaped.sessions;
 }
+  where
+    Marked : Given → ℕ → Type 0
+    Marked g u = (v : ℕ) → v < length g → marks_for (account_at w.desk u).volumes v ≤ length (slice_index_or g v [])
+
+    marked : Marked (all_lost (account_at w.desk t).volumes lost) t
+    marked v below = omega (arith, lost_marks (account_at w.desk t).volumes lost v (subst (λ n. v < n) (lost_count (account_at w.desk t).volumes lost) below))

@@ -1,5 +1,5 @@
 -- Shaped tables hold no more than the plan has room for.
-use Rattle.std.proofs.Common.{◌≡◌, ◌∙◌, ℕ, suc, ◌+◌, ◌*◌, ◌<◌, ◌≤◌, [], ◌∷◌, length, refl, sym, ap, subst, inl, inr, arith}
+use Rattle.std.proofs.Common.{◌≡◌, ◌∙◌, ℕ, suc, ◌+◌, ◌*◌, ◌<◌, ◌≤◌, [], ◌∷◌, length, sym, ap, subst, inl, inr, arith}
 use Rattle.std.specs.Prelude.{is_some, nat_lt}
 use Rattle.std.specs.List.{sum_by}
 use Rattle.std.proofs.lemmas.Bool.{cases_Bool, ltb-true, ltb-false}
@@ -16,16 +16,16 @@ use Rattle.gq_node.specs.Shape.{IsShaped}
 use Rattle.gq_node.specs.Tables.{Tables, given_at, session_states_at}
 use Rattle.gq_node.proofs.Needing.{volumes_are}
 
--- each volume has so many marks
-marks_are : (given : Given) → HasRoom given → sum_by length given ≡ length given * MOST_FILES
-marks_are [] room = refl
+-- each volume has no more marks
+marks_are : (given : Given) → HasRoom given → sum_by length given ≤ length given * MOST_FILES
+marks_are [] room = omega arith
 marks_are (volume ∷ given) room =
-    let first : length volume ≡ MOST_FILES = room 0 (omega arith) in
-    let rest : sum_by length given ≡ length given * MOST_FILES = marks_are given (λ v below. room (suc v) (omega (arith, below))) in
+    let first : length volume ≤ MOST_FILES = room 0 (omega arith) in
+    let rest : sum_by length given ≤ length given * MOST_FILES = marks_are given (λ v below. room (suc v) (omega (arith, below))) in
     let all : sum_by length (volume ∷ given) ≡ length volume + sum_by length given = sum_by-cons length volume given in
     omega (arith, first, rest, all)
 
--- of each tenant there is one for each file that a volume may have
+-- of no tenant there are more than a volume may have files
 abbrev pub AllHaveRoom : Tables → Type 0
 AllHaveRoom w = (t : ℕ) → t < length w.given → HasRoom (given_at w t)
 

@@ -1,6 +1,6 @@
 -- A new node's files: what it lacks, what it is given, and whom it asks.
 use Rattle.std.proofs.Common.{◌≡◌, ◌≢◌, ◌∙◌, ℕ, zero, suc, ◌+◌, ◌-◌, ◌*◌, ◌<◌, ◌≤◌, Bool, true, false, List, [], ◌∷◌, ◌++◌, length, map, Option, Some, None, refl, sym, ap, subst, arith, inl, inr}
-use Rattle.std.specs.Prelude.{◌==◌, ◌&&◌, not, is_some, find, slice_set}
+use Rattle.std.specs.Prelude.{◌==◌, ◌&&◌, not, is_some, find, slice_set, slice_index_or}
 use Rattle.std.specs.List.{range_with_len, flat_map}
 use Rattle.std.proofs.lemmas.Bool.{cases_eq, cases_lt, eq-eqb, and_parts, and_from, true≢false}
 use Rattle.std.proofs.lemmas.List.{get_or-set_same, get_or-set_other, length-set}
@@ -26,12 +26,13 @@ use Rattle.gq_node.specs.declared.output.Transfer.{Transfer as Code}
 use Rattle.gq_node.specs.declared.output.Transfer.TheVariants.{Wants as CodeWants, Brings as CodeBrings}
 use Rattle.gq_node.specs.Deciding.{joins_it, gives_it, takes_it}
 use Rattle.gq_node.specs.Joining.{hears_joined, all_joined, next_peer, files_in_volume, first_among, first_lacked, asks_peer, looks, is_peer, has_file, gives, takes}
-use Rattle.gq_node.specs.Lacks.{Given, lacks_in}
+use Rattle.gq_node.specs.Lacks.{Given, lacks_in, marks_for, AllGiven}
 use Rattle.gq_node.specs.Local.{Local, Doing, Wants, Brings, part_in, state_of, silently, file_fits, recalls, given as given_local}
 use Rattle.gq_node.specs.SessionStates.{GivesNothing}
 use Rattle.gq_node.specs.Shape.{IsShaped}
 use Rattle.gq_node.specs.Sites.{Site, plan_in, site_of}
 use Rattle.gq_node.specs.Tables.{Tables, Agrees, Leads, LeadsAll, Acts, Gives, given_at, lacks_at, peer_at}
+use Rattle.gq_node.proofs.Lacking.{none_lacked, none_lacked_past, marks_there}
 use Rattle.gq_node.proofs.Recalling.{copies_put, copies_elsewhere}
 use Rattle.gq_node.proofs.Placing.{same_leads}
 use Rattle.gq_node.proofs.Serving.{limit_is}
@@ -78,9 +79,9 @@ given_leads w file copy store given within h =
       };
     }
 
-pub given_shaped : (w : Tables) (file : FileId) (copy : StoredCopy) (store : StoreCopies) (given : Given) → IsShaped w → file.tenant < length w.given → IsGiven w file copy store given → length given ≡ length (given_at w file.tenant) → store_accounts store ≡ store_accounts w.store →
+pub given_shaped : (w : Tables) (file : FileId) (copy : StoredCopy) (store : StoreCopies) (given : Given) → IsShaped w → file.tenant < length w.given → IsGiven w file copy store given → length given ≡ length (given_at w file.tenant) → ((v : ℕ) → length (slice_index_or given v []) ≡ length (slice_index_or (given_at w file.tenant) v [])) → store_accounts store ≡ store_accounts w.store →
     IsShaped (with_given w file.tenant store given)
-given_shaped w file copy store given shaped within h long accounts = record {
+given_shaped w file copy store given shaped within h long marks accounts = record {
   place = shaped.place;
   few = shaped.few;
   grid = shaped.grid;
@@ -106,6 +107,10 @@ given_shaped w file copy store given shaped within h long accounts = record {
     | inl same ↦ (subst (λ n. length (given_at new n) ≤ MOST_VOLUMES) (sym same) (subst (λ (g : Given). length g ≤ MOST_VOLUMES) (sym (get_or-set_same w.given t given [] within)) (subst (λ n. n ≤ MOST_VOLUMES) (sym long) (shaped.few_given t))))
     | inr other ↦ (subst (λ (g : Given). length g ≤ MOST_VOLUMES) (sym (get_or-set_other w.given t u given [] other)) (shaped.few_given u))
   ];
+  marks = λ u. elim (cases_eq u t) [
+    | inl same ↦ (subst (λ n. Marked (given_at new n) n) (sym same) (subst (λ g. Marked g t) (sym (get_or-set_same w.given t given [] within)) marked))
+    | inr other ↦ (subst (λ g. Marked g u) (sym (get_or-set_other w.given t u given [] other)) (shaped.marks u))
+  ];
   peers = shaped.peers;
   grid_peers = shaped.grid_peers;
   tenants = shaped.tenants;
@@ -118,6 +123,12 @@ given_shaped w file copy store given shaped within h long accounts = record {
 
     new : Tables
     new = with_given w file.tenant store given
+
+    Marked : Given → ℕ → Type 0
+    Marked g u = (v : ℕ) → v < length g → marks_for (account_at w.desk u).volumes v ≤ length (slice_index_or g v [])
+
+    marked : Marked given t
+    marked v below = subst (λ n. marks_for (account_at w.desk t).volumes v ≤ n) (sym (marks v)) (shaped.marks t v (subst (λ n. v < n) long below))
 
     same_here : (f : File) → is_file f f ≡ true
     same_here f = and_from (f.volume == f.volume) (f.place == f.place) (eq-eqb f.volume f.volume refl) (eq-eqb f.place f.place refl)
@@ -194,9 +205,41 @@ first_here lacks g v n x less some =
 pub first_none : (lacks : File → Bool) (g : ℕ → List File) (v n : ℕ) → n ≤ v → find lacks (flat_map g (range_with_len v (n - v))) ≡ None
 first_none lacks g v n past = let s : n - v ≡ 0 = omega arith in rw s refl
 
+-- from a volume on before which none is lacked
+pub first_from : (lacks : File → Bool) (f : ℕ → List File) (i n : ℕ) → ((v : ℕ) → v < i → v < n → find lacks (f v) ≡ None) → find lacks (flat_map f (range_with_len i (n - i))) ≡ find lacks (flat_map f (range_with_len 0 n))
+first_from lacks f zero n none = let all : n - 0 ≡ n = omega arith in ap (λ m. find lacks (flat_map f (range_with_len 0 m))) all
+first_from lacks f (suc i) n none = elim (cases_lt i n) [
+  | inl less ↦ (
+      let next : i + 1 ≡ suc i = omega arith in
+      ap (λ m. find lacks (flat_map f (range_with_len m (n - m)))) (sym next)
+      ∙ first_more lacks f i n less (none i (omega arith) less)
+      ∙ first_from lacks f i n before)
+  | inr past ↦ (first_none lacks f (suc i) n (omega (arith, past)) ∙ sym (first_none lacks f i n past) ∙ first_from lacks f i n before)
+]
+  where
+    before : (v : ℕ) → v < i → v < n → find lacks (f v) ≡ None
+    before v low there = none v (omega (arith, low)) there
+
 -- the files of a volume of these
 abbrev pub volume_files : List VolumeRow → ℕ → List File
 volume_files volumes v = files_in_volume v (files_of volumes v)
+
+-- of a volume of which each file that is marked was given
+pub whole_none : (w : Tables) (t v : ℕ) → IsShaped w → AllGiven (slice_index_or (given_at w t) v []) (length (slice_index_or (given_at w t) v [])) → v < length (account_at w.desk t).volumes →
+    find (lacks_at w t) (volume_files (account_at w.desk t).volumes v) ≡ None
+whole_none w t v shaped all there = sym (first_in_from (lacks_at w t) v n n none) ∙ first_in_none (lacks_at w t) v n n (omega arith)
+  where
+    n : ℕ
+    n = files_of (account_at w.desk t).volumes v
+
+    marked : marks_for (account_at w.desk t).volumes v ≡ n
+    marked = marks_there (account_at w.desk t).volumes v there
+
+    none : (place : ℕ) → place < n → lacks_at w t (at_place v place) ≡ false
+    none place below = elim (cases_lt v (length (given_at w t))) [
+      | inl lost ↦ (none_lacked (given_at w t) v (length (slice_index_or (given_at w t) v [])) all place (omega (arith, below, marked, shaped.marks t v lost)))
+      | inr kept ↦ (none_lacked_past (given_at w t) v kept place)
+    ]
 
 -- ---- whom it asks
 
@@ -216,6 +259,7 @@ mated_shaped w t place shaped within inside = record {
   whole = shaped.whole;
   bare = shaped.bare;
   few_given = shaped.few_given;
+  marks = shaped.marks;
   peers = length-set w.peers t place ∙ shaped.peers;
   grid_peers = λ u there. elim (cases_eq u t) [
     | inl same ↦ (subst (λ n. peer_at (with_peer w t place) n < w.plan.grid.rows * w.plan.grid.cols) (sym same) (subst (λ n. n < w.plan.grid.rows * w.plan.grid.cols) (sym (get_or-set_same w.peers t place 0 within)) inside))
@@ -491,6 +535,7 @@ stored_shaped w file store shaped has others accounts = record {
       let apart : file_of u f ≢ file = λ e. true≢false (sym lacks ∙ (λ i. lacks_at w (e i).tenant (file_place (e i))) ∙ has) in
       others (file_of u f) apart ∙ shaped.bare u f lacks;
   few_given = shaped.few_given;
+  marks = shaped.marks;
   peers = shaped.peers;
   grid_peers = shaped.grid_peers;
   tenants = shaped.tenants;

@@ -831,3 +831,20 @@ pub all_readable : (w : Tables) (t : ℕ) → ((v : ℕ) → v < length (account
 all_readable w t by_place f bytes is =
     let there = limit_there (account_at w.desk t).volumes f.volume f.place bytes is in
     by_place f.volume there.0 f.place there.1 bytes is
+
+-- ---- a file that was never written
+
+first_facts : (f : File) → copy_facts f first_copy ≡ []
+first_facts f = refl
+
+first_readable : (limit : ℕ) → IsReadable limit first_copy
+first_readable limit = record { above = λ is. cc; first = λ is. refl }
+
+pub nothing_needed : (w : Tables) (t volume place : ℕ) → is_new_node w ≡ false → copy_at w.store (file_of t (file_at volume place)) ≡ first_copy → place_facts w t volume place ≡ []
+nothing_needed w t volume place old first =
+    ap (λ b. file_facts b (lacks_at w t (file_at volume place)) (file_at volume place) (copy_at w.store (file_of t (file_at volume place)))) old
+    ∙ ap (copy_facts (file_at volume place)) first
+    ∙ first_facts (file_at volume place)
+
+pub nothing_readable : (w : Tables) (t volume place limit : ℕ) → copy_at w.store (file_of t (file_at volume place)) ≡ first_copy → IsReadable limit (copy_at w.store (file_of t (file_at volume place)))
+nothing_readable w t volume place limit first = subst (IsReadable limit) (sym first) (first_readable limit)

@@ -192,6 +192,7 @@ seated_shaped w t session_states shaped count = record {
   whole = shaped.whole;
   bare = shaped.bare;
   few_given = shaped.few_given;
+  marks = shaped.marks;
   peers = shaped.peers;
   grid_peers = shaped.grid_peers;
   tenants = length-set w.session_states t session_states ∙ shaped.tenants;

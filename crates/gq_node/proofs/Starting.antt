@@ -110,6 +110,7 @@ first_shaped plan here w first few inside small rare =
       whole = λ old t f. none_lacked w plan.rows t f first.given;
       bare = λ t f lacks. absurd (true≢false (sym lacks ∙ none_lacked w plan.rows t f first.given));
       few_given = λ t. subst (λ n. n ≤ MOST_VOLUMES) (sym (ap length (none_given_at w plan.rows t first.given))) (omega arith);
+      marks = λ t v below. absurd (nothing v (subst (λ n. v < n) (ap length (none_given_at w plan.rows t first.given)) below));
       peers = ap length first.peers ∙ length-map plan.rows (λ row. server) ∙ rows;
       grid_peers = λ t within.
           let at : peer_at w t ≡ server = ap (λ ms. slice_index_or ms t 0) first.peers ∙ const_at server plan.rows t (subst (λ n. t < n) (sym rows) within) in
@@ -118,6 +119,9 @@ first_shaped plan here w first few inside small rare =
       session_states = h.4;
       sessions = h.5;
     }
+  where
+    nothing : (v : ℕ) → v < 0 → ⊥
+    nothing v below = omega (arith, below)
 
 pub first_agrees : (plan : CheckedPlan) (here : Here) (w : Tables) (t : ℕ) → IsFirst plan here w → t < length plan.rows → Agrees w t (new_local plan.grid (place_of here.node) [])
 first_agrees plan here w t first within =

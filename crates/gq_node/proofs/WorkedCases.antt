@@ -22,7 +22,7 @@ use Rattle.gq_node.specs.Local.{part_in}
 use Rattle.gq_node.specs.Nodes.{NodeWorld, Nodes, Event, Started, Came, AskedToJoin, node_in, fact_list, new_nodes, doing_of, after_event, nodes_after, AllCanCome}
 
 abbrev row : TenantRow
-row = record { name = 97 ∷ []; share = 4; sessions = 240; steps = 100; most_blocks = 16 }
+row = record { name = 97 ∷ []; share = 4; sessions = 240; steps = 100; most_blocks = 16; most_volumes = 64 }
 
 abbrev volumes : List VolumeRow
 volumes = record { files = 1; blocks = 1 } ∷ []

@@ -24,7 +24,7 @@ operations_held w t = count_by (λ (session_state : SessionState). is_some sessi
 abbrev pub outcomes_held : Tables → ℕ → ℕ
 outcomes_held w t = count_by (λ (session_state : SessionState). is_some session_state.outcome) (session_states_at w.session_states t)
 
--- the volumes that it lost with the node that stood here before, and the marks, one for each file, which of these files the server was given
+-- the volumes that it lost with the node that stood here before, and the marks, which of their files the server was given
 abbrev pub volumes_lost : Tables → ℕ → ℕ
 volumes_lost w t = length (given_at w t)
 
@@ -37,7 +37,7 @@ content_bytes w = BLOCK_BYTES * (w.plan.blocks - blocks_free w.store)
 
 -- There are tables for the plan's tenants and no others; for each of them no more volumes than it may have, one copy of each file, at
 -- most one operation and one outcome for each of its sessions, one place whose node was asked last for a file, and for each of its lost volumes,
--- which are no more than it may have, one mark for each file that a volume may have.
+-- which are no more than it may have, no more marks than a volume may have files.
 pub record IsBounded (w : Tables) : Type 0 where
   pub copied : length w.store.tenants ≡ length w.plan.rows
   pub seated : length w.session_states ≡ length w.plan.rows
@@ -48,4 +48,4 @@ pub record IsBounded (w : Tables) : Type 0 where
   pub operations : (t : ℕ) → t < length w.plan.rows → operations_held w t ≤ (row_at w.plan t).sessions
   pub outcomes : (t : ℕ) → t < length w.plan.rows → outcomes_held w t ≤ (row_at w.plan t).sessions
   pub lost : (t : ℕ) → volumes_lost w t ≤ MOST_VOLUMES
-  pub marks : (t : ℕ) → marks_held w t ≡ volumes_lost w t * MOST_FILES
+  pub marks : (t : ℕ) → marks_held w t ≤ volumes_lost w t * MOST_FILES

@@ -1,5 +1,5 @@
 -- What holds of a node's tables whatever happened, and tables in which nothing has happened.
-use Rattle.std.specs.Prelude.{◌≡◌, ℕ, ◌*◌, ◌<◌, ◌≤◌, [], true, false, length, map, replicate}
+use Rattle.std.specs.Prelude.{◌≡◌, ℕ, ◌*◌, ◌<◌, ◌≤◌, [], true, false, length, map, replicate, slice_index_or}
 use Rattle.gq_grid.specs.declared.TheConstants.{MOST_SERVERS}
 use Rattle.gq_desk.specs.CheckedPlan.{CheckedPlan, row_at}
 use Rattle.gq_desk.specs.declared.limits.TheConstants.{MOST_SESSIONS, MOST_VOLUMES}
@@ -11,11 +11,12 @@ use Rattle.gq_store.specs.Copies.{empty_store, store_accounts, copy_at}
 use Rattle.gq_replace.specs.Plans.{times, place_of}
 use Rattle.gq_node.specs.declared.lost.TheConstants.{MOST_TIMES}
 use Rattle.gq_node.specs.Sites.{Here, plan_in}
+use Rattle.gq_node.specs.Lacks.{marks_for}
 use Rattle.gq_node.specs.Tables.{Tables, session_states_at, first_session_state, given_at, lacks_at, peer_at, is_new_node}
 
 -- the node's place is one of the grid's, and so many nodes may have been lost at each; the desk and the store have the same volumes, of each
 -- tenant at most the most; a node that is no new one lacks no
--- file, and of files that it lacks the server has the first copy; who was asked last is one of the grid's; there is a session for
+-- file, and of files that it lacks the server has the first copy; each file of a volume that was lost is marked; who was asked last is one of the grid's; there is a session for
 -- each of the plan
 pub record IsShaped (w : Tables) : Type 0 where
   pub place : place_of w.here.node < w.plan.grid.rows * w.plan.grid.cols
@@ -28,6 +29,7 @@ pub record IsShaped (w : Tables) : Type 0 where
   pub whole : is_new_node w ≡ false → (t : ℕ) (file : File) → lacks_at w t file ≡ false
   pub bare : (t : ℕ) (file : File) → lacks_at w t file ≡ true → copy_at w.store (file_of t file) ≡ first_copy
   pub few_given : (t : ℕ) → length (given_at w t) ≤ MOST_VOLUMES
+  pub marks : (t v : ℕ) → v < length (given_at w t) → marks_for (account_at w.desk t).volumes v ≤ length (slice_index_or (given_at w t) v [])
   pub peers : length w.peers ≡ length w.plan.rows
   pub grid_peers : (t : ℕ) → t < length w.plan.rows → peer_at w t < w.plan.grid.rows * w.plan.grid.cols
   pub tenants : length w.session_states ≡ length w.plan.rows

@@ -10,7 +10,7 @@ ghost use Rattle.gq_store.specs.Copies.{copy_at};
 ghost use Rattle.gq_node.specs.Local.{recalls};
 ghost use Rattle.gq_node.specs.Needing.{is_own, file_facts, IsReadable, IsRefusedOf, place_numbers, session_states_facts, file_at, place_facts, files_facts, files_in, volumes_facts, tenant_facts, PlaceReadable, AllReadable, IsRefusedIn};
 ghost use Rattle.gq_node.specs.Recalling.{tenant_of, own_fact, fits_in};
-ghost use Rattle.gq_node.specs.Tables.{fact_of, Leads, session_state_at, with_session_state};
+ghost use Rattle.gq_node.specs.Tables.{fact_of, is_new_node, Leads, session_state_at, with_session_state};
 ghost use Rattle.gq_node.specs.Resting.{Needed};
 ghost use Rattle.gq_node.specs.SessionStates.{recalled_session_state};
 
@@ -229,6 +229,19 @@ impl Core {
         })
     }
 
+    // Whether a start needs nothing of the file: this is no new node, and its server has the copy with which a file begins.
+    fn needs_nothing(&self, file: FileId) -> bool
+        requires { IsSome (limit_of self.now.desk file) }
+        ensures old { result ≡ true → is_new_node self.now ≡ false }
+        ensures first { result ≡ true → copy_at self.now.store file ≡ first_copy }
+    {
+        if self.is_new() || self.store.len(file) > 0 {
+            return false;
+        }
+        let tag = self.store.tag(file);
+        tag.number == 0 && tag.session == 0
+    }
+
     // Appends what a start needs of the file.
     fn put_place(
         &self,
@@ -251,6 +264,9 @@ impl Core {
         let Some(limit) = self.desk.limit(file) else {
             return Ok(());
         };
+        if self.needs_nothing(file) {
+            return Ok(());
+        }
         let copy = self.copy_of(file)?;
         put_file(self.is_new(), self.lacks(file), limit, file, copy, facts)
     }

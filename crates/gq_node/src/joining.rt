@@ -186,7 +186,8 @@ impl Core {
         ensures tenant { IfSome result (λ file. file.tenant ≡ tenant) }
     {
         let count = self.count_volumes(tenant);
-        for volume in 0..count {
+        let first = self.lacks[usize::from(tenant)].first();
+        for volume in first..count {
             if let Some(file) = self.first_in(tenant, volume as u32) {
                 return Some(file);
             }
@@ -385,7 +386,8 @@ impl Core {
         if !self.is_new() {
             return Ok(());
         }
-        self.lacks[usize::from(tenant)] = Lacks::all(self.alloc, volumes)?;
+        let rows = self.desk.volumes(tenant);
+        self.lacks[usize::from(tenant)] = Lacks::all(self.alloc, volumes, rows)?;
         Ok(())
     }
 

@@ -20,7 +20,7 @@ abbrev pub column : Grid
 column = record { rows = 2; cols = 1 }
 
 abbrev pub row : TenantRow
-row = record { name = 97 ∷ []; share = 4; sessions = 4; steps = 1000; most_blocks = 16 }
+row = record { name = 97 ∷ []; share = 4; sessions = 4; steps = 1000; most_blocks = 16; most_volumes = 64 }
 
 abbrev pub home : ℕ → ℕ
 home k = if k == 4 then 128 else if k == 3 then 64 else if k == 2 then 1 else 0

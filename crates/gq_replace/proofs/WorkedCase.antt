@@ -25,7 +25,7 @@ abbrev column : Grid
 column = record { rows = 2; cols = 1 }
 
 abbrev row : TenantRow
-row = record { name = 97 ∷ []; share = 4; sessions = 18; steps = 1000; most_blocks = 16 }
+row = record { name = 97 ∷ []; share = 4; sessions = 18; steps = 1000; most_blocks = 16; most_volumes = 64 }
 
 abbrev home : ℕ → ℕ
 home k = if k == 17 then 64 else if k == 2 then 1 else 0

@@ -1,12 +1,11 @@
 -- A node that was never started, with volumes that are opened one after another.
-use Rattle.std.proofs.Common.{◌≡◌, ◌≢◌, ◌∙◌, ℕ, zero, suc, ◌+◌, ◌<◌, ◌≤◌, List, [], ◌∷◌, ◌++◌, length, take, Bool, true, false, refl, sym, ap, subst, arith, inl, inr, get_or, length-append, append_assoc, append-nil, None}
-use Rattle.std.specs.Prelude.{◌==◌, nat_le, map, slice_set, Result, Ok, Err, IsErr, OnOk, MatchOption, Option, Some, IfSome}
-use Rattle.std.proofs.lemmas.Bool.{cases_Bool, cases_eq, cases_lt, and_parts, leb-false, eq-eqb, ne_eqb, eqb-true}
+use Rattle.std.proofs.Common.{◌≡◌, ◌≢◌, ◌∙◌, ℕ, zero, suc, ◌+◌, ◌<◌, ◌≤◌, List, [], ◌∷◌, ◌++◌, length, take, Bool, true, false, refl, sym, ap, subst, arith, inl, inr, get_or, append_assoc, append-nil, None}
+use Rattle.std.specs.Prelude.{◌==◌, map, slice_set, Result, Ok, Err, IsErr, OnOk, MatchOption, Option, Some, IfSome}
+use Rattle.std.proofs.lemmas.Bool.{cases_Bool, cases_eq, and_parts, eq-eqb, ne_eqb, eqb-true}
 use Rattle.std.proofs.lemmas.List.{take_more, take_all, length-set, get_or-map, get_or-set_same, get_or-set_other}
 use Rattle.std.proofs.lemmas.Option.{unwrap_or-slice_get}
 use Rattle.gq_desk.specs.CheckedPlan.{CheckedPlan, nobody, row_at}
-use Rattle.gq_desk.specs.declared.limits.TheConstants.{MOST_VOLUMES}
-use Rattle.gq_desk.specs.Volumes.{Account, account_at, no_account, is_sized, WrongSize, NoVolumeLeft, open_fault, with_volume, account_with, new_account}
+use Rattle.gq_desk.specs.Volumes.{Account, account_at, no_account, open_fault, with_volume, account_with, new_account}
 use Rattle.gq_desk.specs.declared.plans.TenantRow.{TenantRow}
 use Rattle.gq_desk.specs.declared.volumes.VolumeRow.{VolumeRow}
 use Rattle.gq_journal.specs.Batches.{Line, batches_of}
@@ -218,43 +217,6 @@ pub no_volume_beyond : (setup : Setup) (t : ℕ) → length setup.plan.rows ≤ 
 no_volume_beyond setup t past =
     let counted : length (holdings setup) ≡ length setup.plan.rows = after-length setup.openings (accounts_of setup.plan) ∙ rows-length setup.plan.rows in
     sym (ap (λ (a : Account). length a.volumes) (none_beyond (holdings setup) t (subst (λ n. n ≤ t) (sym counted) past)))
-
--- and each has at most the most volumes
-one_few : (account : Account) (v : VolumeRow) → open_fault account v ≡ None → length (with_volume v account).volumes ≤ MOST_VOLUMES
-one_few account v sound = sized (is_sized account.most_blocks v) refl
-  where
-    room : (b : Bool) → nat_le MOST_VOLUMES (length account.volumes) ≡ b → is_sized account.most_blocks v ≡ true → length (with_volume v account).volumes ≤ MOST_VOLUMES
-    room true full size = absurd (let e : open_fault account v ≡ Some NoVolumeLeft = rw (size, full) refl in cc)
-    room false some size = omega (arith, length-append account.volumes (v ∷ []), leb-false MOST_VOLUMES (length account.volumes) some)
-
-    sized : (b : Bool) → is_sized account.most_blocks v ≡ b → length (with_volume v account).volumes ≤ MOST_VOLUMES
-    sized true size = room (nat_le MOST_VOLUMES (length account.volumes)) refl size
-    sized false wrong = absurd (let e : open_fault account v ≡ Some WrongSize = rw wrong refl in cc)
-
-few_after : (openings : List Opening) (accounts : List Account) (t : ℕ) → length (account_at accounts t).volumes ≤ MOST_VOLUMES → CanOpen accounts openings → length (account_at (after_openings accounts openings) t).volumes ≤ MOST_VOLUMES
-few_after [] accounts t few can = few
-few_after (o ∷ openings) accounts t few can = few_after openings (after_opening accounts o) t next can.2
-  where
-    opened : Account
-    opened = with_volume (volume_of o) (account_at accounts o.tenant)
-
-    next : length (account_at (after_opening accounts o) t).volumes ≤ MOST_VOLUMES
-    next = elim (cases_eq o.tenant t) [
-      | inl same ↦ (
-          let now : account_at (slice_set accounts o.tenant opened) o.tenant ≡ opened = its_account accounts o.tenant opened can.0 in
-          let own : length (account_at (slice_set accounts o.tenant opened) o.tenant).volumes ≤ MOST_VOLUMES = subst (λ (a : Account). length a.volumes ≤ MOST_VOLUMES) (sym now) (one_few (account_at accounts o.tenant) (volume_of o) can.1) in
-          subst (λ u. length (account_at (slice_set accounts o.tenant opened) u).volumes ≤ MOST_VOLUMES) same own)
-      | inr differs ↦ (subst (λ (a : Account). length a.volumes ≤ MOST_VOLUMES) (sym (other_account accounts o.tenant t opened differs)) few)
-    ]
-
-pub few_volumes : (plan : CheckedPlan) (openings : List Opening) (t : ℕ) → CanOpen (accounts_of plan) openings → length (account_at (after_openings (accounts_of plan) openings) t).volumes ≤ MOST_VOLUMES
-few_volumes plan openings t can = few_after openings (accounts_of plan) t first can
-  where
-    first : length (account_at (accounts_of plan) t).volumes ≤ MOST_VOLUMES
-    first = elim (cases_lt t (length plan.rows)) [
-      | inl within ↦ (subst (λ (a : Account). length a.volumes ≤ MOST_VOLUMES) (sym (first_account plan t within)) (omega arith))
-      | inr past ↦ (subst (λ (a : Account). length a.volumes ≤ MOST_VOLUMES) (sym (none_beyond (accounts_of plan) t (subst (λ n. n ≤ t) (sym (rows-length plan.rows)) past))) (omega arith))
-    ]
 
 -- of a node of the setup: those that it opens
 pub own_volumes : (setup : Setup) (number : ℕ) (lost : ℕ → FirstPlan) (w : Tables) → IsNewFor setup number lost w → HasFirst (first_read (Ok setup)) w

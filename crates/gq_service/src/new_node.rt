@@ -58,7 +58,6 @@ fn volumes_before(read: &Option<Setup>, tenant: u8) -> usize
     if tenant as usize >= setup.plan().tenants() {
         return 0;
     }
-    let _each_can_be_opened = setup.openings();
     setup.volumes(tenant)
 }
 

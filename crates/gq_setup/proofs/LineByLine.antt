@@ -1,15 +1,15 @@
 -- What lines behind a plan tell, one behind another.
-use Rattle.std.proofs.Common.{◌≡◌, ℕ, suc, ◌+◌, ◌<◌, ◌≤◌, List, [], ◌∷◌, ◌++◌, length, Some, None, Ok, refl, sym, ap, ◌∙◌, subst, arith}
+use Rattle.std.proofs.Common.{◌≡◌, ℕ, suc, ◌+◌, ◌-◌, ◌<◌, ◌≤◌, List, [], ◌∷◌, ◌++◌, length, Option, Some, None, Ok, Err, refl, sym, ap, ◌∙◌, subst, arith}
 use Rattle.std.specs.Prelude.{map}
 use Rattle.std.proofs.Math.ListN.{length-set}
 use Rattle.gq_desk.specs.CheckedPlan.{CheckedPlan}
 use Rattle.gq_desk.specs.declared.plans.TenantRow.{TenantRow}
-use Rattle.gq_desk.specs.Volumes.{Account, new_account}
+use Rattle.gq_desk.specs.Volumes.{Account, OpenFault, new_account}
 use Rattle.gq_text.specs.Lines.{lines_of}
 use Rattle.gq_setup.specs.declared.openings.Opening.{Opening}
 use Rattle.gq_setup.specs.declared.openings.SetupFault.{SetupFault}
 use Rattle.gq_setup.specs.declared.openings.SetupFault.TheVariants.{Plan, Live, OpenSize, OpenVolumes, OpenShare, Replace, Memory}
-use Rattle.gq_setup.specs.Setups.{Setup, SetupReading, accounts_of, after_opening, after_openings, opening_fault, holdings, CanOpen, with_opening, opened, after_opens, after_line, then_told, after_lines}
+use Rattle.gq_setup.specs.Setups.{Setup, SetupReading, accounts_of, after_opening, after_openings, opening_fault, holdings, CanOpen, with_opening, opened, after_opens, after_opens_many, after_line, then_told, after_lines}
 use Rattle.gq_setup.specs.Faults.{IsFirstFault}
 
 -- ---- accounts
@@ -52,6 +52,50 @@ opened_desk plan openings now desk next o is opens grown =
 pub opens_is : (n : ℕ) (setup : Setup) (desk : List Account) (o : Opening) → desk ≡ holdings setup → opening_fault desk o ≡ None → after_opens n setup (Some o) ≡ Ok (with_opening setup o)
 opens_is n setup desk o is sound = ap (opened n setup o) (ap (λ a. opening_fault a o) (sym is) ∙ sound)
 
+pub fault_first : (fault : SetupFault) (told : SetupReading Setup) (next : Setup → SetupReading Setup) → IsFirstFault fault told → IsFirstFault fault (then_told told next)
+fault_first (Plan n fault) told next is = ap (λ r. then_told r next) is
+fault_first (Live n) told next is = ap (λ r. then_told r next) is
+fault_first (OpenSize n) told next is = ap (λ r. then_told r next) is
+fault_first (OpenVolumes n) told next is = ap (λ r. then_told r next) is
+fault_first (OpenShare n free) told next is = ap (λ r. then_told r next) is
+fault_first (Replace n) told next is = ap (λ r. then_told r next) is
+fault_first (Memory refused) told next is = tt
+
+opened_plan : (n : ℕ) (setup next : Setup) (o : Opening) (fault : Option OpenFault) → opened n setup o fault ≡ Ok next → next.plan ≡ setup.plan
+opened_plan n setup next o None is = ap (λ (r : SetupReading Setup). plan_in r) (sym is)
+  where
+    plan_in : SetupReading Setup → CheckedPlan
+    plan_in (Ok s) = s.plan
+    plan_in (Err fault) = setup.plan
+opened_plan n setup next o (Some fault) is = cc
+
+-- ---- several volumes alike, by one line
+
+-- so many of them are open, and the rest is left
+pub record OpensSome (n : ℕ) (start : Setup) (o : Opening) (times done : ℕ) (setup : Setup) : Type 0 where
+  pub told : after_opens_many n start o times ≡ after_opens_many n setup o (times - done)
+  pub plan : setup.plan ≡ start.plan
+
+pub none_open : (n : ℕ) (start : Setup) (o : Opening) (times : ℕ) → OpensSome n start o times 0 start
+none_open n start o times = record { told = (let all : times ≡ times - 0 = omega arith in ap (after_opens_many n start o) all); plan = refl }
+
+one_less : (n : ℕ) (setup : Setup) (o : Opening) (times done : ℕ) → done < times → after_opens_many n setup o (times - done) ≡ then_told (after_opens n setup (Some o)) (λ next. after_opens_many n next o (times - (done + 1)))
+one_less n setup o times done less = let s : times - done ≡ suc (times - (done + 1)) = omega arith in rw s refl
+
+pub one_open : (n : ℕ) (start : Setup) (o : Opening) (times done : ℕ) (setup next : Setup) → OpensSome n start o times done setup → done < times → after_opens n setup (Some o) ≡ Ok next → OpensSome n start o times (done + 1) next
+one_open n start o times done setup next some less is = record {
+  told = some.told ∙ one_less n setup o times done less ∙ ap (λ r. then_told r (λ x. after_opens_many n x o (times - (done + 1)))) is;
+  plan = opened_plan n setup next o (opening_fault (holdings setup) o) is ∙ some.plan;
+}
+
+pub all_open : (n : ℕ) (start : Setup) (o : Opening) (times done : ℕ) (setup : Setup) → OpensSome n start o times done setup → times ≤ done → after_opens_many n start o times ≡ Ok setup
+all_open n start o times done setup some past = some.told ∙ (let s : times - done ≡ 0 = omega arith in rw s refl)
+
+pub open_fault_first : (n : ℕ) (start : Setup) (o : Opening) (times done : ℕ) (setup : Setup) (fault : SetupFault) → OpensSome n start o times done setup → done < times → IsFirstFault fault (after_opens n setup (Some o)) → IsFirstFault fault (after_opens_many n start o times)
+open_fault_first n start o times done setup fault some less is =
+    subst (IsFirstFault fault) (sym (some.told ∙ one_less n setup o times done less))
+    (fault_first fault (after_opens n setup (Some o)) (λ x. after_opens_many n x o (times - (done + 1))) is)
+
 -- ---- one line more
 
 -- of the text this was taken, and the rest is left
@@ -72,15 +116,6 @@ empty_of (x ∷ xs) none = absurd (omega arith)
 
 pub takes_all : (first : ℕ) (start : Setup) (text rest : List ℕ) (number : ℕ) (setup : Setup) → Takes first start text rest number setup → length rest ≡ 0 → after_lines first start (lines_of text) ≡ Ok setup
 takes_all first start text rest number setup s none = s.told ∙ ap (λ r. after_lines number setup (lines_of r)) (empty_of rest none)
-
-fault_first : (fault : SetupFault) (told : SetupReading Setup) (next : Setup → SetupReading Setup) → IsFirstFault fault told → IsFirstFault fault (then_told told next)
-fault_first (Plan n fault) told next is = ap (λ r. then_told r next) is
-fault_first (Live n) told next is = ap (λ r. then_told r next) is
-fault_first (OpenSize n) told next is = ap (λ r. then_told r next) is
-fault_first (OpenVolumes n) told next is = ap (λ r. then_told r next) is
-fault_first (OpenShare n free) told next is = ap (λ r. then_told r next) is
-fault_first (Replace n) told next is = ap (λ r. then_told r next) is
-fault_first (Memory refused) told next is = tt
 
 pub takes_fault : (first : ℕ) (start : Setup) (text rest line after : List ℕ) (number : ℕ) (setup : Setup) (fault : SetupFault) → Takes first start text rest number setup → lines_of rest ≡ line ∷ lines_of after →
     IsFirstFault fault (after_line number setup line) → IsFirstFault fault (after_lines first start (lines_of text))

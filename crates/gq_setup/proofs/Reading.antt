@@ -4,6 +4,7 @@ use Rattle.std.specs.Prelude.{map, OnOk, codes, decimal, nat_lt}
 use Rattle.std.specs.List.{All, flat_map}
 use Rattle.std.specs.Str.{bytes_eq}
 use Rattle.std.proofs.lemmas.Bool.{and_parts, ltb-true, leb-true}
+use Rattle.std.proofs.lemmas.Slice.Eq.{bytes_eq-Decides}
 use Rattle.gq_grid.specs.Grid.{is_side}
 use Rattle.gq_grid.specs.declared.TheConstants.{MOST_SIDE}
 use Rattle.gq_desk.specs.CheckedPlan.{CheckedPlan}
@@ -24,7 +25,7 @@ use Rattle.gq_text.proofs.PlanNames.{ok_same}
 use Rattle.gq_text.proofs.PlanIs.{plan_is, small_grid}
 use Rattle.gq_text.proofs.ScriptBack.{plan_back}
 use Rattle.gq_setup.specs.declared.openings.Opening.{Opening}
-use Rattle.gq_setup.specs.Setups.{Setup, NotLost, accounts_of, after_opening, holdings, opening_fault, CanOpen, can_lose, CanLose, line_opens, event_opens, loss_word, with_opening, with_loss, after_opens, after_loses, after_told, after_line, then_told, after_lines, plan_alone, first_behind, behind_plan, setup_of}
+use Rattle.gq_setup.specs.Setups.{Setup, NotLost, accounts_of, after_opening, holdings, opening_fault, CanOpen, can_lose, CanLose, line_opens, event_opens, many_told, loss_word, with_opening, with_loss, after_opens, after_opening_line, after_loses, after_told, after_line, then_told, after_lines, plan_alone, first_behind, behind_plan, setup_of}
 use Rattle.gq_setup.specs.Texts.{opening_event, loss_line, setup_text, node_text, setup_of_node_text}
 use Rattle.gq_setup.proofs.LineByLine.{after_openings-length, accounts-length, one_opened, opens_is}
 use Rattle.gq_setup.proofs.WholeLines.{events_whole, behind_line}
@@ -61,12 +62,43 @@ no_loss plan (a ∷ []) o is = refl
 no_loss plan (a ∷ b ∷ []) o is = absurd (opens_none o (event_opens (event_of_words plan (a ∷ b ∷ []))) (two_words plan a b) is)
 no_loss plan (a ∷ b ∷ c ∷ words) o is = refl
 
+-- ---- a line that opens one volume opens not several alike
+
+open_of_four : (t : ℕ) (c d e f : Word) → line_opens t (line_of (codes "open" ∷ c ∷ d ∷ e ∷ f ∷ [])) ≡ None
+unfolding line_of one_number_of two_numbers_of three_numbers_of file_content_of
+open_of_four t c d e f = refl
+
+six_words : (plan : CheckedPlan) (a b c d e f : Word) → bytes_eq b (codes "open") ≡ true → event_opens (event_of_words plan (a ∷ b ∷ c ∷ d ∷ e ∷ f ∷ [])) ≡ None
+unfolding event_of_words
+six_words plan a b c d e f same =
+    let is : b ≡ codes "open" = (bytes_eq-Decides b (codes "open")).0 same in
+    subst (λ w. event_opens (event_of_words plan (a ∷ w ∷ c ∷ d ∷ e ∷ f ∷ [])) ≡ None) (sym is) (by (bytes_eq a (codes "server")) (place_named plan a))
+  where
+    by : (s : Bool) (place : Option ℕ) → event_opens (cond s (Server (server_line_of (codes "open" ∷ c ∷ d ∷ e ∷ f ∷ []))) (tenant_event place (codes "open" ∷ c ∷ d ∷ e ∷ f ∷ []))) ≡ None
+    by true place = refl
+    by false None = refl
+    by false (Some t) = open_of_four t c d e f
+
+not_many : (plan : CheckedPlan) (words : List Word) (o : Opening) → event_opens (event_of_words plan words) ≡ Some o → many_told plan words ≡ None
+not_many plan [] o is = refl
+not_many plan (a ∷ []) o is = refl
+not_many plan (a ∷ b ∷ []) o is = refl
+not_many plan (a ∷ b ∷ c ∷ []) o is = refl
+not_many plan (a ∷ b ∷ c ∷ d ∷ []) o is = refl
+not_many plan (a ∷ b ∷ c ∷ d ∷ e ∷ []) o is = refl
+not_many plan (a ∷ b ∷ c ∷ d ∷ e ∷ f ∷ []) o is = by (bytes_eq b (codes "open")) refl
+  where
+    by : (v : Bool) → bytes_eq b (codes "open") ≡ v → many_told plan (a ∷ b ∷ c ∷ d ∷ e ∷ f ∷ []) ≡ None
+    by false other = rw other refl
+    by true same = absurd (opens_none o (event_opens (event_of_words plan (a ∷ b ∷ c ∷ d ∷ e ∷ f ∷ []))) (six_words plan a b c d e f same) is)
+not_many plan (a ∷ b ∷ c ∷ d ∷ e ∷ f ∷ g ∷ words) o is = refl
+
 -- ---- openings
 
 opens_line : (n : ℕ) (setup : Setup) (line : List ℕ) (o : Opening) → event_of setup.plan line ≡ opening_event o → opening_fault (holdings setup) o ≡ None → after_line n setup line ≡ Ok (with_opening setup o)
 opens_line n setup line o event sound =
     let opens : event_opens (event_of setup.plan line) ≡ Some o = ap event_opens event in
-    ap (after_told n setup line) (no_loss setup.plan (words_of line) o opens) ∙ ap (after_opens n setup) opens ∙ opens_is n setup (holdings setup) o refl sound
+    ap (after_told n setup line) (no_loss setup.plan (words_of line) o opens) ∙ ap (after_opening_line n setup line) (not_many setup.plan (words_of line) o opens) ∙ ap (after_opens n setup) opens ∙ opens_is n setup (holdings setup) o refl sound
 
 first_same : (a b : Event) (more others : List Event) → a ∷ more ≡ b ∷ others → (a ≡ b) × (more ≡ others)
 first_same a b more others same = (cc, cc)

@@ -1,5 +1,5 @@
 -- What a node starts with: a plan, the volumes that are opened at each start, and which nodes were lost.
-use Rattle.std.specs.Prelude.{◌≡◌, ℕ, ◌+◌, ◌*◌, ◌<◌, List, [], ◌∷◌, ◌++◌, length, map, slice_set, Option, Some, None, Result, Ok, Err, Bool, true, ◌&&◌, ◌==◌, nat_lt, codes, if◌then◌else◌}
+use Rattle.std.specs.Prelude.{◌≡◌, ℕ, ◌+◌, ◌*◌, ◌<◌, List, [], ◌∷◌, ◌++◌, length, map, slice_set, Option, Some, None, Result, Ok, Err, Bool, true, ◌&&◌, ◌==◌, nat_lt, codes, zero, suc, if◌then◌else◌}
 use Rattle.std.specs.Str.{bytes_eq}
 use Rattle.gq_desk.specs.CheckedPlan.{CheckedPlan}
 use Rattle.gq_desk.specs.Volumes.{Account, open_fault, OpenFault, with_volume, account_at, new_account}
@@ -11,7 +11,7 @@ use Rattle.gq_model.specs.declared.events.Line.TheVariants.{NewVolume}
 use Rattle.gq_text.specs.declared.plan_text.TextFault.{TextFault}
 use Rattle.gq_text.specs.Words.{Word, words_of, number_of}
 use Rattle.gq_text.specs.Lines.{lines_of}
-use Rattle.gq_text.specs.Input.{event_of}
+use Rattle.gq_text.specs.Input.{◌>>=◌, event_of, place_named}
 use Rattle.gq_text.specs.PlanText.{plan_of, Reading}
 use Rattle.gq_replace.specs.Plans.{times, node_at, place_of}
 use Rattle.gq_node.specs.declared.lost.TheConstants.{MOST_TIMES}
@@ -95,6 +95,17 @@ event_opens (Tenant tenant line) = line_opens tenant line
 event_opens (Server line) = None
 event_opens Stray = None
 
+-- the volume of a line `T open FILES BLOCKS times N`, and N
+abbrev pub many_from : Option ℕ → (files blocks times : Word) → Option (Opening × ℕ)
+many_from tenant files blocks times =
+    tenant >>= (λ tenant. number_of files >>= (λ files. number_of blocks >>= (λ blocks. number_of times >>= (λ times.
+    if times == 0 then None else Some (record { tenant = tenant; files = files; blocks = blocks }, times)))))
+
+abbrev pub many_told : CheckedPlan → List Word → Option (Opening × ℕ)
+many_told plan (name ∷ verb ∷ files ∷ blocks ∷ word ∷ times ∷ []) =
+    if bytes_eq verb (codes "open") && bytes_eq word (codes "times") then many_from (place_named plan name) files blocks times else None
+many_told plan _ = None
+
 -- the word that tells the place of a loss: the one behind `replace`, in a line of these two words
 abbrev pub loss_word : List Word → Option Word
 loss_word (verb ∷ word ∷ []) = if bytes_eq verb (codes "replace") then Some word else None
@@ -120,17 +131,28 @@ abbrev pub after_loses : ℕ → Setup → Option ℕ → SetupReading Setup
 after_loses n setup None = Err (n, NotLost)
 after_loses n setup (Some place) = if can_lose setup.plan setup.lost place then Ok (with_loss setup place) else Err (n, NotLost)
 
--- the setup behind line n, a loss where it has such a word; and behind lines of which the first is line n
-abbrev pub after_told : ℕ → Setup → List ℕ → Option Word → SetupReading Setup
-after_told n setup line (Some word) = after_loses n setup (number_of word)
-after_told n setup line None = after_opens n setup (event_opens (event_of setup.plan line))
-
-abbrev pub after_line : ℕ → Setup → List ℕ → SetupReading Setup
-after_line n setup line = after_told n setup line (loss_word (words_of line))
-
+-- what comes next, unless there is a fault
 abbrev pub then_told : SetupReading Setup → (Setup → SetupReading Setup) → SetupReading Setup
 then_told (Ok setup) next = next setup
 then_told (Err fault) next = Err fault
+
+-- the setup behind line n, which opens so many volumes alike, one after another
+abbrev pub after_opens_many : ℕ → Setup → Opening → (times : ℕ) → SetupReading Setup
+after_opens_many n setup opening zero = Ok setup
+after_opens_many n setup opening (suc times) = then_told (after_opens n setup (Some opening)) (λ next. after_opens_many n next opening times)
+
+-- which opens many, or one
+abbrev pub after_opening_line : ℕ → Setup → List ℕ → Option (Opening × ℕ) → SetupReading Setup
+after_opening_line n setup line (Some many) = after_opens_many n setup many.0 many.1
+after_opening_line n setup line None = after_opens n setup (event_opens (event_of setup.plan line))
+
+-- the setup behind line n, a loss where it has such a word; and behind lines of which the first is line n
+abbrev pub after_told : ℕ → Setup → List ℕ → Option Word → SetupReading Setup
+after_told n setup line (Some word) = after_loses n setup (number_of word)
+after_told n setup line None = after_opening_line n setup line (many_told setup.plan (words_of line))
+
+abbrev pub after_line : ℕ → Setup → List ℕ → SetupReading Setup
+after_line n setup line = after_told n setup line (loss_word (words_of line))
 
 abbrev pub after_lines : ℕ → Setup → List (List ℕ) → SetupReading Setup
 after_lines n setup [] = Ok setup

@@ -3,12 +3,12 @@
 ghost use Rattle.std.specs.Prelude.{◌≡◌, ◌<◌, length, None, Some, IfOk, IfSome, MatchOption};
 ghost use Rattle.gq_text.specs.Words.{words_of};
 ghost use Rattle.gq_text.specs.Input.{event_of};
-ghost use Rattle.gq_setup.specs.Setups.{event_opens, loss_word};
+ghost use Rattle.gq_setup.specs.Setups.{event_opens, many_from, many_told, loss_word};
 
 use gq_desk::Plan;
 use gq_memory::OutOfMemory;
 use gq_model::{Event, Line};
-use gq_text::{TextFault, first_word, is_end, next_word, read_line};
+use gq_text::{TextFault, first_word, is_end, next_word, number, read_line};
 use std::alloc::Global;
 use thiserror::Error;
 
@@ -89,6 +89,50 @@ pub(crate) fn read_opening(
 {
     let event = read_line(alloc, line, plan)?;
     Ok(opening_of(&event))
+}
+
+// The volume of these words, and how many of it: not none.
+fn many_from(
+    tenant: Option<u8>,
+    files: &[u8],
+    blocks: &[u8],
+    times: &[u8],
+) -> Option<(Opening, u32)>
+    ensures { result ≡ many_from tenant files.now blocks.now times.now }
+{
+    let opening = Opening {
+        tenant: tenant?,
+        files: number(files)?,
+        blocks: number(blocks)?,
+    };
+    let times = number(times)?;
+    if times == 0 {
+        return None;
+    }
+    Some((opening, times))
+}
+
+// The volume of a line `T open FILES BLOCKS times N`, and N, if it is such a line.
+pub(crate) fn many_told(plan: &Plan, line: &[u8]) -> Option<(Opening, u32)>
+    ensures many { result ≡ many_told plan.now (words_of line.now) }
+    ensures within { IfSome result (λ many. many.0.tenant < length plan.now.rows) }
+{
+    let (name, rest) = first_word(line);
+    let (verb, rest) = next_word(rest)?;
+    let (files, rest) = next_word(rest)?;
+    let (blocks, rest) = next_word(rest)?;
+    let (word, rest) = next_word(rest)?;
+    let (times, rest) = next_word(rest)?;
+    if !is_end(rest) {
+        return None;
+    }
+    if verb != b"open".as_slice() {
+        return None;
+    }
+    if word != b"times".as_slice() {
+        return None;
+    }
+    many_from(plan.find_word(name), files, blocks, times)
 }
 
 // The word that tells the place of a loss, if the line is one.

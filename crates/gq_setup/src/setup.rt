@@ -3,6 +3,7 @@
 ghost use Rattle.std.specs.Prelude.{◌≡◌, ◌++◌, ◌∷◌, ◌+◌, ◌<◌, ◌≤◌, ◌^◌, true, length, map, is_none, Ok, Some, [], IfOk, IfErr, IfSome, OnOk, OnErr};
 ghost use Rattle.std.specs.List.{All, flat_map};
 ghost use Rattle.gq_desk.specs.Volumes.{account_at};
+ghost use Rattle.gq_desk.specs.declared.limits.TheConstants.{MOST_VOLUMES};
 ghost use Rattle.gq_model.specs.Events.{IsIn};
 ghost use Rattle.gq_text.specs.Words.{number_of};
 ghost use Rattle.gq_text.specs.Lines.{lines_of};
@@ -11,7 +12,7 @@ ghost use Rattle.gq_grid.specs.declared.TheConstants.{MOST_SERVERS};
 ghost use Rattle.gq_replace.specs.Plans.{times};
 ghost use Rattle.gq_node.specs.declared.lost.TheConstants.{MOST_TIMES};
 ghost use Rattle.gq_node.specs.Sites.{plan_in};
-ghost use Rattle.gq_setup.specs.Setups.{setup_of, accounts_of, holdings, CanOpen, CanLose, can_lose, has_node, plan_alone, after_opens, after_loses, after_line, after_lines};
+ghost use Rattle.gq_setup.specs.Setups.{setup_of, accounts_of, holdings, CanOpen, CanLose, can_lose, has_node, plan_alone, after_opens, after_opens_many, after_loses, after_line, after_lines};
 ghost use Rattle.gq_setup.specs.declared.openings.TheConstants.{MOST_LOSSES};
 ghost use Rattle.gq_setup.specs.Faults.{IsFirstFault};
 ghost use Rattle.gq_setup.specs.GoingOn.{goes_on, come_first, row_goes_on, account_goes_on};
@@ -21,7 +22,7 @@ ghost use Rattle.gq_setup.specs.Texts.{opening_event, loss_line, setup_text};
 use crate::going_on::{
     NotKept, accounts_not_kept, losses_not_kept, rows_not_kept, servers_not_kept,
 };
-use crate::openings::{MOST_LOSSES, Opening, SetupFault, loss_word, read_opening};
+use crate::openings::{MOST_LOSSES, Opening, SetupFault, loss_word, many_told, read_opening};
 use gq_desk::{Desk, OpenRefused, Plan};
 use gq_grid::MOST_SERVERS;
 use gq_memory::{GrowCopies, GrowVec, OutOfMemory, RoomInVec};
@@ -108,6 +109,18 @@ impl Setup {
         Ok(())
     }
 
+    // Opens so many volumes alike, one after another, by line `number`.
+    fn open_many(&mut self, opening: Opening, times: u32, number: u64) -> Result<(), SetupFault>
+        requires { opening.tenant < length self.old.plan.rows }
+        ensures ok { OnOk result (after_opens_many number self.old opening times ≡ Ok self.new) }
+        ensures fault { IfErr result (λ e. IsFirstFault e (after_opens_many number self.old opening times)) }
+    {
+        for _time in 0..times {
+            self.open(opening, number)?;
+        }
+        Ok(())
+    }
+
     // Whether the node at the place may be lost too.
     fn can_lose(&self, place: u32) -> bool
         ensures can { result ≡ can_lose self.now.plan self.now.lost place }
@@ -142,6 +155,9 @@ impl Setup {
     {
         if let Some(word) = loss_word(line) {
             return self.lose(word, number);
+        }
+        if let Some((opening, times)) = many_told(&self.plan, line) {
+            return self.open_many(opening, times, number);
         }
         match read_opening(alloc, &self.plan, line)? {
             Some(opening) => self.open(opening, number),
@@ -208,7 +224,8 @@ impl Setup {
     /// How many volumes the tenant has once all are opened.
     pub fn volumes(&self, tenant: u8) -> usize
         requires { tenant < length self.now.plan.rows }
-        ensures { result ≡ length (account_at (holdings self.now) tenant).volumes }
+        ensures count { result ≡ length (account_at (holdings self.now) tenant).volumes }
+        ensures few { result ≤ MOST_VOLUMES }
     {
         self.desk.volumes(tenant).len()
     }

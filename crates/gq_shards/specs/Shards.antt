@@ -109,7 +109,7 @@ of_shard shard _ _ = []
 
 -- the row, where the tenant is the shard's; else the least row of its name
 abbrev pub part_row : Bool → TenantRow → TenantRow
-part_row mine row = if mine then row else record { name = row.name; share = 1; sessions = 1; steps = 1; most_blocks = 1 }
+part_row mine row = if mine then row else record { name = row.name; share = 1; sessions = 1; steps = 1; most_blocks = 1; most_volumes = 1 }
 
 -- the rows from place t on, as the shard has them
 abbrev pub part_rows : ℕ → ℕ → ℕ → List TenantRow → List TenantRow

@@ -20,6 +20,7 @@ fn part_row(mine: bool, row: &TenantRow) -> TenantRow
             sessions: 1,
             steps: 1,
             most_blocks: 1,
+            most_volumes: 1,
         }
     }
 }

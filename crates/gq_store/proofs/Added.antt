@@ -30,7 +30,7 @@ size files blocks = record { files = files; blocks = blocks }
 
 copies_account-grown : (x : TenantCopies) (files blocks : ℕ) → copies_account (grown x files blocks) ≡ with_volume (size files blocks) (copies_account x)
 copies_account-grown x files blocks =
-    λ i. record { share = x.share; most_blocks = x.most_blocks; volumes = volumes i }
+    λ i. record { share = x.share; most_blocks = x.most_blocks; most_volumes = x.most_volumes; volumes = volumes i }
   where
     volumes : map volume_size (x.volumes ++ new_volume files blocks ∷ []) ≡ map volume_size x.volumes ++ size files blocks ∷ []
     volumes = map-append volume_size x.volumes (new_volume files blocks ∷ []) ∙ ap (λ n. map volume_size x.volumes ++ size n blocks ∷ []) (length-replicate files first_copy)

@@ -28,7 +28,7 @@ volume_size-volume_with x f copy = λ i. record { files = length-set x.copies f 
 
 pub copies_account-tenant_with : (x : TenantCopies) (v f : ℕ) (copy : StoredCopy) → copies_account (tenant_with x v f copy) ≡ copies_account x
 copies_account-tenant_with x v f copy =
-    λ i. record { share = x.share; most_blocks = x.most_blocks; volumes = map-set_same volume_size x.volumes v (volume_with (volume_in x v) f copy) empty_volume (volume_size-volume_with (volume_in x v) f copy) i }
+    λ i. record { share = x.share; most_blocks = x.most_blocks; most_volumes = x.most_volumes; volumes = map-set_same volume_size x.volumes v (volume_with (volume_in x v) f copy) empty_volume (volume_size-volume_with (volume_in x v) f copy) i }
 
 pub accounts-tenants_with : (tenants : List TenantCopies) (id : FileId) (copy : StoredCopy) → map copies_account (tenants_with tenants id copy) ≡ map copies_account tenants
 accounts-tenants_with tenants id copy =

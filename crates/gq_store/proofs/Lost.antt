@@ -36,7 +36,7 @@ map_same g f [] h = refl
 map_same g f (x ∷ xs) h = λ i. h x i ∷ map_same g f xs h i
 
 pub account_lost : (x : TenantCopies) → copies_account (lost_tenant x) ≡ copies_account x
-account_lost x = λ i. record { share = x.share; most_blocks = x.most_blocks; volumes = map_same volume_size lost_volume x.volumes size_lost i }
+account_lost x = λ i. record { share = x.share; most_blocks = x.most_blocks; most_volumes = x.most_volumes; volumes = map_same volume_size lost_volume x.volumes size_lost i }
 
 pub accounts_lost : (tenants : List TenantCopies) → map copies_account (map lost_tenant tenants) ≡ map copies_account tenants
 accounts_lost tenants = map_same copies_account lost_tenant tenants account_lost

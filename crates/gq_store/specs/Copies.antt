@@ -19,6 +19,7 @@ pub record VolumeCopies : Type 0 where
 pub record TenantCopies : Type 0 where
   pub share : ℕ
   pub most_blocks : ℕ
+  pub most_volumes : ℕ
   pub volumes : List VolumeCopies
 
 -- the server's blocks, and the tenants in the order of the plan
@@ -32,7 +33,7 @@ abbrev pub empty_volume : VolumeCopies
 empty_volume = record { blocks = 0; copies = [] }
 
 abbrev pub no_tenant : TenantCopies
-no_tenant = record { share = 0; most_blocks = 0; volumes = [] }
+no_tenant = record { share = 0; most_blocks = 0; most_volumes = 0; volumes = [] }
 
 abbrev pub volume_copy : VolumeCopies → ℕ → StoredCopy
 volume_copy volume file = slice_index_or volume.copies file first_copy
@@ -55,7 +56,7 @@ volume_size volume = record { files = length volume.copies; blocks = volume.bloc
 
 -- the tenant's account: what it may have, and the sizes of its volumes
 abbrev pub copies_account : TenantCopies → Account
-copies_account tenant = record { share = tenant.share; most_blocks = tenant.most_blocks; volumes = map volume_size tenant.volumes }
+copies_account tenant = record { share = tenant.share; most_blocks = tenant.most_blocks; most_volumes = tenant.most_volumes; volumes = map volume_size tenant.volumes }
 
 -- the accounts of the tenants, as a desk has them
 abbrev pub store_accounts : StoreCopies → List Account
@@ -92,7 +93,7 @@ blocks_free store = store.blocks - blocks_taken store
 
 -- the tenant of the row, without volumes
 abbrev pub new_tenant : TenantRow → TenantCopies
-new_tenant row = record { share = row.share; most_blocks = row.most_blocks; volumes = [] }
+new_tenant row = record { share = row.share; most_blocks = row.most_blocks; most_volumes = row.most_volumes; volumes = [] }
 
 -- the store of a server of the plan, without volumes
 abbrev pub empty_store : CheckedPlan → StoreCopies
@@ -103,7 +104,7 @@ abbrev pub lost_volume : VolumeCopies → VolumeCopies
 lost_volume volume = record { blocks = volume.blocks; copies = map (λ copy. first_copy) volume.copies }
 
 abbrev pub lost_tenant : TenantCopies → TenantCopies
-lost_tenant tenant = record { share = tenant.share; most_blocks = tenant.most_blocks; volumes = map lost_volume tenant.volumes }
+lost_tenant tenant = record { share = tenant.share; most_blocks = tenant.most_blocks; most_volumes = tenant.most_volumes; volumes = map lost_volume tenant.volumes }
 
 abbrev pub lost_copies : StoreCopies → StoreCopies
 lost_copies store = record { blocks = store.blocks; tenants = map lost_tenant store.tenants }
@@ -117,7 +118,7 @@ volume_with volume file copy = record { blocks = volume.blocks; copies = slice_s
 
 abbrev pub tenant_with : TenantCopies → ℕ → ℕ → StoredCopy → TenantCopies
 tenant_with tenant number file copy =
-    record { share = tenant.share; most_blocks = tenant.most_blocks; volumes = slice_set tenant.volumes number (volume_with (volume_in tenant number) file copy) }
+    record { share = tenant.share; most_blocks = tenant.most_blocks; most_volumes = tenant.most_volumes; volumes = slice_set tenant.volumes number (volume_with (volume_in tenant number) file copy) }
 
 -- the tenants with another copy of one file
 abbrev pub tenants_with : List TenantCopies → FileId → StoredCopy → List TenantCopies

@@ -28,10 +28,11 @@ impl Model for Volume {
     ghost view = { λ v. record { blocks = v.blocks; copies = v.files.items } };
 }
 
-/// The volumes of a tenant in order, its share of the server's blocks, and the most blocks of its files.
+/// The volumes of a tenant in order, its share of the server's blocks, the most blocks of its files, and how many volumes it may have.
 pub(crate) struct Tenant {
     share: u32,
     most_blocks: u32,
+    most_volumes: u32,
     volumes: Vec<Volume>,
 }
 
@@ -40,7 +41,7 @@ impl Model for Tenant {
 
     ghost Value = { TenantCopies };
 
-    ghost view = { λ t. record { share = t.share; most_blocks = t.most_blocks; volumes = t.volumes.items } };
+    ghost view = { λ t. record { share = t.share; most_blocks = t.most_blocks; most_volumes = t.most_volumes; volumes = t.volumes.items } };
 }
 
 impl Volume {
@@ -146,6 +147,7 @@ impl Tenant {
         Tenant {
             share: row.share,
             most_blocks: row.most_blocks,
+            most_volumes: row.most_volumes,
             volumes: Vec::new(alloc),
         }
     }
@@ -232,6 +234,7 @@ impl Tenant {
         let Tenant {
             share: _,
             most_blocks: _,
+            most_volumes: _,
             mut volumes,
         } = self;
         while let Some(volume) = volumes.pop() {

@@ -15,7 +15,7 @@ fn plan_of_ann(rt: &impl Abort, alloc: Global) -> Plan
     ensures { result ≡ record {
       grid = record { rows = 1; cols = 1 };
       blocks = 4;
-      rows = record { name = 97 ∷ []; share = 4; sessions = 1; steps = 10; most_blocks = 16 } ∷ [];
+      rows = record { name = 97 ∷ []; share = 4; sessions = 1; steps = 10; most_blocks = 16; most_volumes = 64 } ∷ [];
     } }
 {
     let grid = Grid::new(1, 1).expect(rt, "a grid");
@@ -26,6 +26,7 @@ fn plan_of_ann(rt: &impl Abort, alloc: Global) -> Plan
         sessions: 1,
         steps: 10,
         most_blocks: 16,
+        most_volumes: 64,
     };
     Plan::check(alloc, grid, 4, &[row]).expect(rt, "a plan")
 }

@@ -17,6 +17,7 @@ fn row(rt: &impl Abort, name: &[u8], share: u32) -> TenantRow {
         sessions: 1,
         steps: 1,
         most_blocks: 16,
+        most_volumes: 64,
     }
 }
 

@@ -17,7 +17,7 @@ use std::test::Fail;
 
 // The store of a server of the plan of one tenant.
 fn store_of_ann(rt: &impl Abort, alloc: Global, blocks: u32, share: u32) -> ServerStore
-    ensures accounts { store_accounts result ≡ record { share = share; most_blocks = 16; volumes = [] } ∷ [] }
+    ensures accounts { store_accounts result ≡ record { share = share; most_blocks = 16; most_volumes = 64; volumes = [] } ∷ [] }
     ensures blocks { result.blocks ≡ blocks }
 {
     assert!(rt; 1 <= blocks && blocks <= MOST_BLOCKS);
@@ -29,6 +29,7 @@ fn store_of_ann(rt: &impl Abort, alloc: Global, blocks: u32, share: u32) -> Serv
         sessions: 1,
         steps: 10,
         most_blocks: 16,
+        most_volumes: 64,
     };
     let plan = Plan::check(alloc, grid, blocks, &[row]).expect(rt, "a plan");
     ServerStore::new(alloc, &plan).expect(rt, "memory")
@@ -49,7 +50,7 @@ const SECOND: FileId = FileId {
 // The store with one volume of two files of two blocks.
 fn store_of_two_files(rt: &impl Abort, alloc: Global) -> ServerStore
     ensures blocks { result.blocks ≡ 4 }
-    ensures accounts { store_accounts result ≡ record { share = 4; most_blocks = 16; volumes = record { files = 2; blocks = 2 } ∷ [] } ∷ [] }
+    ensures accounts { store_accounts result ≡ record { share = 4; most_blocks = 16; most_volumes = 64; volumes = record { files = 2; blocks = 2 } ∷ [] } ∷ [] }
 {
     let mut store = store_of_ann(rt, alloc, 4, 4);
     store.add_files(0, 2, 2).expect(rt, "memory");
@@ -84,7 +85,7 @@ fn copy(tag: Tag, bytes: &'static [u8]) -> StoredCopy {
 
 // The store after four puts, of which three are kept.
 fn store_after_puts(rt: &impl Abort, alloc: Global) -> ServerStore
-    ensures { store_accounts result ≡ record { share = 4; most_blocks = 16; volumes = record { files = 2; blocks = 2 } ∷ [] } ∷ [] }
+    ensures { store_accounts result ≡ record { share = 4; most_blocks = 16; most_volumes = 64; volumes = record { files = 2; blocks = 2 } ∷ [] } ∷ [] }
 {
     let mut store = store_of_two_files(rt, alloc);
     assert!(rt; store.free() == 4);

@@ -3,11 +3,11 @@ use Rattle.std.proofs.Common.{◌≡◌, ◌≢◌, ℕ, ◌+◌, ◌≤◌, Lis
 use Rattle.std.specs.Prelude.{IfSome, ◌==◌, not, nat_le, nat_lt}
 use Rattle.std.specs.List.{list_any}
 use Rattle.std.specs.Option.{option_or}
-use Rattle.gq_desk.specs.declared.limits.TheConstants.{MOST_TENANTS, MOST_FILE_BLOCKS, MOST_SESSIONS, MOST_STEPS}
+use Rattle.gq_desk.specs.declared.limits.TheConstants.{MOST_TENANTS, MOST_FILE_BLOCKS, MOST_SESSIONS, MOST_STEPS, MOST_VOLUMES}
 use Rattle.gq_desk.specs.Plans.{is_of, is_in, shares, row_fault, rows_fault, table_fault, plan_fault}
 use Rattle.gq_desk.specs.declared.plans.TenantRow.{TenantRow}
 use Rattle.gq_desk.specs.declared.plans.PlanFault.{PlanFault}
-use Rattle.gq_desk.specs.declared.plans.PlanFault.TheVariants.{TooMany, SameName, ZeroShare, Sessions, Steps, Most, NoTenant, OverBlocks, Memory}
+use Rattle.gq_desk.specs.declared.plans.PlanFault.TheVariants.{TooMany, SameName, ZeroShare, Sessions, Steps, Most, Volumes, NoTenant, OverBlocks, Memory}
 use Rattle.gq_text.specs.PlanText.{Reading, line_of_fault}
 
 -- a fact of either choice's value
@@ -30,7 +30,8 @@ row_low before row n within =
     (of_cond (row.share == 0) (Some (ZeroShare (length before))) _ (IsLow n) low
     (of_cond (not (is_in 1 MOST_SESSIONS row.sessions)) (Some (Sessions (length before))) _ (IsLow n) low
     (of_cond (not (is_in 1 MOST_STEPS row.steps)) (Some (Steps (length before))) _ (IsLow n) low
-    (of_cond (not (is_in 1 MOST_FILE_BLOCKS row.most_blocks)) (Some (Most (length before))) None (IsLow n) low tt)))))
+    (of_cond (not (is_in 1 MOST_FILE_BLOCKS row.most_blocks)) (Some (Most (length before))) _ (IsLow n) low
+    (of_cond (not (is_in 1 MOST_VOLUMES row.most_volumes)) (Some (Volumes (length before))) None (IsLow n) low tt))))))
 
 rows_low : (before rows : List TenantRow) (n : ℕ) → length before + length rows ≤ n → IfSome (rows_fault before rows) (IsLow n)
 rows_low before [] n low = tt
@@ -61,6 +62,7 @@ fault_low blocks rows (ZeroShare row) is = some_low blocks rows (ZeroShare row) 
 fault_low blocks rows (Sessions row) is = some_low blocks rows (Sessions row) (is (λ e. cc))
 fault_low blocks rows (Steps row) is = some_low blocks rows (Steps row) (is (λ e. cc))
 fault_low blocks rows (Most row) is = some_low blocks rows (Most row) (is (λ e. cc))
+fault_low blocks rows (Volumes row) is = some_low blocks rows (Volumes row) (is (λ e. cc))
 
 -- what was read, after rows that were read before
 abbrev pub with_front : List TenantRow → Reading (List TenantRow × List (List ℕ)) → Reading (List TenantRow × List (List ℕ))

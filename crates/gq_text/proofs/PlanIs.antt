@@ -11,10 +11,10 @@ use Rattle.gq_grid.specs.Grid.{Grid, is_side}
 use Rattle.gq_grid.specs.declared.GridFault.TheVariants.{Rows as RowsFault, Cols as ColsFault}
 use Rattle.gq_desk.specs.Plans.{is_of, is_in, is_named, shares, number_fault, row_fault, rows_fault, table_fault, plan_fault}
 use Rattle.gq_desk.specs.CheckedPlan.{CheckedPlan, nobody, row_at}
-use Rattle.gq_desk.specs.declared.limits.TheConstants.{MOST_TENANTS, MOST_BLOCKS, MOST_FILE_BLOCKS, MOST_SESSIONS, MOST_STEPS}
+use Rattle.gq_desk.specs.declared.limits.TheConstants.{MOST_TENANTS, MOST_BLOCKS, MOST_FILE_BLOCKS, MOST_SESSIONS, MOST_STEPS, MOST_VOLUMES}
 use Rattle.gq_desk.specs.declared.plans.TenantRow.{TenantRow}
 use Rattle.gq_desk.specs.declared.plans.PlanFault.{PlanFault}
-use Rattle.gq_desk.specs.declared.plans.PlanFault.TheVariants.{TooMany, SameName, NoTenant, OverBlocks, ZeroShare, Sessions, Steps, Most}
+use Rattle.gq_desk.specs.declared.plans.PlanFault.TheVariants.{TooMany, SameName, NoTenant, OverBlocks, ZeroShare, Sessions, Steps, Most, Volumes}
 use Rattle.gq_desk.proofs.SoundRows.{or_none, unless_none, row_numbers}
 use Rattle.gq_text.specs.declared.plan_text.TheConstants.{BLOCKS_WITHOUT_ROOM}
 use Rattle.gq_text.specs.declared.plan_text.TextFault.{TextFault}
@@ -151,7 +151,8 @@ pub record RowFits (row : TenantRow) : Type 0 where
 
 row_fits : (place : ℕ) (row : TenantRow) → number_fault place row ≡ None → RowFits row
 row_fits place row none =
-    let last : Option PlanFault = cond (not (is_in 1 MOST_FILE_BLOCKS row.most_blocks)) (Some (Most place)) None in
+    let wide : Option PlanFault = cond (not (is_in 1 MOST_VOLUMES row.most_volumes)) (Some (Volumes place)) None in
+    let last : Option PlanFault = cond (not (is_in 1 MOST_FILE_BLOCKS row.most_blocks)) (Some (Most place)) wide in
     let late : Option PlanFault = cond (not (is_in 1 MOST_STEPS row.steps)) (Some (Steps place)) last in
     let share_on = unless_none (row.share == 0) (ZeroShare place) (cond (not (is_in 1 MOST_SESSIONS row.sessions)) (Some (Sessions place)) late) none in
     let sessions = unless_none (not (is_in 1 MOST_SESSIONS row.sessions)) (Sessions place) late share_on.1 in

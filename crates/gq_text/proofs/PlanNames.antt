@@ -11,8 +11,8 @@ use Rattle.gq_desk.specs.declared.plans.PlanFault.{PlanFault}
 use Rattle.gq_desk.proofs.SoundRows.{or_none, found, row_found}
 use Rattle.gq_text.specs.Words.{Word, words_of, number_of}
 use Rattle.gq_text.specs.Input.{◌>>=◌, place_named}
-use Rattle.gq_text.specs.declared.plan_text.TheConstants.{FILE_BLOCKS_WITHOUT_ROOM}
-use Rattle.gq_text.specs.PlanText.{Reading, then_read, at_line, line_at, grid_told, blocks_told, is_room, row_from, row_told, row_then, rows_from, plan_unless, checked, plan_of}
+use Rattle.gq_text.specs.declared.plan_text.TheConstants.{FILE_BLOCKS_WITHOUT_ROOM, VOLUMES_WHERE_UNSAID}
+use Rattle.gq_text.specs.PlanText.{Reading, then_read, at_line, line_at, grid_told, blocks_told, is_room, volumes_told, row_from, row_told, row_then, rows_from, plan_unless, checked, plan_of}
 
 -- ---- the rows of lines are named
 
@@ -33,14 +33,15 @@ then_some (Some x) next y is = (x, refl, is)
 some_same : {x y : TenantRow} → Some x ≡ Some y → x ≡ y
 some_same is = cc
 
-from_named : (verb name a b c : Word) (most : Option ℕ) (row : TenantRow) → row_from verb name a b c most ≡ Some row → is_name row.name ≡ true
-from_named verb name a b c most row is =
+from_named : (verb name a b c : Word) (most volumes : Option ℕ) (row : TenantRow) → row_from verb name a b c most volumes ≡ Some row → is_name row.name ≡ true
+from_named verb name a b c most volumes row is =
     let one = if_some (bytes_eq verb (codes "tenant") && is_name name) _ row is in
     let share = then_some (number_of a) _ row one.1 in
     let sessions = then_some (number_of b) _ row share.2 in
     let steps = then_some (number_of c) _ row sessions.2 in
     let blocks = then_some most _ row steps.2 in
-    let same : name ≡ row.name = ap (λ (r : TenantRow). r.name) (some_same blocks.2) in
+    let wide = then_some volumes _ row blocks.2 in
+    let same : name ≡ row.name = ap (λ (r : TenantRow). r.name) (some_same wide.2) in
     let P : Word → Type 0 = λ n. is_name n ≡ true in
     subst P same (and_true (bytes_eq verb (codes "tenant")) (is_name name) one.0).1
 
@@ -51,7 +52,7 @@ row_named false (verb ∷ []) row is = cc
 row_named false (verb ∷ name ∷ []) row is = cc
 row_named false (verb ∷ name ∷ a ∷ []) row is = cc
 row_named false (verb ∷ name ∷ a ∷ b ∷ []) row is = cc
-row_named false (verb ∷ name ∷ a ∷ b ∷ c ∷ []) row is = from_named verb name a b c (Some FILE_BLOCKS_WITHOUT_ROOM) row is
+row_named false (verb ∷ name ∷ a ∷ b ∷ c ∷ []) row is = from_named verb name a b c (Some FILE_BLOCKS_WITHOUT_ROOM) (Some VOLUMES_WHERE_UNSAID) row is
 row_named false (verb ∷ name ∷ a ∷ b ∷ c ∷ d ∷ words) row is = cc
 row_named true [] row is = cc
 row_named true (verb ∷ []) row is = cc
@@ -59,8 +60,7 @@ row_named true (verb ∷ name ∷ []) row is = cc
 row_named true (verb ∷ name ∷ a ∷ []) row is = cc
 row_named true (verb ∷ name ∷ a ∷ b ∷ []) row is = cc
 row_named true (verb ∷ name ∷ a ∷ b ∷ c ∷ []) row is = cc
-row_named true (verb ∷ name ∷ a ∷ b ∷ c ∷ most ∷ []) row is = from_named verb name a b c (number_of most) row is
-row_named true (verb ∷ name ∷ a ∷ b ∷ c ∷ most ∷ d ∷ words) row is = cc
+row_named true (verb ∷ name ∷ a ∷ b ∷ c ∷ most ∷ words) row is = from_named verb name a b c (number_of most) (volumes_told words) row is
 
 pub ok_same : {A : Type 0} {x y : A} → ◌≡◌ {A = Reading A} (Ok x) (Ok y) → x ≡ y
 ok_same is = cc

@@ -6,22 +6,22 @@ use Rattle.std.proofs.lemmas.Bool.{and_parts, eqb-true, leb-true, le-leb}
 use Rattle.std.proofs.lemmas.List.Sums.{sum_by-cons}
 use Rattle.gq_grid.specs.declared.TheConstants.{MOST_SIDE}
 use Rattle.gq_grid.specs.Grid.{is_side}
-use Rattle.gq_desk.specs.declared.limits.TheConstants.{MOST_BLOCKS, MOST_FILE_BLOCKS, MOST_SESSIONS, MOST_STEPS}
+use Rattle.gq_desk.specs.declared.limits.TheConstants.{MOST_BLOCKS, MOST_FILE_BLOCKS, MOST_SESSIONS, MOST_STEPS, MOST_VOLUMES}
 use Rattle.gq_desk.specs.Names.{is_name}
 use Rattle.gq_desk.specs.Plans.{is_in, is_named, number_fault, shares}
 use Rattle.gq_desk.specs.CheckedPlan.{CheckedPlan}
 use Rattle.gq_desk.specs.declared.plans.TenantRow.{TenantRow}
 use Rattle.gq_desk.specs.declared.plans.PlanFault.{PlanFault}
-use Rattle.gq_desk.specs.declared.plans.PlanFault.TheVariants.{ZeroShare, Sessions, Steps, Most}
+use Rattle.gq_desk.specs.declared.plans.PlanFault.TheVariants.{ZeroShare, Sessions, Steps, Most, Volumes}
 use Rattle.gq_desk.proofs.SoundRows.{unless_none, row_numbers}
 use Rattle.gq_model.specs.declared.events.Event.{Event}
 use Rattle.gq_text.specs.Words.{Word, words_of}
 use Rattle.gq_text.specs.Lines.{lines_of}
 use Rattle.gq_text.specs.Input.{one_number_of, two_numbers_of}
-use Rattle.gq_text.specs.declared.plan_text.TheConstants.{BLOCKS_WITHOUT_ROOM, FILE_BLOCKS_WITHOUT_ROOM}
-use Rattle.gq_text.specs.PlanText.{then_read, at_line, line_at, grid_told, blocks_told, is_room, row_told, row_then, rows_from, checked, plan_of}
+use Rattle.gq_text.specs.declared.plan_text.TheConstants.{BLOCKS_WITHOUT_ROOM, FILE_BLOCKS_WITHOUT_ROOM, VOLUMES_WHERE_UNSAID}
+use Rattle.gq_text.specs.PlanText.{then_read, at_line, line_at, grid_told, blocks_told, is_room, volumes_told, row_told, row_then, rows_from, checked, plan_of}
 use Rattle.gq_text.specs.AnswerText.{spaced, line_text}
-use Rattle.gq_text.specs.Canonical.{event_line, has_few_blocks, has_room, blocks_verb, most_words, row_line, plan_text, script_text, IsScriptOf, IsNumber, IsPlan, Fits}
+use Rattle.gq_text.specs.Canonical.{event_line, is_plain_row, has_room, blocks_verb, volumes_words, most_words, row_line, plan_text, script_text, IsScriptOf, IsNumber, IsPlan, Fits}
 use Rattle.gq_text.proofs.Numbers.{numbers_read_back}
 use Rattle.gq_text.proofs.Plain.{is_plain, are_plain, decimal_plain, name_plain}
 use Rattle.gq_text.proofs.LinesBack.{words_back, line_back}
@@ -49,21 +49,25 @@ record Writes (row : TenantRow) : Type 0 where
   sessions : IsNumber row.sessions
   steps : IsNumber row.steps
   most_blocks : IsNumber row.most_blocks
+  most_volumes : IsNumber row.most_volumes
 
 row_writes : (place : ℕ) (row : TenantRow) → number_fault place row ≡ None → is_named row ≡ true → IsNumber row.share → Writes row
 row_writes place row sound named share =
-    let last : Option PlanFault = cond (not (is_in 1 MOST_FILE_BLOCKS row.most_blocks)) (Some (Most place)) None in
+    let wide : Option PlanFault = cond (not (is_in 1 MOST_VOLUMES row.most_volumes)) (Some (Volumes place)) None in
+    let last : Option PlanFault = cond (not (is_in 1 MOST_FILE_BLOCKS row.most_blocks)) (Some (Most place)) wide in
     let late : Option PlanFault = cond (not (is_in 1 MOST_STEPS row.steps)) (Some (Steps place)) last in
     let share_on = unless_none (row.share == 0) (ZeroShare place) (cond (not (is_in 1 MOST_SESSIONS row.sessions)) (Some (Sessions place)) late) sound in
     let sessions = unless_none (not (is_in 1 MOST_SESSIONS row.sessions)) (Sessions place) late share_on.1 in
     let steps = unless_none (not (is_in 1 MOST_STEPS row.steps)) (Steps place) last sessions.1 in
-    let most = unless_none (not (is_in 1 MOST_FILE_BLOCKS row.most_blocks)) (Most place) None steps.1 in
+    let most = unless_none (not (is_in 1 MOST_FILE_BLOCKS row.most_blocks)) (Most place) wide steps.1 in
+    let volumes = unless_none (not (is_in 1 MOST_VOLUMES row.most_volumes)) (Volumes place) None most.1 in
     record {
       name = named;
       share = share;
       sessions = omega (arith, small 1 MOST_SESSIONS row.sessions (not_false (is_in 1 MOST_SESSIONS row.sessions) sessions.0));
       steps = omega (arith, small 1 MOST_STEPS row.steps (not_false (is_in 1 MOST_STEPS row.steps) steps.0));
       most_blocks = omega (arith, small 1 MOST_FILE_BLOCKS row.most_blocks (not_false (is_in 1 MOST_FILE_BLOCKS row.most_blocks) most.0));
+      most_volumes = omega (arith, small 1 MOST_VOLUMES row.most_volumes (not_false (is_in 1 MOST_VOLUMES row.most_volumes) volumes.0));
     }
 
 -- the numbers of each row are in their ranges, at whatever place a fault would be told
@@ -75,22 +79,37 @@ InRange rows = (k : ℕ) (row : TenantRow) → slice_get rows k ≡ Some row →
 row_words : Bool → TenantRow → List Word
 row_words room row = row.name ∷ decimal row.share ∷ decimal row.sessions ∷ decimal row.steps ∷ most_words room row
 
+volumes_plain : (n : ℕ) → IsNumber n → are_plain (volumes_words n) ≡ true
+volumes_plain n is = by (n == VOLUMES_WHERE_UNSAID)
+  where
+    by : (b : Bool) → are_plain (cond b [] (decimal n ∷ [])) ≡ true
+    by true = refl
+    by false = rw (decimal_plain n is) refl
+
+volumes_told-words : (n : ℕ) → IsNumber n → volumes_told (volumes_words n) ≡ Some n
+unfolding one_number_of
+volumes_told-words n is = by (n == VOLUMES_WHERE_UNSAID) refl
+  where
+    by : (b : Bool) → (n == VOLUMES_WHERE_UNSAID) ≡ b → volumes_told (cond b [] (decimal n ∷ [])) ≡ Some n
+    by true same = ap Some (sym (eqb-true n VOLUMES_WHERE_UNSAID same))
+    by false other = numbers_read_back n is
+
 row_words_plain : (room : Bool) (row : TenantRow) → Writes row → are_plain (row_words room row) ≡ true
 unfolding row_words
-row_words_plain true row is = rw (name_plain row.name is.name, decimal_plain row.share is.share, decimal_plain row.sessions is.sessions, decimal_plain row.steps is.steps, decimal_plain row.most_blocks is.most_blocks) refl
+row_words_plain true row is = rw (name_plain row.name is.name, decimal_plain row.share is.share, decimal_plain row.sessions is.sessions, decimal_plain row.steps is.steps, decimal_plain row.most_blocks is.most_blocks, volumes_plain row.most_volumes is.most_volumes) refl
 row_words_plain false row is = rw (name_plain row.name is.name, decimal_plain row.share is.share, decimal_plain row.sessions is.sessions, decimal_plain row.steps is.steps) refl
 
--- without a word for its most blocks the row has those of a plan with `blocks`
+-- without words for them the row has the most blocks and the volumes of one in a plan with `blocks`
 abbrev IsToldIn : Bool → TenantRow → Type 0
 IsToldIn true row = Unit {0}
-IsToldIn false row = FILE_BLOCKS_WITHOUT_ROOM ≡ row.most_blocks
+IsToldIn false row = (FILE_BLOCKS_WITHOUT_ROOM ≡ row.most_blocks) × (VOLUMES_WHERE_UNSAID ≡ row.most_volumes)
 
 row_told-words : (room : Bool) (row : TenantRow) → Writes row → IsToldIn room row → row_told room (codes "tenant" ∷ row_words room row) ≡ Some row
 unfolding row_told row_words
-row_told-words true row is told = rw (is.name, numbers_read_back row.share is.share, numbers_read_back row.sessions is.sessions, numbers_read_back row.steps is.steps, numbers_read_back row.most_blocks is.most_blocks) refl
+row_told-words true row is told = rw (is.name, numbers_read_back row.share is.share, numbers_read_back row.sessions is.sessions, numbers_read_back row.steps is.steps, numbers_read_back row.most_blocks is.most_blocks, volumes_told-words row.most_volumes is.most_volumes) refl
 row_told-words false row is told =
     rw (is.name, numbers_read_back row.share is.share, numbers_read_back row.sessions is.sessions, numbers_read_back row.steps is.steps)
-    (ap (λ n. Some (record row { most_blocks = n })) told)
+    (λ i. Some (record row { most_blocks = told.0 i; most_volumes = told.1 i }))
 
 -- of a plan
 abbrev AreToldIn : Bool → List TenantRow → Type 0
@@ -101,11 +120,12 @@ all_told : (rows : List TenantRow) → AreToldIn true rows
 all_told [] = tt
 all_told (row ∷ rows) = (tt, all_told rows)
 
-few_told : (rows : List TenantRow) → list_all has_few_blocks rows ≡ true → AreToldIn false rows
+few_told : (rows : List TenantRow) → list_all is_plain_row rows ≡ true → AreToldIn false rows
 few_told [] few = tt
 few_told (row ∷ rows) few =
-    let parts = and_parts (has_few_blocks row) (list_all has_few_blocks rows) few in
-    (sym (eqb-true row.most_blocks FILE_BLOCKS_WITHOUT_ROOM parts.0), few_told rows parts.1)
+    let parts = and_parts (is_plain_row row) (list_all is_plain_row rows) few in
+    let numbers = and_parts (row.most_blocks == FILE_BLOCKS_WITHOUT_ROOM) (row.most_volumes == VOLUMES_WHERE_UNSAID) parts.0 in
+    ((sym (eqb-true row.most_blocks FILE_BLOCKS_WITHOUT_ROOM numbers.0), sym (eqb-true row.most_volumes VOLUMES_WHERE_UNSAID numbers.1)), few_told rows parts.1)
 
 -- what the lines of rows, of `go` and of a rest tell
 rows_back : (room : Bool) (n : ℕ) (rows : List TenantRow) (rest : List ℕ) → AreToldIn room rows → InRange rows → list_all is_named rows ≡ true → shares rows ≤ MOST_BLOCKS
@@ -182,7 +202,7 @@ plan_parts plan rest = four (line_text (codes "grid") (decimal plan.grid.rows �
 
 -- the form of the canonical text has words for all that the plan says
 room_says : (plan : CheckedPlan) → IsPlan plan → FitsVerb (has_room plan) plan.blocks × AreToldIn (has_room plan) plan.rows
-room_says plan is = by (nat_le plan.blocks BLOCKS_WITHOUT_ROOM) refl (list_all has_few_blocks plan.rows) refl
+room_says plan is = by (nat_le plan.blocks BLOCKS_WITHOUT_ROOM) refl (list_all is_plain_row plan.rows) refl
   where
     least : nat_le 1 plan.blocks ≡ true
     least = le-leb 1 plan.blocks is.sound.least
@@ -190,7 +210,7 @@ room_says plan is = by (nat_le plan.blocks BLOCKS_WITHOUT_ROOM) refl (list_all h
     all : (FitsVerb true plan.blocks) × AreToldIn true plan.rows
     all = (rw (least, le-leb plan.blocks MOST_BLOCKS is.sound.bound) refl, all_told plan.rows)
 
-    by : (a : Bool) → nat_le plan.blocks BLOCKS_WITHOUT_ROOM ≡ a → (b : Bool) → list_all has_few_blocks plan.rows ≡ b → FitsVerb (not (a && b)) plan.blocks × AreToldIn (not (a && b)) plan.rows
+    by : (a : Bool) → nat_le plan.blocks BLOCKS_WITHOUT_ROOM ≡ a → (b : Bool) → list_all is_plain_row plan.rows ≡ b → FitsVerb (not (a && b)) plan.blocks × AreToldIn (not (a && b)) plan.rows
     by true few true rows = (rw (least, few) refl, few_told plan.rows rows)
     by true few false rows = all
     by false many b rows = all

@@ -1,5 +1,5 @@
 -- The canonical script of a plan and events, and what reading it gives.
-use Rattle.std.specs.Prelude.{◌≡◌, ℕ, ◌<◌, ◌^◌, List, [], ◌∷◌, ◌++◌, Ok, Bool, true, false, not, ◌&&◌, ◌==◌, nat_le, codes, decimal, map, length}
+use Rattle.std.specs.Prelude.{◌≡◌, ℕ, ◌<◌, ◌^◌, List, [], ◌∷◌, ◌++◌, Ok, Bool, true, false, not, ◌&&◌, ◌==◌, if◌then◌else◌, nat_le, codes, decimal, map, length}
 use Rattle.std.specs.List.{flat_map, list_all}
 use Rattle.hex.specs.Hex.{IsBytes}
 use Rattle.gq_grid.specs.Grid.{is_side}
@@ -12,7 +12,7 @@ use Rattle.gq_model.specs.declared.events.Line.{Line}
 use Rattle.gq_model.specs.declared.events.Line.TheVariants.{Bad, Quorum, NewVolume, Volumes, Write, Read, List as ListFiles, Deliver, Lose, Retry, Abandon}
 use Rattle.gq_model.specs.declared.events.ServerLine.{ServerLine}
 use Rattle.gq_model.specs.declared.events.ServerLine.TheVariants.{Bad as ServerBad, Down, Up, Lost as ServerLost, Repaired as ServerRepaired}
-use Rattle.gq_text.specs.declared.plan_text.TheConstants.{BLOCKS_WITHOUT_ROOM, FILE_BLOCKS_WITHOUT_ROOM}
+use Rattle.gq_text.specs.declared.plan_text.TheConstants.{BLOCKS_WITHOUT_ROOM, FILE_BLOCKS_WITHOUT_ROOM, VOLUMES_WHERE_UNSAID}
 use Rattle.gq_text.specs.Words.{Word}
 use Rattle.gq_text.specs.Lines.{lines_of}
 use Rattle.gq_text.specs.Input.{event_of}
@@ -47,23 +47,27 @@ event_line plan (Tenant tenant line) = line_text (row_at plan tenant).name (line
 event_line plan (Server line) = line_text (codes "server") (server_line_words line)
 event_line plan Stray = line_text [] []
 
--- the row's files have the most blocks that they have in a plan with `blocks`
-abbrev pub has_few_blocks : TenantRow → Bool
-has_few_blocks row = row.most_blocks == FILE_BLOCKS_WITHOUT_ROOM
+-- the row says no more than one in a plan with `blocks`
+abbrev pub is_plain_row : TenantRow → Bool
+is_plain_row row = row.most_blocks == FILE_BLOCKS_WITHOUT_ROOM && row.most_volumes == VOLUMES_WHERE_UNSAID
 
--- whether the text of the plan is one with `room`: a server has more blocks than one with `blocks` may say, or a row other
--- files
+-- whether the text of the plan is one with `room`: a server has more blocks than one with `blocks` may say, or a row says
+-- more
 abbrev pub has_room : CheckedPlan → Bool
-has_room plan = not (nat_le plan.blocks BLOCKS_WITHOUT_ROOM && list_all has_few_blocks plan.rows)
+has_room plan = not (nat_le plan.blocks BLOCKS_WITHOUT_ROOM && list_all is_plain_row plan.rows)
 
 -- the word before the blocks of a server
 abbrev pub blocks_verb : (room : Bool) → Word
 blocks_verb true = codes "room"
 blocks_verb false = codes "blocks"
 
--- the words of a row's most blocks of a file
+-- the word of how many volumes a row may open, where it has to be said
+abbrev pub volumes_words : ℕ → List Word
+volumes_words n = if n == VOLUMES_WHERE_UNSAID then [] else decimal n ∷ []
+
+-- the words of a row's most blocks of a file, and of its volumes
 abbrev pub most_words : (room : Bool) → TenantRow → List Word
-most_words true row = decimal row.most_blocks ∷ []
+most_words true row = decimal row.most_blocks ∷ volumes_words row.most_volumes
 most_words false row = []
 
 -- the line of a tenant's row

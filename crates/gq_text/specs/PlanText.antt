@@ -9,8 +9,8 @@ use Rattle.gq_desk.specs.Plans.{is_in, plan_fault}
 use Rattle.gq_desk.specs.CheckedPlan.{CheckedPlan}
 use Rattle.gq_desk.specs.declared.plans.TenantRow.{TenantRow}
 use Rattle.gq_desk.specs.declared.plans.PlanFault.{PlanFault}
-use Rattle.gq_desk.specs.declared.plans.PlanFault.TheVariants.{TooMany, SameName, ZeroShare, Sessions, Steps, Most, NoTenant, OverBlocks, Memory as NoMemory}
-use Rattle.gq_text.specs.declared.plan_text.TheConstants.{BLOCKS_WITHOUT_ROOM, FILE_BLOCKS_WITHOUT_ROOM}
+use Rattle.gq_desk.specs.declared.plans.PlanFault.TheVariants.{TooMany, SameName, ZeroShare, Sessions, Steps, Most, Volumes, NoTenant, OverBlocks, Memory as NoMemory}
+use Rattle.gq_text.specs.declared.plan_text.TheConstants.{BLOCKS_WITHOUT_ROOM, FILE_BLOCKS_WITHOUT_ROOM, VOLUMES_WHERE_UNSAID}
 use Rattle.gq_text.specs.declared.plan_text.TextFault.{TextFault}
 use Rattle.gq_text.specs.declared.plan_text.TextFault.TheVariants.{Form, End, Grid as GridFault, Blocks, Check}
 use Rattle.gq_text.specs.declared.plan_text.PlanText.{PlanText}
@@ -64,23 +64,29 @@ blocks_told (verb ∷ words) =
     else if bytes_eq verb (codes "room") then blocks_from MOST_BLOCKS (one_number_of words)
     else Err Form
 
--- whether a line is one of `room`, behind which each row says the most blocks of its files
+-- whether a line is one of `room`, behind which each row says the most blocks of its files, and may say how many volumes it may open
 unfoldable pub is_room : List Word → Bool
 is_room [] = false
 is_room (verb ∷ words) = bytes_eq verb (codes "room")
 
--- the row of these words, whose files have at most so many blocks
-abbrev pub row_from : (verb name a b c : Word) → Option ℕ → Option TenantRow
-row_from verb name a b c most =
+-- how many volumes a row may open that ends with these words, behind MOST
+abbrev pub volumes_told : List Word → Option ℕ
+volumes_told [] = Some VOLUMES_WHERE_UNSAID
+volumes_told (word ∷ words) = one_number_of (word ∷ words)
+
+-- the row of these words, whose files have at most so many blocks, and which may open so many volumes
+abbrev pub row_from : (verb name a b c : Word) → (most volumes : Option ℕ) → Option TenantRow
+row_from verb name a b c most volumes =
     if bytes_eq verb (codes "tenant") && is_name name then
-    number_of a >>= (λ share. number_of b >>= (λ sessions. number_of c >>= (λ steps. most >>= (λ most_blocks.
-    Some (record { name = name; share = share; sessions = sessions; steps = steps; most_blocks = most_blocks })))))
+    number_of a >>= (λ share. number_of b >>= (λ sessions. number_of c >>= (λ steps. most >>= (λ most_blocks. volumes >>= (λ most_volumes.
+    Some (record { name = name; share = share; sessions = sessions; steps = steps; most_blocks = most_blocks; most_volumes = most_volumes }))))))
     else None
 
--- the row of a line `tenant NAME SHARE SESSIONS STEPS`, or in a plan with room of a line `tenant NAME SHARE SESSIONS STEPS MOST`
+-- the row of a line `tenant NAME SHARE SESSIONS STEPS`, or in a plan with room of a line `tenant NAME SHARE SESSIONS STEPS MOST` or
+-- `tenant NAME SHARE SESSIONS STEPS MOST VOLUMES`
 unfoldable pub row_told : (room : Bool) → List Word → Option TenantRow
-row_told false (verb ∷ name ∷ a ∷ b ∷ c ∷ []) = row_from verb name a b c (Some FILE_BLOCKS_WITHOUT_ROOM)
-row_told true (verb ∷ name ∷ a ∷ b ∷ c ∷ most ∷ []) = row_from verb name a b c (number_of most)
+row_told false (verb ∷ name ∷ a ∷ b ∷ c ∷ []) = row_from verb name a b c (Some FILE_BLOCKS_WITHOUT_ROOM) (Some VOLUMES_WHERE_UNSAID)
+row_told true (verb ∷ name ∷ a ∷ b ∷ c ∷ most ∷ words) = row_from verb name a b c (number_of most) (volumes_told words)
 row_told room _ = None
 
 -- a row before the others, or the fault of its line, which has number n
@@ -102,6 +108,7 @@ line_of_fault rows (ZeroShare row) = 3 + row
 line_of_fault rows (Sessions row) = 3 + row
 line_of_fault rows (Steps row) = 3 + row
 line_of_fault rows (Most row) = 3 + row
+line_of_fault rows (Volumes row) = 3 + row
 line_of_fault rows NoTenant = 3 + rows
 line_of_fault rows (OverBlocks sum blocks) = 3 + rows
 line_of_fault rows (NoMemory _) = 3 + rows

@@ -8,10 +8,10 @@ ghost use Rattle.gq_model.specs.Events.{IsIn};
 ghost use Rattle.gq_model.specs.declared.events.Line.TheVariants.{Write};
 ghost use Rattle.gq_text.specs.AnswerText.{line_text};
 ghost use Rattle.gq_text.specs.Pieces.{words_in, Extends};
-ghost use Rattle.gq_text.specs.Canonical.{line_words, server_line_words, event_line, has_few_blocks, has_room, row_line, head_text, plan_text, script_text, IsPlan, FitsLine, FitsServerLine, Fits, IsScriptOf};
+ghost use Rattle.gq_text.specs.Canonical.{line_words, server_line_words, event_line, is_plain_row, has_room, row_line, head_text, plan_text, script_text, IsPlan, FitsLine, FitsServerLine, Fits, IsScriptOf};
 
 use crate::pieces::{Piece, put_words};
-use crate::plan_text::{BLOCKS_WITHOUT_ROOM, FILE_BLOCKS_WITHOUT_ROOM};
+use crate::plan_text::{BLOCKS_WITHOUT_ROOM, FILE_BLOCKS_WITHOUT_ROOM, VOLUMES_WHERE_UNSAID};
 use gq_desk::{Plan, TenantRow};
 use gq_memory::{GrowCopies, OutOfMemory};
 use gq_model::{Event, Line, ServerLine};
@@ -26,19 +26,20 @@ fn put_line(out: &mut Vec<u8>, first: &[u8], words: &[Piece]) -> Result<(), OutO
     put_words(out, words)
 }
 
-// Whether the files of each row have the most blocks that they have in a plan with `blocks`.
-fn have_few_blocks(rows: &[TenantRow]) -> bool
-    ensures { result ≡ list_all has_few_blocks rows.now }
+// Whether each row says no more than one in a plan with `blocks`.
+fn are_plain_rows(rows: &[TenantRow]) -> bool
+    ensures { result ≡ list_all is_plain_row rows.now }
 {
-    rows.iter()
-        .all(|row| row.most_blocks == FILE_BLOCKS_WITHOUT_ROOM)
+    rows.iter().all(|row| {
+        row.most_blocks == FILE_BLOCKS_WITHOUT_ROOM && row.most_volumes == VOLUMES_WHERE_UNSAID
+    })
 }
 
 // Whether the text of the plan is one with `room`.
 fn has_room(plan: &Plan) -> bool
     ensures { result ≡ has_room plan.now }
 {
-    plan.blocks() > BLOCKS_WITHOUT_ROOM || !have_few_blocks(plan.rows())
+    plan.blocks() > BLOCKS_WITHOUT_ROOM || !are_plain_rows(plan.rows())
 }
 
 // Appends the line of a tenant's row.
@@ -54,7 +55,15 @@ fn put_row(out: &mut Vec<u8>, room: bool, row: &TenantRow) -> Result<(), OutOfMe
         return put_line(out, b"tenant", &[name, share, sessions, steps]);
     }
     let most_blocks = Piece::Number(u64::from(row.most_blocks));
-    put_line(out, b"tenant", &[name, share, sessions, steps, most_blocks])
+    if row.most_volumes == VOLUMES_WHERE_UNSAID {
+        return put_line(out, b"tenant", &[name, share, sessions, steps, most_blocks]);
+    }
+    let most_volumes = Piece::Number(u64::from(row.most_volumes));
+    put_line(
+        out,
+        b"tenant",
+        &[name, share, sessions, steps, most_blocks, most_volumes],
+    )
 }
 
 // Appends the lines of rows.

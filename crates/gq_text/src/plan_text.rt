@@ -1,7 +1,7 @@
 //! The plan at the head of an input.
 
 ghost use Rattle.std.specs.Prelude.{◌≡◌, ℕ, ◌∷◌, ◌<◌, ◌≤◌, ◌^◌, length, IfOk, IfErr, Ok, drop};
-ghost use Rattle.gq_text.specs.Words.{words_of};
+ghost use Rattle.gq_text.specs.Words.{words_of, words_after};
 ghost use Rattle.gq_text.specs.Lines.{lines_of, IsRest};
 
 use crate::input::{one_number, two_numbers};
@@ -18,6 +18,9 @@ pub const BLOCKS_WITHOUT_ROOM: u32 = 4_096;
 
 /// The most blocks of a file in a plan with `blocks`, where the rows of one with `room` say them.
 pub const FILE_BLOCKS_WITHOUT_ROOM: u32 = 16;
+
+/// The most volumes of a tenant whose row does not say them.
+pub const VOLUMES_WHERE_UNSAID: u32 = 64;
 
 /// What is wrong with a line of a plan.
 #[derive(Debug, Drop, Error)]
@@ -51,7 +54,7 @@ pub enum PlanText {
     Memory(OutOfMemory),
 }
 
-ghost use Rattle.gq_text.specs.PlanText.{grid_told, blocks_told, is_room, row_from, line_at, at_line, row_told, rows_from, line_of_fault, checked, plan_of, IsFaultOf};
+ghost use Rattle.gq_text.specs.PlanText.{grid_told, blocks_told, is_room, volumes_told, row_from, line_at, at_line, row_told, rows_from, line_of_fault, checked, plan_of, IsFaultOf};
 
 // Line `number` of an input, and the text after it.
 fn line_at(number: u64, text: &[u8]) -> Result<(&[u8], &[u8]), PlanText>
@@ -119,7 +122,7 @@ fn blocks_told(line: &[u8]) -> Result<u32, TextFault>
     Ok(blocks)
 }
 
-/// Whether a line is one of `room`, behind which each row says the most blocks of its files.
+/// Whether a line is one of `room`, behind which each row says the most blocks of its files, and may say how many volumes it may open.
 #[tactic(auto, unfolding(crate::specs::PlanText::is_room))]
 pub fn is_room(line: &[u8]) -> bool
     ensures { result ≡ is_room (words_of line.now) }
@@ -128,7 +131,7 @@ pub fn is_room(line: &[u8]) -> bool
     verb == b"room".as_slice()
 }
 
-// The row of these words, whose files have at most so many blocks.
+// The row of these words, whose files have at most so many blocks, and which may open so many volumes.
 fn row_from(
     verb: &[u8],
     name: &[u8],
@@ -136,8 +139,9 @@ fn row_from(
     sessions: &[u8],
     steps: &[u8],
     most_blocks: Option<u32>,
+    most_volumes: Option<u32>,
 ) -> Option<TenantRow>
-    ensures { result ≡ row_from verb.now name.now share.now sessions.now steps.now most_blocks }
+    ensures { result ≡ row_from verb.now name.now share.now sessions.now steps.now most_blocks most_volumes }
 {
     if verb != b"tenant".as_slice() {
         return None;
@@ -148,10 +152,22 @@ fn row_from(
         sessions: number(sessions)?,
         steps: number(steps)?,
         most_blocks: most_blocks?,
+        most_volumes: most_volumes?,
     })
 }
 
-/// The row of a line `tenant NAME SHARE SESSIONS STEPS`, or in a plan with room of `tenant NAME SHARE SESSIONS STEPS MOST`.
+// How many volumes a row may open that ends so, behind MOST.
+fn volumes_told(text: &[u8]) -> Option<u32>
+    ensures { result ≡ volumes_told (words_after text.now) }
+{
+    if is_end(text) {
+        return Some(VOLUMES_WHERE_UNSAID);
+    }
+    one_number(text)
+}
+
+/// The row of a line `tenant NAME SHARE SESSIONS STEPS`, or in a plan with room of `tenant NAME SHARE SESSIONS STEPS MOST`
+/// or `tenant NAME SHARE SESSIONS STEPS MOST VOLUMES`.
 #[tactic(auto, unfolding(crate::specs::PlanText::row_told))]
 pub fn row_told(room: bool, line: &[u8]) -> Option<TenantRow>
     ensures { result ≡ row_told room (words_of line.now) }
@@ -163,10 +179,8 @@ pub fn row_told(room: bool, line: &[u8]) -> Option<TenantRow>
     let (steps, rest) = next_word(rest)?;
     if room {
         let (most, rest) = next_word(rest)?;
-        if !is_end(rest) {
-            return None;
-        }
-        return row_from(verb, name, share, sessions, steps, number(most));
+        let volumes = volumes_told(rest);
+        return row_from(verb, name, share, sessions, steps, number(most), volumes);
     }
     if !is_end(rest) {
         return None;
@@ -178,6 +192,7 @@ pub fn row_told(room: bool, line: &[u8]) -> Option<TenantRow>
         sessions,
         steps,
         Some(FILE_BLOCKS_WITHOUT_ROOM),
+        Some(VOLUMES_WHERE_UNSAID),
     )
 }
 
@@ -226,7 +241,8 @@ fn line_of_fault(rows: usize, fault: &PlanFault) -> u64
         | PlanFault::ZeroShare { row }
         | PlanFault::Sessions { row }
         | PlanFault::Steps { row }
-        | PlanFault::Most { row } => 3 + *row as u64,
+        | PlanFault::Most { row }
+        | PlanFault::Volumes { row } => 3 + *row as u64,
         PlanFault::NoTenant | PlanFault::OverBlocks { .. } | PlanFault::Memory(_) => 3
             + rows as u64,
     }

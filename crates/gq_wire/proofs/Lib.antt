@@ -7,3 +7,4 @@ pub mod RequestsBack
 pub mod Arriving
 pub mod Others
 pub mod Reading
+pub mod Runs

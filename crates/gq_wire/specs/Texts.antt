@@ -1,5 +1,5 @@
 -- The lines that a node writes.
-use Rattle.std.specs.Prelude.{ℕ, List, [], ◌∷◌, ◌++◌, codes, decimal, length, map, slice_index_or}
+use Rattle.std.specs.Prelude.{ℕ, List, [], ◌∷◌, ◌++◌, ◌+◌, ◌==◌, ◌&&◌, Bool, nat_le, if◌then◌else◌, codes, decimal, length, map, slice_index_or}
 use Rattle.gq_tag.specs.declared.FileId.{FileId}
 use Rattle.gq_tag.specs.declared.StoredCopy.{StoredCopy}
 use Rattle.gq_tag.specs.declared.Body.{Body}
@@ -13,6 +13,7 @@ use Rattle.gq_model.specs.declared.events.Refusal.{Refusal}
 use Rattle.gq_model.specs.declared.events.Refusal.TheVariants.{NoVolume, NoFile, TooLong}
 use Rattle.gq_text.specs.Words.{Word}
 use Rattle.gq_text.specs.AnswerText.{bytes_word, outcome_words, refusal_words, line_text}
+use Rattle.gq_wire.specs.declared.answers.TheConstants.{VOLUMES_ONE_BY_ONE}
 use Rattle.gq_node.specs.declared.output.Answer.{Answer}
 use Rattle.gq_node.specs.declared.output.Holding.{Holding}
 use Rattle.gq_node.specs.declared.output.Transfer.{Transfer}
@@ -112,9 +113,31 @@ last_words session op last = decimal session ∷ decimal op ∷ decimal last ∷
 abbrev pub volume_word : VolumeRow → Word
 volume_word volume = decimal volume.files ++ codes "." ++ decimal volume.blocks
 
+-- several that are alike, one after another: these, and how many
+abbrev pub run_word : VolumeRow → (times : ℕ) → Word
+run_word volume times = volume_word volume ++ codes "." ++ decimal times
+
+abbrev pub are_alike : VolumeRow → VolumeRow → Bool
+are_alike a b = a.files == b.files && a.blocks == b.blocks
+
+-- the runs of volumes, behind so many of the first
+abbrev pub runs_behind : VolumeRow → (times : ℕ) → List VolumeRow → List Word
+runs_behind volume times [] = run_word volume times ∷ []
+runs_behind volume times (next ∷ volumes) =
+    if are_alike next volume then runs_behind volume (times + 1) volumes
+    else run_word volume times ∷ runs_behind next 1 volumes
+
+abbrev pub run_words : List VolumeRow → List Word
+run_words [] = []
+run_words (volume ∷ volumes) = runs_behind volume 1 volumes
+
+-- the volumes that are open: where they are many, by runs
+abbrev pub volumes_words : List VolumeRow → List Word
+volumes_words volumes = if nat_le (length volumes) VOLUMES_ONE_BY_ONE then map volume_word volumes else run_words volumes
+
 abbrev pub holding_words : Holding → List Word
 holding_words has =
-    decimal has.servers ∷ decimal has.home ∷ decimal has.sessions ∷ decimal has.share ∷ decimal has.most_blocks ∷ map volume_word has.volumes ++ map decimal has.nodes
+    decimal has.servers ∷ decimal has.home ∷ decimal has.sessions ∷ decimal has.share ∷ decimal has.most_blocks ∷ volumes_words has.volumes ++ map decimal has.nodes
 
 -- ---- what a tenant is told
 

@@ -5,7 +5,7 @@ ghost use Rattle.std.specs.List.{flat_map};
 ghost use Rattle.gq_desk.specs.CheckedPlan.{row_at};
 ghost use Rattle.gq_text.specs.AnswerText.{line_text, spaced, ended, outcome_words};
 ghost use Rattle.gq_text.specs.Pieces.{words_in, Extends};
-ghost use Rattle.gq_wire.specs.Texts.{volume_in, file_in, length_in, word_of, refusal_words_of, volume_word, holding_words, told_words, told_line};
+ghost use Rattle.gq_wire.specs.Texts.{volume_in, file_in, length_in, word_of, refusal_words_of, volume_word, are_alike, run_word, runs_behind, run_words, volumes_words, holding_words, told_words, told_line};
 
 use gq_desk::{Plan, VolumeRow};
 use gq_memory::{GrowCopies, GrowVec, OutOfMemory};
@@ -13,6 +13,9 @@ use gq_model::{Line, Refusal};
 use gq_node::{Answer, Holding};
 use gq_phase::Outcome;
 use gq_text::{Piece, put_done, put_number, put_words};
+
+/// The most open volumes of a tenant that are told one by one. Where there are more, those that are alike, one after another, are told at once.
+pub const VOLUMES_ONE_BY_ONE: usize = 64;
 
 // The volume that the request names.
 fn volume_in(line: &Line) -> u32
@@ -228,6 +231,68 @@ fn put_volumes(out: &mut Vec<u8>, volumes: &[VolumeRow]) -> Result<(), OutOfMemo
     Ok(())
 }
 
+// Appends a run of volumes that are alike.
+fn put_run(out: &mut Vec<u8>, volume: &VolumeRow, times: usize) -> Result<(), OutOfMemory>
+    ensures ok { OnOk result (out.new.items ≡ out.old.items ++ 32 ∷ run_word volume.now times) }
+    ensures err { OnErr result (Extends out.old.items out.new.items) }
+{
+    put_volume(out, volume)?;
+    out.grow(b'.')?;
+    put_number(out, times as u64)
+}
+
+fn are_alike(a: &VolumeRow, b: &VolumeRow) -> bool
+    ensures { result ≡ are_alike a.now b.now }
+{
+    a.files == b.files && a.blocks == b.blocks
+}
+
+// Appends the first volume and those behind it by runs.
+fn put_runs_from(
+    out: &mut Vec<u8>,
+    first: &VolumeRow,
+    volumes: &[VolumeRow],
+) -> Result<(), OutOfMemory>
+    ensures ok { OnOk result (out.new.items ≡ out.old.items ++ spaced (runs_behind first.now 1 volumes.now)) }
+    ensures err { OnErr result (Extends out.old.items out.new.items) }
+{
+    let mut run = *first;
+    let mut times = 1usize;
+    for volume in volumes {
+        if are_alike(volume, &run) {
+            times += 1;
+        } else {
+            put_run(out, &run, times)?;
+            run = *volume;
+            times = 1;
+        }
+    }
+    put_run(out, &run, times)
+}
+
+// Appends volumes by runs.
+fn put_runs(out: &mut Vec<u8>, volumes: &[VolumeRow]) -> Result<(), OutOfMemory>
+    ensures ok { OnOk result (out.new.items ≡ out.old.items ++ spaced (run_words volumes.now)) }
+    ensures err { OnErr result (Extends out.old.items out.new.items) }
+{
+    match volumes {
+        [] => Ok(()),
+        [first, rest @ ..] => put_runs_from(out, first, rest),
+    }
+}
+
+// Appends the volumes that are open.
+fn put_open_volumes(out: &mut Vec<u8>, volumes: &[VolumeRow]) -> Result<(), OutOfMemory>
+    ensures ok { OnOk result (out.new.items ≡ out.old.items ++ spaced (volumes_words volumes.now)) }
+    ensures err { OnErr result (Extends out.old.items out.new.items) }
+{
+    if volumes.len() <= VOLUMES_ONE_BY_ONE {
+        put_volumes(out, volumes)
+    } else {
+        put_runs(out, volumes)
+    }
+}
+
 // Appends a number after a space.
 fn put_spaced(out: &mut Vec<u8>, n: u64) -> Result<(), OutOfMemory>
     ensures ok { OnOk result (out.new.items ≡ out.old.items ++ 32 ∷ decimal n) }
@@ -273,7 +338,7 @@ fn put_holding(out: &mut Vec<u8>, holding: &Holding) -> Result<(), OutOfMemory>
         u64::from(holding.most_blocks),
     ];
     put_numbers(out, &numbers)?;
-    put_volumes(out, holding.volumes.items.as_slice())?;
+    put_open_volumes(out, holding.volumes.items.as_slice())?;
     put_nodes(out, holding.nodes.items.as_slice())?;
     out.grow(b'\n')
 }

@@ -113,8 +113,9 @@ The input is a plan, and after its line `go` the lines of tenants and servers:
     server N lost                       server N stops, and its disk is lost; operations that count on it are given up
     server N repaired                   server N, which was lost, returns with the copies of another of its column
 
-A plan with `room BLOCKS` in place of `blocks BLOCKS` has up to 67108864 blocks on each server, and a fifth word in each of its
-lines `tenant`: MOST, the most blocks of a file of that tenant, 1 to 16384, in place of 16.
+A plan with `room BLOCKS` in place of `blocks BLOCKS` has up to 4294967295 blocks on each server, and a fifth word in each of its
+lines `tenant`: MOST, the most blocks of a file of that tenant, 1 to 16384, in place of 16. A sixth may say how many volumes it may
+open, VOLUMES, 1 to 65536, in place of 64.
 
 Words are separated by one space. NAME is 1 to 16 letters a to z, and not `server`. HEX is two hexadecimal digits for each
 byte, or `-` for the empty content, or `=` and the bytes themselves (docs/FORMATS.md, Contents in bytes). The other words in

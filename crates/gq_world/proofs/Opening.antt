@@ -8,7 +8,6 @@ use Rattle.std.proofs.lemmas.List.{get_or-set_same, get_or-set_other}
 use Rattle.gq_tag.specs.Tag.{file_of, message_of}
 use Rattle.gq_desk.specs.CheckedPlan.{row_at}
 use Rattle.gq_desk.specs.declared.volumes.VolumeRow.{VolumeRow}
-use Rattle.gq_desk.specs.declared.limits.TheConstants.{MOST_VOLUMES}
 use Rattle.gq_desk.specs.Volumes.{OpenFault, Account, no_account, account_at, with_volume, open_fault, is_sized, blocks_of, free_of}
 use Rattle.gq_store.specs.Copies.{StoreCopies, store_accounts, tenant_account}
 use Rattle.gq_model.specs.declared.events.Line.TheVariants.{NewVolume}
@@ -131,7 +130,7 @@ refused_acts w t files blocks word is = record {
 fits_free : (a : Account) (v : VolumeRow) → open_fault a v ≡ None → blocks_of v ≤ free_of a
 fits_free a v is = elim (cases_Bool (is_sized a.most_blocks v)) [
   | inr not_sized ↦ (let h = rw not_sized at is in absurd (cc))
-  | inl sized ↦ (elim (cases_Bool (nat_le MOST_VOLUMES (length a.volumes))) [
+  | inl sized ↦ (elim (cases_Bool (nat_le a.most_volumes (length a.volumes))) [
     | inl many ↦ (let h = rw (sized, many) at is in absurd (cc))
     | inr few ↦ (elim (cases_Bool (nat_lt (free_of a) (blocks_of v))) [
       | inl short ↦ (let h = rw (sized, few, short) at is in absurd (cc))

@@ -89,6 +89,7 @@ fn grid() -> Result<Grid, Fault> {
 fn row() -> Result<TenantRow, Fault>
     ensures share { IfOk result (λ row. row.share ≡ 8) }
     ensures most { IfOk result (λ row. row.most_blocks ≡ 16) }
+    ensures volumes { IfOk result (λ row. row.most_volumes ≡ 64) }
 {
     let Some(name) = Name::new(b"ann") else {
         return Err(Fault::Usage);
@@ -99,6 +100,7 @@ fn row() -> Result<TenantRow, Fault>
         sessions: 2,
         steps: 9,
         most_blocks: 16,
+        most_volumes: 64,
     })
 }
 
@@ -187,14 +189,14 @@ fn store_of(alloc: Global, plan: &Plan, out: &mut Vec<u8>) -> Result<ServerStore
 }
 
 fn new_store(alloc: Global, out: &mut Vec<u8>) -> Result<ServerStore, Fault>
-    ensures { IfOk result (λ store. store_accounts store ≡ record { share = 8; most_blocks = 16; volumes = [] } ∷ []) }
+    ensures { IfOk result (λ store. store_accounts store ≡ record { share = 8; most_blocks = 16; most_volumes = 64; volumes = [] } ∷ []) }
 {
     store_of(alloc, &plan(alloc, row()?, out)?, out)
 }
 
 fn add_two_files(store: &mut ServerStore, out: &mut Vec<u8>) -> Result<(), Fault>
-    requires { store_accounts store.old ≡ record { share = 8; most_blocks = 16; volumes = [] } ∷ [] }
-    ensures { OnOk result (store_accounts store.new ≡ record { share = 8; most_blocks = 16; volumes = record { files = 2; blocks = 2 } ∷ [] } ∷ []) }
+    requires { store_accounts store.old ≡ record { share = 8; most_blocks = 16; most_volumes = 64; volumes = [] } ∷ [] }
+    ensures { OnOk result (store_accounts store.new ≡ record { share = 8; most_blocks = 16; most_volumes = 64; volumes = record { files = 2; blocks = 2 } ∷ [] } ∷ []) }
 {
     retry!(
         out,
@@ -206,7 +208,7 @@ fn add_two_files(store: &mut ServerStore, out: &mut Vec<u8>) -> Result<(), Fault
 }
 
 fn store_of_two_files(alloc: Global, out: &mut Vec<u8>) -> Result<ServerStore, Fault>
-    ensures { IfOk result (λ store. store_accounts store ≡ record { share = 8; most_blocks = 16; volumes = record { files = 2; blocks = 2 } ∷ [] } ∷ []) }
+    ensures { IfOk result (λ store. store_accounts store ≡ record { share = 8; most_blocks = 16; most_volumes = 64; volumes = record { files = 2; blocks = 2 } ∷ [] } ∷ []) }
 {
     let mut store = new_store(alloc, out)?;
     add_two_files(&mut store, out)?;

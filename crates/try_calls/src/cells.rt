@@ -37,7 +37,7 @@ fn plan(alloc: Global) -> Result<Plan, Fault>
     ensures { IfOk result (λ plan. plan ≡ record {
       grid = record { rows = 1; cols = 1 };
       blocks = 4;
-      rows = record { name = 97 ∷ []; share = 4; sessions = 1; steps = 10; most_blocks = 16 } ∷ [];
+      rows = record { name = 97 ∷ []; share = 4; sessions = 1; steps = 10; most_blocks = 16; most_volumes = 64 } ∷ [];
     }) }
 {
     let Some(name) = Name::new(b"a") else {
@@ -49,6 +49,7 @@ fn plan(alloc: Global) -> Result<Plan, Fault>
         sessions: 1,
         steps: 10,
         most_blocks: 16,
+        most_volumes: 64,
     };
     match Plan::check(alloc, grid()?, 4, &[row]) {
         Ok(plan) => Ok(plan),
@@ -167,7 +168,7 @@ fn on_a_new_cell<L: Ledger>(
     requires plan { plan.now ≡ record {
       grid = record { rows = 1; cols = 1 };
       blocks = 4;
-      rows = record { name = 97 ∷ []; share = 4; sessions = 1; steps = 10; most_blocks = 16 } ∷ [];
+      rows = record { name = 97 ∷ []; share = 4; sessions = 1; steps = 10; most_blocks = 16; most_volumes = 64 } ∷ [];
     } }
 {
     let Ok((mut cell, mut one, two)) = Cell::<L>::new(alloc, plan, 0, blank) else {
@@ -189,7 +190,7 @@ fn on_a_cell(alloc: Global, plan: &Plan, out: &mut Vec<u8>) -> Result<bool, Faul
     requires { plan.now ≡ record {
       grid = record { rows = 1; cols = 1 };
       blocks = 4;
-      rows = record { name = 97 ∷ []; share = 4; sessions = 1; steps = 10; most_blocks = 16 } ∷ [];
+      rows = record { name = 97 ∷ []; share = 4; sessions = 1; steps = 10; most_blocks = 16; most_volumes = 64 } ∷ [];
     } }
 {
     on_a_new_cell::<Brand>(alloc, plan, out, Blank::new(2))
@@ -199,7 +200,7 @@ fn on_cells(alloc: Global, plan: &Plan, out: &mut Vec<u8>) -> Result<(), Fault>
     requires { plan.now ≡ record {
       grid = record { rows = 1; cols = 1 };
       blocks = 4;
-      rows = record { name = 97 ∷ []; share = 4; sessions = 1; steps = 10; most_blocks = 16 } ∷ [];
+      rows = record { name = 97 ∷ []; share = 4; sessions = 1; steps = 10; most_blocks = 16; most_volumes = 64 } ∷ [];
     } }
 {
     tell(out, plan);

@@ -35,7 +35,7 @@ fn plan(alloc: Global, sessions: u32) -> Result<Plan, Fault>
     ensures { IfOk result (λ plan. plan ≡ record {
       grid = record { rows = 1; cols = 1 };
       blocks = 1;
-      rows = record { name = 97 ∷ []; share = 1; sessions = sessions; steps = 1000000; most_blocks = 16 } ∷ [];
+      rows = record { name = 97 ∷ []; share = 1; sessions = sessions; steps = 1000000; most_blocks = 16; most_volumes = 64 } ∷ [];
     }) }
 {
     let Some(name) = Name::new(b"a") else {
@@ -47,6 +47,7 @@ fn plan(alloc: Global, sessions: u32) -> Result<Plan, Fault>
         sessions,
         steps: 1_000_000,
         most_blocks: 16,
+        most_volumes: 64,
     };
     match Plan::check(alloc, grid()?, 1, &[row]) {
         Ok(plan) => Ok(plan),
@@ -227,7 +228,7 @@ fn records<L: Ledger>(
     requires plan { plan.now ≡ record {
       grid = record { rows = 1; cols = 1 };
       blocks = 1;
-      rows = record { name = 97 ∷ []; share = 1; sessions = length contents.now; steps = 1000000; most_blocks = 16 } ∷ [];
+      rows = record { name = 97 ∷ []; share = 1; sessions = length contents.now; steps = 1000000; most_blocks = 16; most_volumes = 64 } ∷ [];
     } }
     requires changes { All (IsChange (record { rows = 1; cols = 1 })) changes.now }
 {

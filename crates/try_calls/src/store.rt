@@ -19,7 +19,7 @@ const FILE: FileId = FileId {
 
 // The store of a server of so many blocks, all of them the share of one tenant.
 fn new_store(alloc: Global, blocks: u32) -> Result<ServerStore, Fault>
-    ensures { IfOk result (λ store. store_accounts store ≡ record { share = blocks; most_blocks = 16; volumes = [] } ∷ []) }
+    ensures { IfOk result (λ store. store_accounts store ≡ record { share = blocks; most_blocks = 16; most_volumes = 64; volumes = [] } ∷ []) }
 {
     if blocks < 1 || blocks > MOST_BLOCKS {
         return Err(Fault::Usage);
@@ -36,6 +36,7 @@ fn new_store(alloc: Global, blocks: u32) -> Result<ServerStore, Fault>
         sessions: 1,
         steps: 1,
         most_blocks: 16,
+        most_volumes: 64,
     };
     match Plan::check(alloc, grid, blocks, &[row]) {
         Ok(plan) => Ok(ServerStore::new(alloc, &plan)?),
@@ -63,7 +64,7 @@ fn add_files(alloc: Global, files: u32) -> Result<usize, Fault> {
 
 // A store with one file of two blocks.
 fn store_of_a_file(alloc: Global) -> Result<ServerStore, Fault>
-    ensures { IfOk result (λ store. store_accounts store ≡ record { share = 4; most_blocks = 16; volumes = record { files = 1; blocks = 2 } ∷ [] } ∷ []) }
+    ensures { IfOk result (λ store. store_accounts store ≡ record { share = 4; most_blocks = 16; most_volumes = 64; volumes = record { files = 1; blocks = 2 } ∷ [] } ∷ []) }
 {
     let mut store = new_store(alloc, 4)?;
     store.add_files(0, 1, 2)?;

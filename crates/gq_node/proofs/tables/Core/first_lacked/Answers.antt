@@ -1,12 +1,26 @@
 -- One volume more.
-use Rattle.std.proofs.Common.{◌≡◌, ◌∙◌, ◌<◌, List, length, sym, ap, arith}
-use Rattle.std.specs.Prelude.{option_map}
+use Rattle.std.proofs.Common.{◌≡◌, ◌∙◌, ℕ, ◌<◌, List, length, sym, ap, subst, arith}
+use Rattle.std.specs.Prelude.{option_map, slice_index_or}
 use Rattle.gq_tag.specs.Tag.{file_place}
 use Rattle.gq_desk.specs.Volumes.{account_at}
 use Rattle.gq_desk.specs.declared.volumes.VolumeRow.{VolumeRow}
-use Rattle.gq_node.specs.Tables.{Tables, lacks_at}
-use Rattle.gq_node.proofs.Giving.{volume_files, first_more, first_here, first_none}
+use Rattle.gq_node.specs.Lacks.{Given, AllWhole}
+use Rattle.gq_node.specs.Shape.{IsShaped}
+use Rattle.gq_node.specs.Tables.{Tables, given_at, lacks_at}
+use Rattle.gq_node.proofs.Lacking.{list_read}
+use Rattle.gq_node.proofs.Giving.{volume_files, first_from, first_more, first_here, first_none, whole_none}
 use Rattle.gq_node.proofs.tables.Core.first_lacked.Goals as goal
+
+pub loop-volume-init : goal.loop-volume-init
+loop-volume-init c =
+    let w : Tables = c.args.self.now in
+    let t : ℕ = c.args.tenant in
+    let shaped : IsShaped w = subst IsShaped c.self.view_is c.self.invariant in
+    let within : t < length w.given = subst (λ n. t < n) (sym shaped.given) c.requires in
+    let its : c.index.result.now ≡ given_at w t = list_read w.given c.self.inside.lacks.items t c.index.result.now c.index.result.now (ap (λ (x : Tables). x.given) c.self.view_is) within (c.index.ensures ∙ ap (λ n. slice_index_or c.self.inside.lacks.items n c.index.result.now) c.from.ensures) in
+    let whole : AllWhole (given_at w t) c.first-first.result = subst (λ (g : Given). AllWhole g c.first-first.result) its c.first-first.ensures in
+    let volumes : List VolumeRow = (account_at w.desk t).volumes in
+    first_from (lacks_at w t) (volume_files volumes) c.first-first.result (length volumes) (λ v low there. whole_none w t v shaped (whole v low) there)
 
 pub loop-volume-preserved : goal.loop-volume-preserved
 loop-volume-preserved c =

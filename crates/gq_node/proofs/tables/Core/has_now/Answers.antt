@@ -41,7 +41,7 @@ with_place c n = record (tables c) { store = c.put-put.new.self; given = slice_s
 pub invariant_of-self : goal.invariant_of-self
 invariant_of-self c =
     subst (λ n. IsShaped (with_place c n)) (sym c.from.ensures)
-    (given_shaped (tables c) c.args.file c.args.copy.now c.put-put.new.self c.give.new.self c.self.invariant (within c) (is_given c) (c.give.ensures.volumes ∙ ap length (there c)) c.put-put.ensures.accounts)
+    (given_shaped (tables c) c.args.file c.args.copy.now c.put-put.new.self c.give.new.self c.self.invariant (within c) (is_given c) (c.give.ensures.volumes ∙ ap length (there c)) (λ v. c.give.ensures.marks v ∙ ap (λ g. length (slice_index_or g v [])) (there c)) c.put-put.ensures.accounts)
 
 pub returns-clause-leads : goal.returns-clause-leads
 returns-clause-leads c =

@@ -1,6 +1,9 @@
 -- A new node lacks all files of the volumes.
-use Rattle.std.proofs.Common.{◌≡◌, ◌∙◌, ℕ, ◌<◌, true, length, sym, subst}
+use Rattle.std.proofs.Common.{◌≡◌, ◌∙◌, ℕ, ◌<◌, List, true, length, sym, ap, subst}
 use Rattle.std.specs.Prelude.{slice_set}
+use Rattle.gq_desk.specs.Volumes.{account_at}
+use Rattle.gq_desk.specs.declared.volumes.VolumeRow.{VolumeRow}
+use Rattle.gq_node.specs.Lacks.{all_lost}
 use Rattle.gq_node.specs.Opening.{Loses}
 use Rattle.gq_node.specs.Shape.{IsShaped}
 use Rattle.gq_node.specs.Tables.{Tables, is_new_node}
@@ -19,6 +22,9 @@ within c = let shaped : IsShaped c.args.self.now = subst IsShaped c.self.view_is
 new : (c : goal.After-drop-index_mut) → is_new_node c.args.self.now ≡ true
 new c = sym (c.is_new.ensures 0) ∙ c.if-not-is_new.false
 
+lost_is : (c : goal.After-drop-index_mut) → c.in_ok-self-inside.field-0 ≡ all_lost (account_at c.args.self.now.desk c.args.tenant).volumes c.args.volumes
+lost_is c = c.in_ok-self-inside.ensures ∙ ap (λ (vs : List VolumeRow). all_lost vs c.args.volumes) (c.volumes-rows.ensures.volumes ∙ ap (λ (x : Tables). (account_at x.desk c.args.tenant).volumes) c.self.view_is)
+
 pub invariant_of-self : goal.invariant_of-self
 invariant_of-self c =
     let w : Tables = c.args.self.now in
@@ -26,7 +32,7 @@ invariant_of-self c =
     let shaped : IsShaped w = subst IsShaped c.self.view_is c.self.invariant in
     subst (λ n. IsShaped (with_place c n)) (sym c.from.ensures)
     (subst (λ (x : Tables). IsShaped (with_lacks x t c.in_ok-self-inside.field-0)) (sym c.self.view_is)
-    (bereaved_shaped w t c.args.volumes c.in_ok-self-inside.field-0 shaped (within c) c.requires.few (new c) c.in_ok-self-inside.ensures c.requires.first))
+    (bereaved_shaped w t c.args.volumes c.in_ok-self-inside.field-0 shaped (within c) c.requires.few (new c) (lost_is c) c.requires.first))
 
 pub returns : goal.returns
 returns c =
@@ -36,5 +42,5 @@ returns c =
       loses =
           subst (λ n. Loses w t c.args.volumes (with_place c n)) (sym c.from.ensures)
           (subst (λ (x : Tables). Loses w t c.args.volumes (with_lacks x t c.in_ok-self-inside.field-0)) (sym c.self.view_is)
-          (loses w t c.args.volumes c.in_ok-self-inside.field-0 (within c) (new c) c.in_ok-self-inside.ensures c.requires.first));
+          (loses w t c.args.volumes c.in_ok-self-inside.field-0 (within c) (new c) (lost_is c) c.requires.first));
     }

@@ -1,6 +1,7 @@
 -- The tenant has the volume from now on.
 use Rattle.std.proofs.Common.{◌≡◌, ℕ, ◌<◌, List, length, sym, subst}
 use Rattle.std.specs.Prelude.{slice_set}
+use Rattle.gq_desk.specs.declared.limits.TheConstants.{MOST_VOLUMES}
 use Rattle.gq_desk.specs.declared.volumes.VolumeRow.{VolumeRow}
 use Rattle.gq_desk.specs.Volumes.{Account, account_at, with_volume}
 use Rattle.gq_store.specs.Copies.{StoreCopies}
@@ -32,4 +33,4 @@ invariant_of-result c =
     let shaped : IsShaped v = c.self.invariant in
     let within : t < length v.desk = rw shaped.desk (subst (λ (x : Tables). t < length x.plan.rows) (sym c.self.view_is) c.requires) in
     subst (λ desk. IsShaped (V desk c.add_files.new.self)) (sym c.in_ok-_number.ensures.opened)
-    (opened_shaped v t row c.add_files.new.self shaped within c.in_ok-_number.ensures.sound c.in-Ok.ensures.added c.in-Ok.ensures.copies)
+    (opened_shaped v t row c.add_files.new.self shaped within c.in_ok-_number.ensures.sound (subst (λ n. n < MOST_VOLUMES) c.in_ok-_number.ensures.number c.in_ok-_number.ensures.few) c.in-Ok.ensures.added c.in-Ok.ensures.copies)

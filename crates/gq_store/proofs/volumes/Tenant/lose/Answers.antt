@@ -25,7 +25,7 @@ returns-clause-free c =
       arith,
       c.loop-volume.invariant.1,
       ap (sum_by volume_taken) done,
-      tenant_nothing (record { share = 0; most_blocks = 0; volumes = xs }),
+      tenant_nothing (record { share = 0; most_blocks = 0; most_volumes = 0; volumes = xs }),
       ap (sum_by volume_taken) c.deref_mut-volume-items.ensures.value,
       ap (λ (t : TenantCopies). tenant_taken t) c.self.view_is,
     )
