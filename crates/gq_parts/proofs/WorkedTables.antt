@@ -52,7 +52,7 @@ pub record View : Type 0 where
   pub two : SessionState
 
 abbrev pub store_of : StoredCopy → StoreCopies
-store_of copy = record { blocks = 4; tenants = record { share = 4; most_blocks = 16; volumes = record { blocks = 1; copies = copy ∷ [] } ∷ [] } ∷ [] }
+store_of copy = record { blocks = 4; tenants = record { share = 4; most_blocks = 16; most_volumes = 64; volumes = record { blocks = 1; copies = copy ∷ [] } ∷ [] } ∷ [] }
 
 abbrev pub tables_of : (n p : ℕ) → View → Tables
 tables_of n p v = record {
