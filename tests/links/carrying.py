@@ -22,6 +22,7 @@ DEPLOY = os.path.join(HERE, "..", "..", "deploy", "links")
 PLAN = "grid 1 2\nblocks 64\ntenant ann 8 16 1\ntenant bob 8 16 1\ngo\nann open 2 2\nbob open 2 2\n"
 THREE = "grid 1 3\nblocks 64\ntenant ann 8 16 1\ngo\nann open 2 2\n"
 ROOM = "grid 1 2\nroom 20000\ntenant ann 16384 16 1 16384\ngo\n"
+RUNS = "grid 1 2\nroom 900\ntenant bob 16 1 1 16\ntenant ann 800 16 1 16 600\ngo\nbob open 1 1\n" + "ann open 1 1\nann open 2 1\n" * 300
 WIDE = "grid 1 2\nroom 20000\ntenant ann 4094 16 1 4094\ntenant bob 16 1 1 16\ngo\n"  # (the longest lines that don't raise the rate above 8 MiB a second)
 LONG = b"6" * 500_000  # of a line by WIDE: it costs three times what a tenant may use at once
 SOON = 5  # seconds in which what is to come has come
@@ -533,6 +534,18 @@ def long_lines(program, folder):
         carry.end()
 
 
+def what_a_tenant_of_many_volumes_has(program, folder):
+    """A line of 400 bytes, and 15 for each line `open` of ann, goes to her; one byte more does not."""
+    carry = fresh(program, folder, RUNS)
+    try:
+        longest = b"plan ".ljust(400 + 15 * 600 - len(b"ann 0 "), b"1")
+        with come(carry, "ann") as ann:
+            carry.says(b"ann 0 " + longest + b"1\nann 0 " + longest + b"\n")
+            check(hear(ann)[0] == longest, "what ann has does not come, or something longer")
+    finally:
+        carry.end()
+
+
 def its_end(program, folder):
     """Ann begins to read when the node has ended: the carrier has what doesn't fit between them, and waits for a second."""
     carry = fresh(program, folder, ROOM)
@@ -874,5 +887,5 @@ def metrics_as_prometheus_reads(program, folder):
         carry.end()
 
 
-CHECKS = [odd_files, hosts_amid_a_write, its_own_ports, another_authority, costly_ones, who_may_come, a_denied_one_stays_out, who_is_dialed, lines_are_whole, answers_go_home, nodes_are_linked, a_still_node, ticks, a_burst, long_answers, a_slow_reader, too_many, long_lines, its_end, its_words, ends_soon, a_slow_name, a_name_of_two_addresses, a_node_that_does_not_end, what_a_denied_one_said, metrics_are_true, metrics_are_whole]
+CHECKS = [odd_files, hosts_amid_a_write, its_own_ports, another_authority, costly_ones, who_may_come, a_denied_one_stays_out, who_is_dialed, lines_are_whole, answers_go_home, nodes_are_linked, a_still_node, ticks, a_burst, long_answers, a_slow_reader, too_many, long_lines, what_a_tenant_of_many_volumes_has, its_end, its_words, ends_soon, a_slow_name, a_name_of_two_addresses, a_node_that_does_not_end, what_a_denied_one_said, metrics_are_true, metrics_are_whole]
 LONG_CHECKS = [metrics_as_prometheus_reads]
