@@ -28,7 +28,7 @@ enum {
     ENDS = 10,                  /* seconds that the node has to end once it has closed its output */
     TENANTS = 64,               /* of a plan; what more of them bring is told in one sum */
     METRICS = 10,               /* seconds between two writes of the metrics */
-    GREET_FIRST = 1,            /* seconds from the node's first line until it is to greet the others, .. */
+    GREET_FIRST = 3,            /* seconds from the node's first line, by when links are up, until it is to greet the others, .. */
     GREET = 60,                 /* .. and from then on to the next time */
     PLACES = 64,                /* of nodes: that of a node is its number modulo this */
     FORGET = 3 * GREET          /* seconds after which what a node told of its lines is not believed any more */

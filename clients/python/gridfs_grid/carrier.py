@@ -14,7 +14,7 @@ from gridfs_grid.tenant import PLACES
 
 READ = 65_536  # bytes of one read; a line may take several
 MOST_WAITING = 1 << 22  # bytes that may wait for one node, or some of the longest lines
-GREET_FIRST, GREET = 1, 60  # seconds from a node's first line until it is to tell the others which forms of lines it speaks, and to the next time
+GREET_FIRST, GREET = 3, 60  # seconds from a node's first line, when links are up, until it is to tell the others which forms of lines it speaks, and to the next time
 PATIENCE = 5  # seconds that a node has to end by itself
 # For a node's C library, as deploy/carrier/node.c has it: what a large content took is kept for the next one.
 KEEP_MEMORY = {"GLIBC_TUNABLES": "glibc.malloc.mmap_threshold=8388608:glibc.malloc.trim_threshold=67108864"}
