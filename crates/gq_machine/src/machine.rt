@@ -1,6 +1,6 @@
 //! The machine of a node.
 
-ghost use Rattle.std.specs.Prelude.{◌≡◌, ◌≢◌, ℕ, ◌<◌, ◌++◌, [], ◌∷◌, true, false, length, map, OnOk, IfSome, All};
+ghost use Rattle.std.specs.Prelude.{◌≡◌, ◌≢◌, ℕ, ◌<◌, ◌++◌, [], ◌∷◌, true, false, length, map, Some, None, OnOk, IfSome, All};
 ghost use Rattle.std.specs.List.{flat_map};
 ghost use Rattle.std.specs.Option.{option_to_list};
 ghost use Rattle.gq_tag.specs.Tag.{own_message, file_place};
@@ -13,7 +13,6 @@ ghost use Rattle.gq_grid.specs.declared.TheConstants.{MOST_SERVERS};
 ghost use Rattle.gq_replace.specs.Plans.{node_at, place_of as node_place};
 ghost use Rattle.gq_node.specs.Sites.{session_at, plan_in};
 ghost use Rattle.gq_node.specs.Tables.{AllStand, LeadsAll};
-ghost use Rattle.gq_wire.specs.declared.incoming.TheConstants.{LINE_FORM};
 ghost use Rattle.gq_wire.specs.declared.incoming.Incoming.TheVariants.{Tick};
 ghost use Rattle.gq_wire.specs.Incoming.{FitsPlan};
 ghost use Rattle.gq_facts.specs.Facts.{fact_text};
@@ -43,8 +42,8 @@ use std::alloc::Global;
 pub struct NodeMachine {
     alloc: Global,
     node: Node,
-    // for each place the form of lines that the node there told last; this program's, where it told none
-    forms: [u32; MOST_SERVERS],
+    // for each place the form of lines that the node there told last, if it told one
+    forms: [Option<u32>; MOST_SERVERS],
     /// How many lines of a journal it read.
     pub facts: u64,
 }
@@ -61,13 +60,13 @@ impl NodeMachine {
     /// The machine of a node, which read no line yet.
     pub fn new(alloc: Global, node: Node) -> NodeMachine
         ensures node { tables_of result ≡ node.tables }
-        ensures forms { (place : ℕ) → place < MOST_SERVERS → form_at result place ≡ LINE_FORM }
+        ensures forms { (place : ℕ) → place < MOST_SERVERS → form_at result place ≡ None }
         ensures facts { result.facts ≡ 0 }
     {
         NodeMachine {
             alloc,
             node,
-            forms: [LINE_FORM; MOST_SERVERS],
+            forms: [None; MOST_SERVERS],
             facts: 0,
         }
     }
@@ -600,18 +599,18 @@ impl NodeMachine {
 
     // The node of that number tells that it speaks all forms of lines up to this one.
     fn speaks(&mut self, from: u16, form: u32)
-        ensures told { is_other (tables_of self.old) from ≡ true → form_at self.new (node_place from) ≡ form }
+        ensures told { is_other (tables_of self.old) from ≡ true → form_at self.new (node_place from) ≡ Some form }
         ensures others { (place : ℕ) → place ≢ node_place from → form_at self.new place ≡ form_at self.old place }
         ensures strange { is_other (tables_of self.old) from ≡ false → self.new ≡ self.old }
         ensures node { self.new.node ≡ self.old.node }
     {
         if self.is_other(from) {
-            self.forms[place_of(from) as usize] = form;
+            self.forms[place_of(from) as usize] = Some(form);
         }
     }
 
-    /// The form of lines that the node at the place told last; [`LINE_FORM`](gq_wire::LINE_FORM) where it told none.
-    pub fn form_at(&self, place: usize) -> u32
+    /// The form of lines that the node at the place told last, if it told one.
+    pub fn form_at(&self, place: usize) -> Option<u32>
         requires { place < MOST_SERVERS }
         ensures { result ≡ form_at self.now place }
     {

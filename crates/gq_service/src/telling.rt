@@ -14,7 +14,7 @@ pub(crate) struct Telling<'x, C: Console> {
     number: u16,
     lacks: bool,
     // for each place the form of lines that was seen last
-    forms: [u32; MOST_SERVERS],
+    forms: [Option<u32>; MOST_SERVERS],
 }
 
 impl<'x, C: Console> Telling<'x, C> {
@@ -24,7 +24,7 @@ impl<'x, C: Console> Telling<'x, C> {
             console,
             number,
             lacks,
-            forms: [LINE_FORM; MOST_SERVERS],
+            forms: [None; MOST_SERVERS],
         }
     }
 
@@ -40,8 +40,12 @@ impl<'x, C: Console> Telling<'x, C> {
             return;
         }
         self.forms[place] = form;
-        if form != LINE_FORM {
-            self.console.speaks(self.number, machine.node_at(place), form);
+        match form {
+            Some(form) if form != LINE_FORM => {
+                self.console
+                    .speaks(self.number, machine.node_at(place), form);
+            }
+            _ => {}
         }
     }
 }
