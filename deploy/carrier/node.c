@@ -27,7 +27,11 @@ enum {
     PART = 4,                   /* so many bytes of longer ones cost him as much as one of his own */
     ENDS = 10,                  /* seconds that the node has to end once it has closed its output */
     TENANTS = 64,               /* of a plan; what more of them bring is told in one sum */
-    METRICS = 10                /* seconds between two writes of the metrics */
+    METRICS = 10,               /* seconds between two writes of the metrics */
+    GREET_FIRST = 3,            /* seconds from the node's first line, by when links are up, until it is to greet the others, .. */
+    GREET = 60,                 /* .. and from then on to the next time */
+    PLACES = 64,                /* of nodes: that of a node is its number modulo this */
+    FORGET = 3 * GREET          /* seconds after which what a node told of its lines is not believed any more */
 };
 
 const char *me, *grid = "";
@@ -53,6 +57,8 @@ static double tick_time, tick_due;
 static const char *metrics_file, *journal;      /* NULL where there is none */
 static double metrics_due, last_line;           /* when the metrics are written; when the node last wrote something, 0 before */
 static bool node_ready;                         /* it has read its journal */
+static double greet_due;                        /* when the node is to greet the others; 0 as long as it is not ready */
+static struct form { int node; double form, since; } forms[PLACES];     /* which form of lines a node told last, and when; since 0 where none did */
 static long ticks;
 static bool engine_runs;                        /* from its begin on */
 static volatile sig_atomic_t ending, asked_counts, hung_up;
@@ -177,6 +183,23 @@ size_t count_lines(const char *text, size_t length) {
     return lines;
 }
 
+static bool is_told(const struct form *it) { return it->since > 0 && it->since + FORGET > now(); }
+
+/* A node tells by `speaks FORM` that it speaks all forms of lines between nodes up to that one. Of nodes at one place the later one is believed. */
+static void hear_form(const char *name, const char *body, size_t length) {
+    static const char verb[] = "speaks ";
+    const size_t before = sizeof verb - 1;
+    double form = 0;
+    if (length <= before || length > before + 10 || memcmp(body, verb, before)) return;
+    for (size_t i = before; i < length; i++) {
+        if (body[i] < '0' || body[i] > '9') return;
+        form = 10 * form + (body[i] - '0');
+    }
+    int node = atoi(name);
+    struct form *it = &forms[node % PLACES];
+    if (node >= it->node || !is_told(it)) *it = (struct form){node, form, now()};
+}
+
 /* To the node */
 
 void for_node(struct queue *queue, const char *text, size_t length) {
@@ -188,6 +211,7 @@ void for_node(struct queue *queue, const char *text, size_t length) {
         if (strlen(queue->head) + body > longest) count.too_long++;
         else if (body && add(queue, queue->head, text, body, &count.full)) {
             count.in++;
+            if (!is_tenant(queue->name) && queue != mine) hear_form(queue->name, text, body);
             if (queue->tally) queue->tally->lines++, queue->tally->bytes += (long)body + 1;
         }
     }
@@ -282,6 +306,11 @@ static void give_tick(void) {
     if (add(mine, mine->head, "tick", 4, &count.full)) tick_waits = held(mine), ticks++;
 }
 
+/* It is to tell the others which forms of lines it speaks: again and again, since lines are lost, and others are started again. */
+static void give_greet(double time) {
+    if (node_in.fd >= 0 && add(mine, mine->head, "greet", 5, &count.full)) greet_due = time + about(GREET);
+}
+
 /* From the node */
 
 /* A tenant pays for what the node writes for it: answers, and letters to other nodes, which begin with his name. */
@@ -301,7 +330,7 @@ static void take_line(const char *text, size_t length) {
     const char *space = memchr(text, ' ', length);
     size_t name = space ? (size_t)(space - text) : 0, head = name + own + 2;
     if (length == 2 && !memcmp(text, " ?", 2)) {               /* (a node begins with this) */
-        node_ready = true;
+        node_ready = true, greet_due = last_line + GREET_FIRST;
         return;
     }
     bool good = is_name(text, name) && length > head && !memcmp(space + 1, me, own) && text[head - 1] == ' ';
@@ -309,7 +338,10 @@ static void take_line(const char *text, size_t length) {
     if (length > longest) count.too_long++;
     else if (!good) count.strange++;
     else if (name == own && !memcmp(text, me, own)) for_node(mine, text + head, length - head);
-    else engine_carry(text, name, text + head, length - head);
+    else {
+        if (!is_tenant(text)) hear_form(me, text + head, length - head);
+        engine_carry(text, name, text + head, length - head);
+    }
 }
 
 /* (What follows the last LF at the end of its output is no line.) */
@@ -320,7 +352,7 @@ static void read_node(struct watch *it, uint32_t events) {
     if (came <= 0) {
         watch(it, 0);
         close(it->fd);
-        it->fd = -1, node_ready = false;
+        it->fd = -1, node_ready = false, greet_due = 0;
         return;
     }
     last_line = now();
@@ -380,6 +412,20 @@ static double bytes_of(const struct tally *it) { return (double)it->bytes; }
 static double dropped_of(const struct tally *it) { return (double)it->dropped; }
 static double over_rate_of(const struct tally *it) { return it->over_rate; }
 
+/* Nothing is told of a node that has told none for some time: its program, or its carrier, is of before, or it is down. */
+static void tell_forms(void) {
+    const struct form *mine_told = &forms[atoi(me) % PLACES];
+    if (is_told(mine_told) && mine_told->node == atoi(me))
+        single("node_line_form", "gauge", "The node told that it speaks all forms of lines between nodes up to this one.", mine_told->form);
+    metric("carrier_line_form", "gauge", "The same of each other node that has told it within three minutes.");
+    for (const struct form *it = forms; it < forms + PLACES; it++) {
+        char peer[12];
+        if (!is_told(it) || it->node == atoi(me)) continue;
+        snprintf(peer, sizeof peer, "%d", it->node);
+        sample("peer", peer, it->form);
+    }
+}
+
 static void tell_dropped(void) {
     const struct { const char *reason; long lines; } all[] = {{"lost", count.lost}, {"full", count.full}, {"slow", count.slow},
         {"long", count.too_long}, {"strange", count.strange}, {"memory", count.memory}};
@@ -396,6 +442,7 @@ static void tell_metrics(void) {
     single("node_last_line_timestamp_seconds", "gauge", "When the node last wrote a line; 0 before its first one.", last_line > 0 ? wall_time(last_line) : 0);
     single("node_waiting_bytes", "gauge", "Bytes of lines that wait for the node.", (double)waits);
     if (journal && !stat(journal, &file)) single("node_journal_bytes", "gauge", "Size of the node's journal.", (double)file.st_size);
+    tell_forms();
     single("carrier_lines_in_total", "counter", "Lines that were taken for the node.", (double)count.in);
     single("carrier_lines_out_total", "counter", "Lines of the node that were taken for others.", (double)count.out);
     tell_dropped();
@@ -421,9 +468,11 @@ static void pass(const sigset_t *open_mask) {
     if (hung_up) hung_up = 0, engine_runs ? engine_hangup() : (void)0;
     if (ending || fault) end_input();
     if (time >= tick_due) give_tick(), tick_due = time + about(tick_time);
+    if (greet_due > 0 && time >= greet_due) give_greet(time);
     wake = engine_runs ? engine_turn(time) : time + 0.1;
     feed_node(time);
     if (tick_due < wake) wake = tick_due;
+    if (greet_due > 0 && greet_due < wake) wake = greet_due;
     if (metrics_file && metrics_due < wake) wake = metrics_due;
     if (!node_full && rested > time && rested < wake) wake = rested;
     loop_once(wake - time, open_mask);

@@ -83,9 +83,13 @@ class Carry:
             return file.read()
 
     def lines(self):
-        """What the node was given, but for ticks."""
+        """What the node was given, but for ticks and greetings."""
         with open(self.in_path, "rb") as file:
-            return [line for line in file.read().split(b"\n")[:-1] if not line.endswith(b" tick")]
+            return [line for line in file.read().split(b"\n")[:-1] if not line.endswith((b" tick", b" greet"))]
+
+    def greets(self):
+        with open(self.in_path, "rb") as file:
+            return file.read().count(b"%d %d greet\n" % (self.number, self.number))
 
     def ticks(self):
         with open(self.in_path, "rb") as file:
@@ -825,6 +829,51 @@ def metrics_are_true(program, folder):
             node.end()
 
 
+def forms_are_told(program, folder):
+    """A node that is ready is to greet the others: soon, and not again at once. What it tells them, and what others tell it, is in the metrics."""
+    path = os.path.join(folder, "0.prom")
+    set_up(folder, THREE, "--local", str(free_ports(6)))
+    carry = Carry(program, folder, 0, NODE, "--metrics", path).ready()
+    forms = lambda told: {labels: value for (name, labels), value in told.items() if name.endswith("_line_form")}
+    try:
+        time.sleep(4)
+        check(carry.greets() == 0, "a node that has not read its journal is to greet")
+        carry.says(b" ?\n")
+        wait_for(lambda: carry.greets(), "a node that is ready is not to greet", 10)
+        check(forms(carry.tells(path, lambda told: told.of("node_ready") == 1, "it is not ready")) == {}, "forms that nobody told")
+        carry.says(b"1 0 speaks 4294967295\n2 0 speaks 4294967295\n")
+        carry.tells(path, lambda told: forms(told) == {"": 4294967295}, "the node's own form")
+        with come(carry, "1", carry.for_nodes) as one, come(carry, "2", carry.for_nodes) as two, come(carry, "ann") as ann:
+            ann.sendall(b"speaks 7\n")
+            two.sendall(b"speaks\nspeaks \nspeaks x\nspeaks 7 \nspeaks 77777777777\nspeak 7\n0 speaks 7\nann speaks 7\n")
+            one.sendall(b"speaks 2\nspeaks 0\n")
+            carry.gets(b"0 1 speaks 0", b"0 2 ann speaks 7", b"0 ann speaks 7")
+            carry.tells(path, lambda told: forms(told) == {"": 4294967295, 'peer="1"': 0}, f"what others tell: {forms(metrics.read(path))}")
+            two.sendall(b"speaks 1\n")
+            carry.tells(path, lambda told: forms(told) == {"": 4294967295, 'peer="1"': 0, 'peer="2"': 1}, f"what both tell: {forms(metrics.read(path))}")
+        check(carry.greets() == 1, f"it is to greet {carry.greets()} times within seconds")
+    finally:
+        check(carry.end() == 0, carry.told())
+
+
+def forms_are_told_again(program, folder):
+    """Once a minute; and what a node told is believed for three."""
+    path = os.path.join(folder, "0.prom")
+    carry = fresh(program, folder, PLAN, NODE, "--metrics", path)
+    try:
+        carry.says(b" ?\n1 0 speaks 1\n")
+        with come(carry, "1", carry.for_nodes) as node:
+            node.sendall(b"speaks 1\n")
+            carry.tells(path, lambda told: told.of("carrier_line_form", 'peer="1"') == told.of("node_line_form") == 1, "the forms are not told")
+        time.sleep(150)
+        check(carry.greets() == 3, f"in two minutes and a half it is to greet {carry.greets()} times")
+        carry.tells(path, lambda told: told.of("carrier_line_form", 'peer="1"') == 1, "a form is forgotten too soon")
+        time.sleep(40)
+        carry.tells(path, lambda told: told.of("carrier_line_form", 'peer="1"') is None, "a form is never forgotten")
+    finally:
+        carry.end()
+
+
 def metrics_are_whole(program, folder):
     """Whoever reads the file has all of it, while it is written anew, and also on a disk that is full. What is wrong is told once, and stops nothing."""
     at = os.path.join(folder, "metrics")
@@ -887,5 +936,5 @@ def metrics_as_prometheus_reads(program, folder):
         carry.end()
 
 
-CHECKS = [odd_files, hosts_amid_a_write, its_own_ports, another_authority, costly_ones, who_may_come, a_denied_one_stays_out, who_is_dialed, lines_are_whole, answers_go_home, nodes_are_linked, a_still_node, ticks, a_burst, long_answers, a_slow_reader, too_many, long_lines, what_a_tenant_of_many_volumes_has, its_end, its_words, ends_soon, a_slow_name, a_name_of_two_addresses, a_node_that_does_not_end, what_a_denied_one_said, metrics_are_true, metrics_are_whole]
-LONG_CHECKS = [metrics_as_prometheus_reads]
+CHECKS = [odd_files, hosts_amid_a_write, its_own_ports, another_authority, costly_ones, who_may_come, a_denied_one_stays_out, who_is_dialed, lines_are_whole, answers_go_home, nodes_are_linked, a_still_node, ticks, a_burst, long_answers, a_slow_reader, too_many, long_lines, what_a_tenant_of_many_volumes_has, its_end, its_words, ends_soon, a_slow_name, a_name_of_two_addresses, a_node_that_does_not_end, what_a_denied_one_said, metrics_are_true, forms_are_told, metrics_are_whole]
+LONG_CHECKS = [metrics_as_prometheus_reads, forms_are_told_again]

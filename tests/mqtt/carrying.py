@@ -314,6 +314,26 @@ def told_metrics(checked):
 
 
 @check
+def forms(checked):
+    """A node that is ready is to greet the others; which forms of lines it tells them, and others tell it, is in the metrics."""
+    broker = checked.broker()
+    speak = "put(b' ?\\n1 0 speaks 3\\n2 0 speaks 3\\nann 0 speaks 4\\n')\n"
+    carry = checked.carry(broker.port, node(speak + COPY), *NO_TICKS, "--metrics", "0.prom")
+    checked.held(wait_for(lambda: broker.subscribed and os.path.exists("got")), "connects and subscribes")
+    for topic, body in ((b"gridfs/0/1", b"speaks 2"), (b"gridfs/0/67", b"speaks 4294967295"), (b"gridfs/0/3", b"speaks 2"), (b"gridfs/0/ann", b"speaks 5"), (b"gridfs/0/2", b"speaks two\nspeaks 2 ?\nspeaks")):
+        broker.tells(topic, body)
+    wanted = {"": 3, 'peer="1"': 2, 'peer="67"': 4294967295}  # (3 stood at the place of 67 before)
+
+    def told():
+        carry.process.send_signal(signal.SIGUSR1)
+        return {labels: value for (name, labels), value in metrics.read("0.prom").items() if name.endswith("_line_form")}
+
+    checked.held(wait_for(lambda: told() == wanted), f"forms of lines: {told()}, not {wanted}")
+    checked.held(wait_for(lambda: got(True).count(b"0 0 greet") == 1), f"it is to greet once: {got(True)}")
+    checked.held(carry.stop() == 0, "status 0")
+
+
+@check
 def deaf_broker(checked):
     """A broker that does not read: the node's output is read all the same."""
     broker = checked.broker()

@@ -171,9 +171,9 @@ COPY = "got = open('got', 'wb', 0)\nwhile True:\n    text = os.read(0, 1 << 20)\
 
 
 def got(ticks=False):
-    """The lines that the node was given."""
+    """The lines that the node was given, with ticks and greetings or without."""
     with open("got", "rb") as file:
-        return [line for line in file.read().split(b"\n") if ticks or line != b"0 0 tick"]
+        return [line for line in file.read().split(b"\n") if ticks or line not in (b"0 0 tick", b"0 0 greet")]
 
 
 def got_size():

@@ -29,8 +29,8 @@ from gridfs_client.usage import usage_of
 PLAN = "plan 4 0 4 3000 16 8.16 64.2"
 
 
-def nodes_of(count, silent, said=None, new_nodes=()):
-    return Nodes(PlanTold(count, 0, 2, 300, 16, (), new_nodes), frozenset(silent), said)
+def nodes_of(count, silent, said=None, new_nodes=(), forms=None):
+    return Nodes(PlanTold(count, 0, 2, 300, 16, (), new_nodes), frozenset(silent), said, forms or {})
 
 
 class Grids(unittest.TestCase):
@@ -68,13 +68,32 @@ class Grids(unittest.TestCase):
         self.assertEqual(lines[5:], ["session 1: home 0", "session 2: home 1"])
         self.assertIn("session 2: home 1, silent", nodes_lines(nodes_of(4, (1,))))
         value = nodes_value(nodes)
-        self.assertEqual(value["nodes"][3], {"node": 67, "row": 1, "column": 1, "answers": False})
+        self.assertEqual(value["nodes"][3], {"node": 67, "row": 1, "column": 1, "answers": False, "form": None})
         self.assertEqual((value["rows_up"], value["columns_up"], value["goes_on"], value["is_arrangement_said"]), ([0], [0], True, True))
         self.assertEqual(value["sessions"], [{"session": 1, "home": 0, "answers": True}, {"session": 2, "home": 1, "answers": True}])
         unknown = nodes_value(nodes_of(6, (1, 2)))
         self.assertEqual(unknown.keys(), value.keys())
         self.assertEqual((unknown["rows"], unknown["rows_up"], unknown["nodes"][0]["row"], unknown["goes_on"]), (None,) * 4)
         self.assertEqual(nodes_lines(nodes_of(6, ()))[:2], ["grid: 6 nodes; how they are arranged is not said (--grid)", "all 6 nodes answer"])
+
+    def test_forms(self):
+        """Which nodes that answer speak an earlier form of lines than others."""
+        for forms, silent, told in (
+            ({}, (), []),
+            ({0: 1, 1: 1, 2: 1, 67: 1}, (), []),
+            ({0: 1, 1: 1, 2: 0, 67: 1}, (), ["node 2 speaks form 0 of lines, others form 1: its program is of before"]),
+            ({0: 0, 1: 1, 2: 0, 67: 1}, (), ["nodes 0 and 2 speak form 0 of lines, others form 1: their program is of before"]),
+            ({0: 0, 1: 3, 2: 2, 67: 0}, (), ["nodes 0 and 67 speak form 0 of lines, others form 3: their program is of before", "node 2 speaks form 2 of lines, others form 3: its program is of before"]),
+            ({0: 1, 1: 1, 2: 0, 67: 1}, (2,), []),
+            ({0: 1, 2: 0, 3: 0}, (), ["node 2 speaks form 0 of lines, others form 1: its program is of before"]),  # (3 was lost)
+        ):
+            nodes = nodes_of(4, silent, Shape(2, 2), (67,), forms)
+            self.assertEqual(nodes.of_before(), told)
+            lines = nodes_lines(nodes)
+            self.assertEqual(lines[lines.index(nodes.summary()) + 1 :][: len(told)], told)
+            self.assertEqual(sum("form" in line for line in lines), len(told))
+            wanted = [None if node in silent else forms.get(node) for node in (0, 1, 2, 67)]
+            self.assertEqual([it["form"] for it in nodes_value(nodes)["nodes"]], wanted)
 
     def test_settings(self):
         self.assertEqual(Settings({"grid": "2x3"}).shape(), Shape(2, 3))
@@ -127,6 +146,23 @@ class Answering(unittest.TestCase):
         ask_plan(carrier)
         nodes = ask_all(carrier, SILENCE, Shape(2, 2))
         self.assertEqual((nodes.silent, nodes.told.new_nodes), (frozenset(), (67,)))
+
+    def test_forms_that_nodes_tell(self):
+        """By the word `lines` of what they tell that the tenant has; a node of before tells none."""
+        carrier = Played(lambda node, body: [(str(node), PLAN + " lines=1" * (node in (0, 1)))])
+        ask_plan(carrier)
+        self.assertEqual(ask_all(carrier, SILENCE, None).of_before(), ["nodes 2 and 3 speak form 0 of lines, others form 1: their program is of before"])
+        carrier.coming.clear()
+        carrier.play = lambda node, body: [(str(node), PLAN + " lines=2" * (node != 3) + " more=x")]
+        carrier.clock += 60
+        self.assertEqual(ask_all(carrier, SILENCE, None).of_before(), ["node 3 speaks form 0 of lines, others form 2: its program is of before"])
+
+    def test_answers_that_are_not_known(self):
+        """A node tells what the tenant has in words that lack what a client wants: it is told, in one line."""
+        for told in ("plan 4 0 4 3000", "plan", "plan 4 0 4 3000 16 lines=x"):
+            carrier = Played(lambda node, body, told=told: [(str(node), told)] if node == 2 else [])
+            with self.assertRaisesRegex(Unanswered, f"^no node answered in 30 s; node 2 tells what the tenant has in words that are not known here: {told}$"):
+                ask_plan(carrier)
 
     def test_only_answers_of_the_time(self):
         carrier = self.carrier({0, 1, 2, 3})

@@ -40,7 +40,7 @@ LINES = {
     "contents in bytes with no form": (WRITE + b"=\\\n" + WRITE + b"=\\x\n" + WRITE + b"=a b\n" + WRITE + b"-=\n", 4 * BAD),
     "a content in bytes": (STORE + b"3 2 =a\\sb\\n\\bn\xff=\n0 1 ann 2 1 1 0 0 ask\n", STORED + b"1 0 ann 2 1 1 0 0 copy 3 2 6120620a5c6eff3d\n"),
     "a content in bytes that is too long": (WRITE + b"=" + b"\\s" * 129 + b"\n" + WRITE + b"=" + b"\\s" * 128 + b"\n", b"ann 0 refused toolong 1 1 0 0 129\n" + ASK),
-    "what a tenant has": (b"0 ann plan\n0 bob plan\n0 ann plan 1\n0 zed plan\n", b"ann 0 plan 4 0 4 16 16 4.2 1.1\nbob 0 plan 4 0 2 16 16 1.1\n" + BAD),
+    "what a tenant has": (b"0 ann plan\n0 bob plan\n0 ann plan 1\n0 zed plan\n", b"ann 0 plan 4 0 4 16 16 4.2 1.1 lines=1\nbob 0 plan 4 0 2 16 16 1.1 lines=1\n" + BAD),
     "refusals": (
         WRITE + b"aa" * 200 + b"\n0 ann list 1 1 5\n0 ann read 1 1 0 7\n0 ann read 9 1 0 0\n0 ann read 2 1 0 0\n0 ann read 1 0 0 0\n0 ann read 1 5 0 0\n0 ann abandon 1 1\n",
         b"ann 0 refused toolong 1 1 0 0 200\nann 0 refused novolume 1 1 5\nann 0 refused nofile 1 1 0 7\nann 0 refused nosession 9 1\n"
@@ -96,7 +96,7 @@ ROOM_LINES = {
     "with room, a line of the most bytes": (filled(LONGEST) + READ, BAD + ASK),
     "with room, a line of one byte more": (filled(LONGEST + 1) + READ, ASK),
     "with room, a line of 300,000 bytes": (filled(300_000) + READ, ASK),
-    "with room, what a tenant has": (b"0 ann plan\n0 bob plan\n", b"ann 0 plan 4 0 1 80 40 2.40\nbob 0 plan 4 1 2 16 16 1.1\n"),
+    "with room, what a tenant has": (b"0 ann plan\n0 bob plan\n", b"ann 0 plan 4 0 1 80 40 2.40 lines=1\nbob 0 plan 4 1 2 16 16 1.1 lines=1\n"),
     "with room, a content of the most bytes": (WRITE + b"ab" * 2560 + b"\n", ASK),
     "with room, a content of one byte more": (WRITE + b"ab" * 2561 + b"\n", b"ann 0 refused toolong 1 1 0 0 2561\n"),
     "with room, a content in bytes of the most bytes": (WRITE + b"=" + b"\\b" * 2560 + b"\n", ASK),
@@ -142,7 +142,7 @@ NAMED = b"grid 2 2\nblocks 24\ntenant ann 8 2 10\ntenant tick 8 2 10\ngo\n"
 NAMED_LINES = {
     "a tenant named tick": (
         b"0 tick list 300 0 1\n0 tick abandon 1 4000000000\n0 tick plan\n0 tick\n0 0 tick\n",
-        b"tick 0 refused nosession 300 0\ntick 0 refused home 2 1 4000000000\ntick 0 plan 4 2 2 8 16\ntick 0 refused bad\n",
+        b"tick 0 refused nosession 300 0\ntick 0 refused home 2 1 4000000000\ntick 0 plan 4 2 2 8 16 lines=1\ntick 0 refused bad\n",
     ),
 }
 COLUMN = b"grid 2 1\nblocks 16\ntenant ann 8 2 10\ntenant bob 8 2 10\ngo\nann open 2 1\n"

@@ -4,10 +4,12 @@ lives, torn, or made of a tail. The nodes are small programs of our own."""
 import os
 import sys
 import time
+from unittest import mock
 
 from processes import SECONDS
 
 sys.path.insert(0, os.path.join(os.path.dirname(os.path.abspath(__file__)), "..", "..", "clients", "python"))
+from gridfs_grid import carrier
 from gridfs_grid.carrier import Carrier, Node
 
 LONG = 100_000  # bytes of a line that no pipe takes whole
@@ -15,6 +17,7 @@ PROGRAM = "#!/usr/bin/env python3\nimport os, time\n"
 HALF = "os.write(1, b' ?\\nann 0 one\\nann 0 ha')\n"
 LASTS = "time.sleep(60)\n"
 READS = "os.write(1, b' ?\\n')\nos.write(1, b'ann 0 took %d\\n' % len(os.read(0, 1 << 20)))\n" + LASTS
+TELLS = "os.write(1, b' ?\\n')\nwhile True: os.write(1, b'ann 0 took ' + os.read(0, 1 << 20))\n"
 
 
 class Lives:
@@ -69,10 +72,24 @@ class Lives:
         self.carrier.kill(self.node)
         return ready and given and took and self.heard == [b"ann 0 took 8"]
 
+    def greets(self):
+        """In each life it is to greet: soon once it is ready, and then again and again."""
+        held = []
+        with mock.patch.multiple(carrier, GREET_FIRST=0.3, GREET=0.5):
+            for _ in range(2):
+                self.heard.clear()
+                self.start(TELLS)
+                ready = self.goes_until(lambda: self.node.is_ready)
+                begun = time.monotonic()
+                came = self.goes_until(lambda: len(self.heard) == 3)
+                held.append(ready and came and time.monotonic() - begun > 1.2 and self.heard == 3 * [b"ann 0 took 0 0 greet"])
+                self.carrier.kill(self.node)
+        return all(held)
+
 
 def tell_lives(folder):
     """How many were tried, and what is wrong."""
-    tried = ["is_killed_amid_a_line", "ends_amid_a_line", "does_not_read"]
+    tried = ["is_killed_amid_a_line", "ends_amid_a_line", "does_not_read", "greets"]
     wrong = []
     for name in tried:
         lives = Lives(folder)

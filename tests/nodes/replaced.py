@@ -132,6 +132,8 @@ class Watch:
             wrong = None if number >= PLACES and int(words[3]) == losses_of(self.plan[number]) else "and is not new, or has other losses"
         elif words[2] == b"joined":
             wrong = self.joined_of(number, int(words[0]), int(words[3]))
+        elif words[2] == b"speaks":
+            wrong = None if words[3:] == [b"1"] and int(words[0]) != number else "and tells another form, or itself"
         elif words[3] in (b"fetch", b"fetched"):
             wrong = self.fetch_of(number, int(words[0]), *words[2:6])
         elif words[8] in (b"copy", b"stored"):
@@ -370,7 +372,7 @@ class Losses(Storm):
         if draw.random() < 0.7:
             return super().nonsense()
         to, name = draw.choice(nodes_of(self.plan)), draw.choice(list(self.by_name))
-        body = draw.choice([b"joins 1", b"joined 1", b"%s fetch 0 0" % name, b"%s fetched 0 0 9 1 aa" % name, b"joins", b"joined x", b"joins 999"])
+        body = draw.choice([b"joins 1", b"joined 1", b"%s fetch 0 0" % name, b"%s fetched 0 0 9 1 aa" % name, b"joins", b"joined x", b"joins 999", b"speaks 0"])
         return b"%d %s %s" % (to, draw.choice([name, b"999", b"zed", b"%d" % (to + PLACES)]), body)
 
     # ---- the end

@@ -274,13 +274,16 @@ class Storm:
         return b"%d %s %s" % (to, name, b" ".join(words))
 
     def batch(self, number):
-        """The lines of the next step of a node: some of those on their way to it, in some order, some of which may come again; ticks; nonsense."""
+        """The lines of the next step of a node: some of those on their way to it, in some order, some of which may come again; ticks and greetings; nonsense."""
         draw, way, lines = self.draw, self.ways[number], []
         for _ in range(min(len(way), draw.randint(1, self.lines_of_a_step))):
             place = int(draw.random() * min(len(way), 3 * self.lines_of_a_step))
             lines.append(way[place] if draw.random() < self.weather.repeated else way.pop(place))
-        if draw.random() < 0.15:
+        chance = draw.random()
+        if chance < 0.15:
             lines.append(b"%d %d tick" % (number, number))
+        elif chance > 0.97:
+            lines.append(b"%d %d greet" % (number, number))
         if draw.random() < self.weather.nonsense:
             lines.append(draw.choice([b"", b"x", b"%d" % number, b"%d 0" % number, b"9 9 tick", b"%d 99 tick" % number, b"\x00\xff"]))
         given = b"\n".join(lines) + b"\n" if lines else b""

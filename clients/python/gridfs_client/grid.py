@@ -1,8 +1,8 @@
 """How the nodes of a grid are arranged, and whether it goes on without those that are silent."""
 
 import math
-from collections.abc import Iterable
-from dataclasses import dataclass
+from collections.abc import Iterable, Mapping
+from dataclasses import dataclass, field
 
 from .answers import PlanTold
 
@@ -61,11 +61,12 @@ def listed(things: Iterable[object]) -> str:
 
 @dataclass(frozen=True)
 class Nodes:
-    """The nodes of a grid with those that are silent, and how they are arranged, if that is said."""
+    """The nodes of a grid with those that are silent, how they are arranged, if that is said, and which forms of lines between nodes some told."""
 
     told: PlanTold
     silent: frozenset[int]
     said: Shape | None = None
+    forms: Mapping[int, int] = field(default_factory=dict)
 
     @property
     def shape(self) -> Shape | None:
@@ -75,6 +76,24 @@ class Nodes:
     @property
     def silent_places(self) -> set[int]:
         return {place for place in range(self.told.nodes) if self.told.node_at(place) in self.silent}
+
+    def form_of(self, node: int) -> int | None:
+        """The form of lines that a node told; None where it is silent, or told none."""
+        return None if node in self.silent else self.forms.get(node)
+
+    def of_before(self) -> list[str]:
+        """Where nodes that answer speak different forms of lines: those that don't speak the latest one, a line for each form."""
+        by_form: dict[int, list[int]] = {}
+        for node in sorted(map(self.told.node_at, range(self.told.nodes))):
+            form = self.form_of(node)
+            if form is not None:
+                by_form.setdefault(form, []).append(node)
+        latest = max(by_form, default=0)
+        return [
+            f"node{'s' * (len(nodes) > 1)} {listed(nodes)} speak{'s' * (len(nodes) == 1)} form {form} of lines, others form {latest}: {'its' if len(nodes) == 1 else 'their'} program is of before"
+            for form, nodes in sorted(by_form.items())
+            if form < latest
+        ]
 
     def goes_on(self) -> bool | None:
         """Whether a row and a column are wholly up; None where that depends on the arrangement, which is not known."""

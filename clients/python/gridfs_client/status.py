@@ -7,7 +7,7 @@ from .usage import Usage
 
 
 def nodes_value(nodes: Nodes) -> dict[str, Any]:
-    """The nodes, for JSON. What depends on how they are arranged is null where that is not known."""
+    """The nodes, for JSON. What depends on how they are arranged is null where that is not known, and so is the form of lines that a node speaks."""
     told, shape, silent = nodes.told, nodes.shape, nodes.silent_places
     return {
         "nodes": [
@@ -16,6 +16,7 @@ def nodes_value(nodes: Nodes) -> dict[str, Any]:
                 "row": place // shape.columns if shape else None,
                 "column": place % shape.columns if shape else None,
                 "answers": place not in silent,
+                "form": nodes.form_of(told.node_at(place)),
             }
             for place in range(told.nodes)
         ],
@@ -67,7 +68,7 @@ def nodes_lines(nodes: Nodes) -> list[str]:
         lines = [f"grid: {shape.rows} by {shape.columns}{taken}", *picture(nodes, shape)]
     else:
         lines = [f"grid: {told.nodes} nodes; how they are arranged is not said (--grid)"]
-    lines.append(nodes.summary())
+    lines += [nodes.summary(), *nodes.of_before()]
     if shape:
         lines.append(f"wholly up: {counted('row', shape.rows_up(silent))}, {counted('column', shape.columns_up(silent))}")
     homes = ((session, told.home_of(session)) for session in range(1, told.sessions + 1))

@@ -14,6 +14,7 @@ from gridfs_grid.tenant import PLACES
 
 READ = 65_536  # bytes of one read; a line may take several
 MOST_WAITING = 1 << 22  # bytes that may wait for one node, or some of the longest lines
+GREET_FIRST, GREET = 3, 60  # seconds from a node's first line, when links are up, until it is to tell the others which forms of lines it speaks, and to the next time
 PATIENCE = 5  # seconds that a node has to end by itself
 # For a node's C library, as deploy/carrier/node.c has it: what a large content took is kept for the next one.
 KEEP_MEMORY = {"GLIBC_TUNABLES": "glibc.malloc.mmap_threshold=8388608:glibc.malloc.trim_threshold=67108864"}
@@ -50,6 +51,7 @@ class Node:
     def __init__(self, program, number, plan, journal):
         self.program, self.number, self.plan, self.journal = program, number, plan, journal
         self.child, self.is_ready = None, False
+        self.greet_due = 0  # once it is ready
         self.waiting, self.begun = bytearray(), Lines()
 
     def start(self, is_new=False, env=None, **more):
@@ -139,7 +141,7 @@ class Carrier:
             return
         for line in lines:
             if line == b" ?":  # a node's first line, to nobody
-                node.is_ready = True
+                node.is_ready, node.greet_due = True, time.monotonic() + GREET_FIRST
             elif line[:1].isdigit():
                 self.send(line)
             else:
@@ -153,9 +155,18 @@ class Carrier:
                 if node.child and node.is_ready and not node.waiting:
                     self.send(b"%d %d tick" % (node.number, node.number))
 
+    def give_greets(self):
+        """Has nodes tell the others which forms of lines they speak: again and again, since lines are lost, and nodes are started again."""
+        now = time.monotonic()
+        for node in self.nodes:
+            if node.child and node.is_ready and now >= node.greet_due:
+                self.send(b"%d %d greet" % (node.number, node.number))
+                node.greet_due = now + GREET
+
     def turn(self, seconds, more=None):
         """Carries what can be read and written now, or waits for it so long. Whether there is something to read of one file more."""
         self.give_ticks()
+        self.give_greets()
         up = [node for node in self.nodes if node.child]
         wanted = {node.child.stdout: node for node in up}
         waited = {node.child.stdin: node for node in up if node.waiting}

@@ -82,9 +82,9 @@ class Nodes:
 
     def hear(self, body):
         """Takes what a node told a tenant, where it says which nodes there are."""
-        if not re.fullmatch(rb"plan [1-9][0-9]*(?: [0-9]+){4}(?: [0-9]+\.[0-9]+)*(?: [0-9]+)*", body):
+        if not re.fullmatch(rb"plan [1-9][0-9]*(?: [0-9]+){4}(?: [0-9]+\.[0-9]+)*(?: [0-9]+)*(?: [a-z]+=\S*)*", body):
             return
-        words = body.split(b" ")
+        words = [word for word in body.split(b" ") if b"=" not in word]  # (what nodes tell besides has names)
         del self.standing[int(words[1]) :]
         for node in (int(word) for word in words[6:] if b"." not in word):
             place = node % PLACES

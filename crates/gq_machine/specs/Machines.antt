@@ -1,8 +1,10 @@
 -- What a contract sees of a node's machine: its node's tables go on as `gq_parts` says.
-use Rattle.std.specs.Prelude.{◌≡◌, List, ℕ, Bool, true}
+use Rattle.std.specs.Prelude.{◌≡◌, List, ℕ, ◌*◌, Bool, true, not, ◌&&◌, ◌==◌, nat_lt, Option, None, slice_index_or}
 use Rattle.std.specs.List.{list_all}
 use Rattle.gq_keeper.specs.Plans.{are_facts}
 use Rattle.gq_keeper.specs.Starting.{RecallsAll}
+use Rattle.gq_replace.specs.Plans.{place_of, node_at}
+use Rattle.gq_node.specs.Sites.{plan_in}
 use Rattle.gq_node.specs.Tables.{Tables}
 use Rattle.gq_parts.specs.Recalls.{RecallsTo, reads_line}
 use Rattle.gq_parts.specs.Resting.{IsBlank, HasFirst, Rests}
@@ -16,6 +18,14 @@ use Rattle.gq_machine.specs.declared.machine.NodeMachine.{NodeMachine}
 -- its node's tables
 abbrev pub tables_of : NodeMachine → Tables
 tables_of m = m.node.tables
+
+-- whether the node's plan has the node of that number, and it is another
+abbrev pub is_other : Tables → (node : ℕ) → Bool
+is_other w node = nat_lt (place_of node) (w.plan.grid.rows * w.plan.grid.cols) && node_at (plan_in w.here.lost) (place_of node) == node && not (node == w.here.node)
+
+-- the form of lines that the node at the place told last, if it told one
+abbrev pub form_at : NodeMachine → (place : ℕ) → Option ℕ
+form_at m place = slice_index_or m.forms place None
 
 -- its step on a line, and what a line of an earlier run does to it
 abbrev pub MachineSteps : NodeMachine → List ℕ → List (List ℕ) → List ℕ → NodeMachine → Type 0

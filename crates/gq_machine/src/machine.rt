@@ -1,6 +1,6 @@
 //! The machine of a node.
 
-ghost use Rattle.std.specs.Prelude.{◌≡◌, ◌<◌, ◌++◌, [], ◌∷◌, false, length, map, OnOk, IfSome, All};
+ghost use Rattle.std.specs.Prelude.{◌≡◌, ◌≢◌, ℕ, ◌<◌, ◌++◌, [], ◌∷◌, true, false, length, map, Some, None, OnOk, IfSome, All};
 ghost use Rattle.std.specs.List.{flat_map};
 ghost use Rattle.std.specs.Option.{option_to_list};
 ghost use Rattle.gq_tag.specs.Tag.{own_message, file_place};
@@ -9,25 +9,31 @@ ghost use Rattle.gq_journal.specs.Batches.{lines_text};
 ghost use Rattle.gq_node.specs.Inputs.{Asked, AskedPlan, Brought, Ticked, Looked, Fetching, Fetched as WasFetched};
 ghost use Rattle.gq_node.specs.Joining.{hears_joined};
 ghost use Rattle.gq_node.specs.Recalling.{tenant_of};
-ghost use Rattle.gq_node.specs.Sites.{session_at};
+ghost use Rattle.gq_grid.specs.declared.TheConstants.{MOST_SERVERS};
+ghost use Rattle.gq_replace.specs.Plans.{node_at, place_of as node_place};
+ghost use Rattle.gq_node.specs.Sites.{session_at, plan_in};
 ghost use Rattle.gq_node.specs.Tables.{AllStand, LeadsAll};
 ghost use Rattle.gq_wire.specs.declared.incoming.Incoming.TheVariants.{Tick};
 ghost use Rattle.gq_wire.specs.Incoming.{FitsPlan};
 ghost use Rattle.gq_facts.specs.Facts.{fact_text};
 ghost use Rattle.gq_facts.specs.Laws.{FitsFact};
 ghost use Rattle.gq_parts.specs.Inputs.{session_ticks, ticks_of};
-ghost use Rattle.gq_parts.specs.Texts.{answer_text, sent_line, transfer_text, step_text, joins_text, joined_text};
+ghost use Rattle.gq_parts.specs.Texts.{answer_text, sent_line, transfer_text, step_text, joins_text, joined_text, greeting_at, greeting_text};
 ghost use Rattle.gq_parts.specs.Steps.{AskedToJoin, fact_lines, HasAddress, IsOfPlan, IsOfTenant, goes_home, going_home, going_by_lines, Appended, TookHop, TookOwn, PutAll, TookOf, TookAll, TookIncoming, some_lacks, all_lacked};
 
 use crate::ranges::{fact_fits, plan_is_sound};
 use gq_facts::{put_fact, read_fact};
+use gq_grid::MOST_SERVERS;
 use gq_keeper::{Fault, Lasting, Machine, Unread};
 use gq_memory::{GrowVec, OutOfMemory};
 use gq_model::Line;
-use gq_node::{Answer, Ended, Fact, NeedRefused, Node, Output, Transfer};
+use gq_node::{Answer, Ended, Fact, NeedRefused, Node, Output, Transfer, place_of};
 use gq_parts::laws::MOST_HOPS;
 use gq_tag::{Body, FileId, Message, StoredCopy};
-use gq_wire::{Incoming, put_joined, put_joins, put_letter, put_told, put_transfer, read_incoming};
+use gq_wire::{
+    Incoming, LINE_FORM, put_joined, put_joins, put_letter, put_speaks, put_told, put_transfer,
+    read_incoming,
+};
 use std::alloc::Global;
 
 /// A node that takes lines. After an `Err` of any call it is given up: a part of what a step gives may have been appended, and where
@@ -36,6 +42,8 @@ use std::alloc::Global;
 pub struct NodeMachine {
     alloc: Global,
     node: Node,
+    // for each place the form of lines that the node there told last, if it told one
+    forms: [Option<u32>; MOST_SERVERS],
     /// How many lines of a journal it read.
     pub facts: u64,
 }
@@ -47,16 +55,18 @@ fn no_memory(ended: Ended) -> OutOfMemory {
 }
 
 impl NodeMachine {
-    ghost use Rattle.gq_machine.specs.Machines.{tables_of};
+    ghost use Rattle.gq_machine.specs.Machines.{tables_of, form_at, is_other};
 
     /// The machine of a node, which read no line yet.
     pub fn new(alloc: Global, node: Node) -> NodeMachine
         ensures node { tables_of result ≡ node.tables }
+        ensures forms { (place : ℕ) → place < MOST_SERVERS → form_at result place ≡ None }
         ensures facts { result.facts ≡ 0 }
     {
         NodeMachine {
             alloc,
             node,
+            forms: [None; MOST_SERVERS],
             facts: 0,
         }
     }
@@ -554,6 +564,67 @@ impl NodeMachine {
         self.node.hear_joined(from, losses).map_err(no_memory)
     }
 
+    // Appends which forms of lines this node speaks, to the node that stands at the place, if that is another.
+    fn greet_at(&self, place: usize, told: &mut Vec<u8>) -> Result<(), OutOfMemory>
+        requires { place < MOST_SERVERS }
+        ensures { OnOk result (told.new.items ≡ told.old.items ++ greeting_at self.now.node.tables.plan self.now.node.tables.here place) }
+    {
+        let node = self.node.lost().node_at(place);
+        if node == self.node.number() {
+            return Ok(());
+        }
+        Ok(put_speaks(told, node, self.node.number(), LINE_FORM)?)
+    }
+
+    // Appends which forms of lines this node speaks, to each other node of its plan.
+    fn greet(&self, told: &mut Vec<u8>) -> Result<(), OutOfMemory>
+        ensures { OnOk result (told.new.items ≡ told.old.items ++ greeting_text self.now.node.tables.plan self.now.node.tables.here) }
+    {
+        let servers = self.node.plan().grid().servers();
+        for place in 0..servers {
+            self.greet_at(place, told)?;
+        }
+        Ok(())
+    }
+
+    // Whether the plan has a node of that number, which is another than this.
+    fn is_other(&self, node: u16) -> bool
+        ensures { result ≡ is_other (tables_of self.now) node }
+    {
+        let place = place_of(node) as usize;
+        place < self.node.plan().grid().servers()
+            && self.node.lost().node_at(place) == node
+            && node != self.node.number()
+    }
+
+    // The node of that number tells that it speaks all forms of lines up to this one.
+    fn speaks(&mut self, from: u16, form: u32)
+        ensures told { is_other (tables_of self.old) from ≡ true → form_at self.new (node_place from) ≡ Some form }
+        ensures others { (place : ℕ) → place ≢ node_place from → form_at self.new place ≡ form_at self.old place }
+        ensures strange { is_other (tables_of self.old) from ≡ false → self.new ≡ self.old }
+        ensures node { self.new.node ≡ self.old.node }
+    {
+        if self.is_other(from) {
+            self.forms[place_of(from) as usize] = Some(form);
+        }
+    }
+
+    /// The form of lines that the node at the place told last, if it told one.
+    pub fn form_at(&self, place: usize) -> Option<u32>
+        requires { place < MOST_SERVERS }
+        ensures { result ≡ form_at self.now place }
+    {
+        self.forms[place]
+    }
+
+    /// The number of the node that stands at the place.
+    pub fn node_at(&self, place: usize) -> u16
+        requires { place < MOST_SERVERS }
+        ensures { result ≡ node_at (plan_in (tables_of self.now).here.lost) place }
+    {
+        self.node.lost().node_at(place)
+    }
+
     // Takes what came.
     fn take_incoming(
         &mut self,
@@ -571,11 +642,16 @@ impl NodeMachine {
             Incoming::Letter { from, message } => self.letter(*from, message, facts, told),
             Incoming::Joins { from, losses } => self.asked_to_join(*from, *losses, told),
             Incoming::Joined { from, losses } => self.joined(*from, *losses),
+            Incoming::Speaks { from, form } => {
+                self.speaks(*from, *form);
+                Ok(())
+            }
             Incoming::Fetch { from, file } => self.fetch(*from, *file, facts, told),
             Incoming::Fetched { from, file, copy } => {
                 self.fetched(*from, *file, copy, facts, told)
             }
             Incoming::Tick => self.tick(facts, told),
+            Incoming::Greet => self.greet(told),
             Incoming::Nothing => Ok(()),
         }
     }

@@ -11,7 +11,7 @@ use Rattle.gq_node.specs.Local.{Local}
 use Rattle.gq_node.specs.Sites.{Here, Site, site_of}
 use Rattle.gq_node.specs.Tables.{fact_of, transfer_of}
 use Rattle.gq_wire.specs.declared.incoming.Incoming.{Incoming}
-use Rattle.gq_wire.specs.declared.incoming.Incoming.TheVariants.{Request, Plan as AsksPlan, Bad, Letter, Joins, Joined, Fetch, Fetched, Tick, Nothing}
+use Rattle.gq_wire.specs.declared.incoming.Incoming.TheVariants.{Request, Plan as AsksPlan, Bad, Letter, Joins, Joined, Speaks, Fetch, Fetched, Tick, Greet, Nothing}
 use Rattle.gq_parts.specs.declared.laws.TheConstants.{MOST_HOPS}
 use Rattle.gq_parts.specs.Alike.{AreAlike, DoSame, AllWriteSame}
 use Rattle.gq_parts.specs.Inputs.{asked_in}
@@ -132,8 +132,10 @@ node_text_same plan here (Bad tenant) one two alike = refl
 node_text_same plan here (Letter from m) one two alike = refl
 node_text_same plan here (Joins from losses) one two alike = refl
 node_text_same plan here (Joined from losses) one two alike = refl
+node_text_same plan here (Speaks from form) one two alike = refl
 node_text_same plan here (Fetch from file) one two alike = refl
 node_text_same plan here (Fetched from file copy) one two alike = refl
+node_text_same plan here Greet one two alike = refl
 node_text_same plan here Nothing one two alike = refl
 node_text_same plan here Tick one two alike = elim (cases_Bool (lacks_some plan two)) [
   | inr none ↦ (let also : lacks_some plan one ≡ false = lacks_same plan here one two alike ∙ none in rw (also, none) refl)

@@ -25,7 +25,7 @@ use Rattle.gq_node.proofs.Recalling.{all_behind}
 use Rattle.gq_node.proofs.Using.{recall_volumes}
 use Rattle.gq_node.proofs.Volumes.{all_volumes_open}
 use Rattle.gq_wire.specs.declared.incoming.Incoming.{Incoming}
-use Rattle.gq_wire.specs.declared.incoming.Incoming.TheVariants.{Request, Plan as AsksPlan, Bad, Letter, Joins, Joined, Fetch, Fetched, Tick, Nothing}
+use Rattle.gq_wire.specs.declared.incoming.Incoming.TheVariants.{Request, Plan as AsksPlan, Bad, Letter, Joins, Joined, Speaks, Fetch, Fetched, Tick, Greet, Nothing}
 use Rattle.gq_wire.specs.Incoming.{incoming_of}
 use Rattle.gq_parts.specs.Alike.{AreAlike}
 use Rattle.gq_parts.specs.AllNodes.{first_in, GridPlans, here_in, volumes_in, plans_of, world_with, world_at, HasNode, AreSound, AllNodes, Happening, Took, Starts, Renews, StartsBy, first_of, IsStarted, TakesStep, TakesStart, TakesNewJournal, Stays, Happens, AllHappen, came_events, events_of, events_from, all_events, nodes_at, InputsCanCome, IncomingCanCome, HappeningCanCome, LinesCanCome, start_in, HasAlike, TellsAt, TellsAll, fleet_steps, cluster_steps, row_for, IsOneRegister, AllByLaw, AllFollowLaw, AllStepsHappen, AllStartsHappen, AllRenewalsHappen}
@@ -136,9 +136,11 @@ after_came g p n t nodes (Joins from losses) plan = by (tells_joined from losses
     by true = record { local = refl; facts = sym (append-nil (nodes.facts n)); others = λ m other. (refl, refl); plans = λ m. record { begun = refl; first_plan = refl; last_plan = refl } }
     by false = record { local = refl; facts = sym (append-nil (nodes.facts n)); others = λ m other. (refl, refl); plans = λ m. record { begun = refl; first_plan = refl; last_plan = refl } }
 after_came g p n t nodes (Joined from losses) plan = after_inputs (world_at g t) p n nodes (all_taken g p n t nodes (Joined from losses)) plan
+after_came g p n t nodes (Speaks from form) plan = after_inputs (world_at g t) p n nodes (all_taken g p n t nodes (Speaks from form)) plan
 after_came g p n t nodes (Fetch from file) plan = after_inputs (world_at g t) p n nodes (all_taken g p n t nodes (Fetch from file)) plan
 after_came g p n t nodes (Fetched from file copy) plan = after_inputs (world_at g t) p n nodes (all_taken g p n t nodes (Fetched from file copy)) plan
 after_came g p n t nodes Tick plan = after_inputs (world_at g t) p n nodes (all_taken g p n t nodes Tick) plan
+after_came g p n t nodes Greet plan = after_inputs (world_at g t) p n nodes (all_taken g p n t nodes Greet) plan
 after_came g p n t nodes Nothing plan = after_inputs (world_at g t) p n nodes (all_taken g p n t nodes Nothing) plan
 
 -- ---- more happenings
@@ -628,9 +630,11 @@ came_can g p n t nodes (Bad tenant) can = some_can g p n t nodes (Bad tenant) ca
 came_can g p n t nodes (Letter from m) can = some_can g p n t nodes (Letter from m) can
 came_can g p n t nodes (Joins from losses) can = (can, tt)
 came_can g p n t nodes (Joined from losses) can = some_can g p n t nodes (Joined from losses) can
+came_can g p n t nodes (Speaks from form) can = some_can g p n t nodes (Speaks from form) can
 came_can g p n t nodes (Fetch from file) can = some_can g p n t nodes (Fetch from file) can
 came_can g p n t nodes (Fetched from file copy) can = some_can g p n t nodes (Fetched from file copy) can
 came_can g p n t nodes Tick can = some_can g p n t nodes Tick can
+came_can g p n t nodes Greet can = some_can g p n t nodes Greet can
 came_can g p n t nodes Nothing can = some_can g p n t nodes Nothing can
 
 of_happening : (g : GridPlans) (t : ℕ) (nodes : Nodes) (h : Happening) → HappeningCanCome g t nodes h → AllCanCome (world_at g t) nodes (events_of g t nodes h)

@@ -2,7 +2,7 @@
 use Rattle.std.proofs.Common.{◌≡◌, ◌∙◌, ℕ, ◌<◌, Bool, true, false, List, [], ◌∷◌, ◌++◌, length, refl, sym, ap, subst}
 use Rattle.std.specs.Prelude.{All, filter}
 use Rattle.gq_wire.specs.declared.incoming.Incoming.{Incoming}
-use Rattle.gq_wire.specs.declared.incoming.Incoming.TheVariants.{Request, Plan, Bad, Letter, Joins, Joined, Fetch, Fetched, Tick, Nothing}
+use Rattle.gq_wire.specs.declared.incoming.Incoming.TheVariants.{Request, Plan, Bad, Letter, Joins, Joined, Speaks, Fetch, Fetched, Tick, Greet, Nothing}
 use Rattle.gq_wire.specs.Incoming.{incoming_of}
 use Rattle.gq_desk.specs.CheckedPlan.{CheckedPlan}
 use Rattle.gq_keeper.specs.Runs.{lines_of}
@@ -80,9 +80,11 @@ others_none plan here t (Bad tenant) is = rw is refl
 others_none plan here t (Letter from m) is = rw is refl
 others_none plan here t (Joins from losses) is = absurd (cc)
 others_none plan here t (Joined from losses) is = absurd (cc)
+others_none plan here t (Speaks from form) is = absurd (cc)
 others_none plan here t (Fetch from file) is = rw is refl
 others_none plan here t (Fetched from file copy) is = rw is refl
 others_none plan here t Tick is = absurd (cc)
+others_none plan here t Greet is = absurd (cc)
 others_none plan here t Nothing is = absurd (cc)
 
 more_inputs : (plan : CheckedPlan) (here : Here) (t : ℕ) (line : List ℕ) (lines : List (List ℕ)) (b : Bool) → is_line_for plan here t line ≡ b →

@@ -8,7 +8,7 @@ use Rattle.gq_model.specs.declared.events.Line.TheVariants.{Bad as NoLine}
 use Rattle.gq_node.specs.Inputs.{Input, Asked, AskedPlan, Brought, Ticked, Looked, Joined as HeardJoined, Fetching, Fetched as WasFetched}
 use Rattle.gq_node.specs.Sites.{Here, session_at}
 use Rattle.gq_wire.specs.declared.incoming.Incoming.{Incoming}
-use Rattle.gq_wire.specs.declared.incoming.Incoming.TheVariants.{Request, Plan, Bad, Letter, Joins, Joined, Fetch, Fetched, Tick, Nothing}
+use Rattle.gq_wire.specs.declared.incoming.Incoming.TheVariants.{Request, Plan, Bad, Letter, Joins, Joined, Speaks, Fetch, Fetched, Tick, Greet, Nothing}
 use Rattle.gq_wire.specs.Incoming.{incoming_of}
 
 -- one input of that tenant, and none of any other
@@ -23,7 +23,7 @@ abbrev pub ticks_of : CheckedPlan → Here → ℕ → List Input
 ticks_of plan here t = session_ticks plan here t ++ Looked ∷ []
 
 -- The inputs of the tenant at place t. A line without form is a request that none is. That a node has joined is told to each tenant's part; that one asks
--- whether it has is answered by the node, and is no tenant's.
+-- whether it has is answered by the node, and is no tenant's. Nor is the form of lines that a node speaks.
 abbrev pub inputs_of : CheckedPlan → Here → Incoming → ℕ → List Input
 inputs_of plan here (Request tenant op line) t = alone tenant (Asked op line) t
 inputs_of plan here (Plan tenant) t = alone tenant AskedPlan t
@@ -31,9 +31,11 @@ inputs_of plan here (Bad tenant) t = alone tenant (Asked 0 NoLine) t
 inputs_of plan here (Letter from m) t = alone m.tenant (Brought from (own_message m)) t
 inputs_of plan here (Joins from losses) t = []
 inputs_of plan here (Joined from losses) t = HeardJoined from losses ∷ []
+inputs_of plan here (Speaks from form) t = []
 inputs_of plan here (Fetch from file) t = alone file.tenant (Fetching from (file_place file)) t
 inputs_of plan here (Fetched from file copy) t = alone file.tenant (WasFetched from (file_place file) copy) t
 inputs_of plan here Tick t = ticks_of plan here t
+inputs_of plan here Greet t = []
 inputs_of plan here Nothing t = []
 
 -- whether the tenant at place t has to do with it: it is of this tenant, or of none

@@ -1,5 +1,5 @@
 -- What a node writes for a tenant, and what it must not forget, by what comes to the tenant's part.
-use Rattle.std.specs.Prelude.{ℕ, List, [], ◌∷◌, ◌++◌, length, map, Bool, nat_lt, Option, Some, None, option_map, if◌then◌else◌}
+use Rattle.std.specs.Prelude.{ℕ, List, [], ◌∷◌, ◌++◌, length, map, Bool, ◌*◌, ◌==◌, nat_lt, Option, Some, None, option_map, if◌then◌else◌}
 use Rattle.std.specs.List.{flat_map, range_with_len, list_any}
 use Rattle.std.specs.Option.{option_to_list}
 use Rattle.gq_tag.specs.declared.Message.{Message}
@@ -13,12 +13,14 @@ use Rattle.gq_node.specs.Inputs.{Input, does, after_all, doings}
 use Rattle.gq_node.specs.Local.{Local, Doing}
 use Rattle.gq_node.specs.declared.output.Transfer.{Transfer}
 use Rattle.gq_node.specs.Joining.{tells_joined, awaited, lacked_files}
-use Rattle.gq_node.specs.Sites.{Here, Site, site_of, address_of}
+use Rattle.gq_replace.specs.Plans.{node_at}
+use Rattle.gq_node.specs.Sites.{Here, Site, site_of, plan_in, address_of}
 use Rattle.gq_node.specs.Tables.{fact_of, transfer_of}
 use Rattle.gq_wire.specs.declared.incoming.Incoming.{Incoming}
-use Rattle.gq_wire.specs.declared.incoming.Incoming.TheVariants.{Joins, Tick}
+use Rattle.gq_wire.specs.declared.incoming.TheConstants.{LINE_FORM}
+use Rattle.gq_wire.specs.declared.incoming.Incoming.TheVariants.{Joins, Tick, Greet}
 use Rattle.gq_wire.specs.Incoming.{incoming_of}
-use Rattle.gq_wire.specs.Texts.{told_line, letter_line, transfer_line, joins_line, joined_line}
+use Rattle.gq_wire.specs.Texts.{told_line, letter_line, transfer_line, joins_line, joined_line, speaks_line}
 use Rattle.gq_parts.specs.Inputs.{asked_in}
 use Rattle.gq_parts.specs.Within.{others_of, within, left, taken, after_taken}
 
@@ -108,11 +110,19 @@ joins_text plan here nodes = flat_map (λ node. joins_line node here.node (lengt
 abbrev pub joined_text : CheckedPlan → Here → (from losses : ℕ) → List ℕ
 joined_text plan here from losses = if tells_joined from losses (site_of plan here 0) then joined_line from here.node losses else []
 
+-- which forms of lines it speaks, to the node that stands at the place, if that is another; and to those at all places, one after another
+abbrev pub greeting_at : CheckedPlan → Here → (place : ℕ) → List ℕ
+greeting_at plan here place = if node_at (plan_in here.lost) place == here.node then [] else speaks_line (node_at (plan_in here.lost) place) here.node LINE_FORM
+
+abbrev pub greeting_text : CheckedPlan → Here → List ℕ
+greeting_text plan here = flat_map (greeting_at plan here) (range_with_len 0 (plan.grid.rows * plan.grid.cols))
+
 -- What it writes behind what it writes for the tenants, whose parts are these then: at a tick, while its server lacks a file, the question to the nodes
--- that have not joined; and the answer to such a question.
+-- that have not joined; the answer to such a question; and where it is to greet, which forms of lines it speaks.
 abbrev pub node_text : CheckedPlan → Here → Incoming → (parts : ℕ → Local) → List ℕ
 node_text plan here Tick parts = if lacks_some plan parts then joins_text plan here (awaited (site_of plan here 0) (parts 0).joined) else []
 node_text plan here (Joins from losses) parts = joined_text plan here from losses
+node_text plan here Greet parts = greeting_text plan here
 node_text plan here _ parts = []
 
 abbrev pub line_text_of : CheckedPlan → Here → List ℕ → (parts : ℕ → Local) → List ℕ

@@ -1,6 +1,7 @@
 //! The standard streams of a node's process.
 
 use crate::fault::NodeFault;
+use gq_wire::LINE_FORM;
 use std::io::Eprint;
 use std::os::fd::AsFd;
 
@@ -18,6 +19,9 @@ pub trait Console {
 
     /// The server of the node of this number lacked files, and has all now.
     fn has_all(&self, number: u16);
+
+    /// To the node of this number the other one told that it speaks all forms of lines between nodes up to this one.
+    fn speaks(&self, number: u16, other: u16, form: u32);
 }
 
 /// The standard streams themselves, of a node whose journal has this path.
@@ -76,5 +80,11 @@ impl<I: AsFd + Drop, O: AsFd + Drop, E: AsFd + Eprint + Drop> Console for Standa
 
     fn has_all(&self, number: u16) {
         let _ = eprintln!(self.errors; "gridfs: node {number}: has all files");
+    }
+
+    fn speaks(&self, number: u16, other: u16, form: u32) {
+        let _ = eprintln!(self.errors;
+            "gridfs: node {number}: node {other} speaks form {form} of lines, this one form {LINE_FORM}"
+        );
     }
 }

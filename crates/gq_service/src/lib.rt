@@ -4,7 +4,6 @@
 
 mod console;
 mod fault;
-mod filling;
 mod finding;
 mod forms;
 pub mod laws;
@@ -15,6 +14,7 @@ mod place;
 mod promise;
 mod running;
 mod serving;
+mod telling;
 mod this_node;
 
 pub use console::{Console, Standard};

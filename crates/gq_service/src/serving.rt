@@ -17,10 +17,10 @@ ghost use Rattle.gq_service.specs.Serving.{IsNewFor, IsStarted, IsDurable, MayBe
 
 use crate::console::Console;
 use crate::fault::NodeFault;
-use crate::filling::Filling;
 use crate::forms::form_of;
 use crate::mismatch::mismatch_of;
 use crate::new_node::new_node;
+use crate::telling::Telling;
 use crate::this_node::ThisNode;
 use gq_keeper::{Disk, Output, Plan, Started, first_plan, renew, serve, start};
 use gq_machine::NodeMachine;
@@ -204,7 +204,7 @@ fn serve_machine<D: Disk, I: Read, O: Output, C: Console>(
     drop(journal);
     let lacked = machine.lacked();
     tell_ready(console, node, machine.facts, lacked);
-    let mut filling = Filling::new(console, node.number, lacked > 0);
+    let mut telling = Telling::new(console, node.number, lacked > 0);
     let longest = longest_line(node.plan.setup().plan());
     serve(
         alloc,
@@ -214,7 +214,7 @@ fn serve_machine<D: Disk, I: Read, O: Output, C: Console>(
         input,
         disk,
         out,
-        &mut filling,
+        &mut telling,
         number,
     )?;
     Ok(())

@@ -89,7 +89,7 @@ letter_back plan to from m fits =
       fits.in_round,
     ) (ap Some (same_message plan to from m fits))
 
--- a letter's line has more words than a tick's
+-- a letter's line has more words than a tick's, or than that which asks for a greeting
 pub no_tick : (here from : ℕ) → (from == here && false) ≡ false
 no_tick here from = by (from == here)
   where
@@ -125,6 +125,7 @@ from_back plan to from m is fits =
       no_tick to from,
       no_number (codes "joins") (row_at plan m.tenant).name (decimal m.session) (decimal m.op) (decimal m.round ∷ decimal m.file.volume ∷ decimal m.file.file ∷ body_words m.body),
       no_number (codes "joined") (row_at plan m.tenant).name (decimal m.session) (decimal m.op) (decimal m.round ∷ decimal m.file.volume ∷ decimal m.file.file ∷ body_words m.body),
+      no_number (codes "speaks") (row_at plan m.tenant).name (decimal m.session) (decimal m.op) (decimal m.round ∷ decimal m.file.volume ∷ decimal m.file.file ∷ body_words m.body),
       place_back plan m.tenant is fits.tenant,
       none.0,
       none.1,

@@ -14,7 +14,7 @@ use Rattle.gq_text.specs.Input.{◌>>=◌, place_named}
 use Rattle.gq_text.proofs.WordsLemmas.{some_word}
 use Rattle.gq_wire.specs.Incoming.{longest_line}
 use Rattle.gq_wire.specs.declared.incoming.Incoming.{Incoming}
-use Rattle.gq_wire.specs.declared.incoming.Incoming.TheVariants.{Tick, Nothing}
+use Rattle.gq_wire.specs.declared.incoming.Incoming.TheVariants.{Tick, Greet, Nothing}
 use Rattle.gq_wire.specs.Values.{number_then, within_byte, byte_then, long_then, last_content, copy_of, alone}
 use Rattle.gq_wire.specs.Requests.{write_by, read_by, list_by, line_by, request_by, request_of}
 use Rattle.gq_node.specs.declared.lost.TheConstants.{NODE_NUMBERS}
@@ -202,7 +202,7 @@ chosen : (b : Bool) (x : Incoming) → is_formless x ≡ true → (is_formless (
 chosen true x is = (is, refl)
 chosen false x is = (refl, is)
 
-no_tick : (b : Bool) (x : Incoming) → is_formless x ≡ true → is_formless (cond (b && false) Tick x) ≡ true
+no_tick : (b : Bool) (x : Incoming) → is_formless x ≡ true → is_formless (cond (b && false) Tick (cond (b && false) Greet x)) ≡ true
 no_tick true x is = is
 no_tick false x is = is
 
@@ -220,12 +220,12 @@ mark_formless here from (Some t) = refl
 node_formless : (plan : CheckedPlan) (here from : ℕ) (words : List Word) → is_formless (node_words plan here from (marked words)) ≡ true
 node_formless plan here from [] = mark_formless here from (place_named plan (63 ∷ []))
 node_formless plan here from (word ∷ words) =
-    rw (number_behind_fails (codes "joins") word words, number_behind_fails (codes "joined") word words) (name_formless here from (place_named plan word) words)
+    rw (number_behind_fails (codes "joins") word words, number_behind_fails (codes "joined") word words, number_behind_fails (codes "speaks") word words) (name_formless here from (place_named plan word) words)
 
 from_formless : (plan : CheckedPlan) (here : ℕ) (from : Option ℕ) (word : Word) (words : List Word) → is_formless (incoming_from plan here from word (marked words)) ≡ true
 from_formless plan here None word words = tenant_formless (place_named plan word) (marked words) (only_fails (codes "plan") refl words) (request_fails words)
 from_formless plan here (Some n) word words =
-    rw (only_fails (codes "tick") refl words) (chosen (nat_lt n NODE_NUMBERS) (cond (n == here && false) Tick (node_words plan here n (marked words))) (no_tick (n == here) (node_words plan here n (marked words)) (node_formless plan here n words))).0
+    rw (only_fails (codes "tick") refl words, only_fails (codes "greet") refl words) (chosen (nat_lt n NODE_NUMBERS) (cond (n == here && false) Tick (cond (n == here && false) Greet (node_words plan here n (marked words)))) (no_tick (n == here) (node_words plan here n (marked words)) (node_formless plan here n words))).0
 
 words_formless : (plan : CheckedPlan) (here : ℕ) (words : List Word) → is_formless (incoming_of_words plan here (marked words)) ≡ true
 unfolding incoming_of_words number_up_to request_of

@@ -15,10 +15,10 @@ use Rattle.gq_text.proofs.Numbers.{numbers_read_back}
 use Rattle.gq_text.proofs.Plain.{is_plain, are_plain, decimal_plain, line_inner}
 use Rattle.gq_text.proofs.LinesBack.{words_back}
 use Rattle.gq_wire.specs.Incoming.{longest_line, from_node, incoming_of_words}
-use Rattle.gq_wire.specs.declared.incoming.Incoming.TheVariants.{Joins, Joined}
+use Rattle.gq_wire.specs.declared.incoming.Incoming.TheVariants.{Joins, Joined, Speaks}
 use Rattle.gq_wire.specs.Fetching.{file_then}
 use Rattle.gq_wire.specs.Texts.{copy_words, transfer_file, transfer_to, transfer_words}
-use Rattle.gq_wire.specs.Laws.{FitsGiven, FitsTransfer, transfer_text, transfer_incoming, TransfersReadBack, AllJoinsReadBack}
+use Rattle.gq_wire.specs.Laws.{FitsGiven, FitsTransfer, transfer_text, transfer_incoming, TransfersReadBack, AllJoinsReadBack, FormsReadBack}
 use Rattle.gq_wire.proofs.ValuesBack.{copy_plain, copy_back, name_at, name_is_plain, place_back}
 use Rattle.gq_wire.proofs.Lengths.{short_number, short_name, one_more, number_more, copy_short, fits_longest}
 use Rattle.gq_wire.proofs.LettersBack.{no_tick, no_number}
@@ -54,6 +54,7 @@ from_back plan from (Wants to file) is fits =
       no_tick to from,
       no_number (codes "joins") (row_at plan file.tenant).name (codes "fetch") (decimal file.volume) (decimal file.file ∷ []),
       no_number (codes "joined") (row_at plan file.tenant).name (codes "fetch") (decimal file.volume) (decimal file.file ∷ []),
+      no_number (codes "speaks") (row_at plan file.tenant).name (codes "fetch") (decimal file.volume) (decimal file.file ∷ []),
       place_back plan file.tenant is fits.tenant,
       file_back file.tenant file [] refl fits.volume fits.file,
     ) refl
@@ -63,6 +64,7 @@ from_back plan from (Brings to file copy) is fits =
       no_tick to from,
       no_number (codes "joins") (row_at plan file.tenant).name (codes "fetched") (decimal file.volume) (decimal file.file ∷ copy_words copy),
       no_number (codes "joined") (row_at plan file.tenant).name (codes "fetched") (decimal file.volume) (decimal file.file ∷ copy_words copy),
+      no_number (codes "speaks") (row_at plan file.tenant).name (codes "fetched") (decimal file.volume) (decimal file.file ∷ copy_words copy),
       place_back plan file.tenant is fits.tenant,
       file_back file.tenant file (copy_words copy) refl fits.volume fits.file,
       copy_back copy fits.given.0,
@@ -101,8 +103,8 @@ transfers_read_back plan from transfer is fits =
 
 -- ---- whether a plan has the node
 
-losses_short : (plan : CheckedPlan) (to from losses : ℕ) (verb : Word) → length verb ≤ 6 → IsNumber to → from < NODE_NUMBERS → IsNumber losses → length (decimal to ++ spaced (decimal from ∷ verb ∷ decimal losses ∷ [])) ≤ longest_line plan
-losses_short plan to from losses verb few to_fits from_fits fits =
+number_short : (plan : CheckedPlan) (to from losses : ℕ) (verb : Word) → length verb ≤ 6 → IsNumber to → from < NODE_NUMBERS → IsNumber losses → length (decimal to ++ spaced (decimal from ∷ verb ∷ decimal losses ∷ [])) ≤ longest_line plan
+number_short plan to from losses verb few to_fits from_fits fits =
     let behind = one_more verb (decimal losses ∷ []) 6 11 few (number_more losses [] 0 fits (omega arith)) in
     omega (arith, length-append (decimal to) (spaced (decimal from ∷ verb ∷ decimal losses ∷ [])), short_number to to_fits, number_more from (verb ∷ decimal losses ∷ []) 18 (omega (arith, from_fits)) behind)
 
@@ -116,17 +118,30 @@ unfolding incoming_of_words
 joined_back plan to from losses to_fits from_fits fits =
     rw (numbers_read_back to to_fits, eq-eqb to to refl, numbers_read_back from (omega (arith, from_fits)), lt-ltb from NODE_NUMBERS from_fits, no_tick to from, numbers_read_back losses fits) refl
 
-losses_plain : (from losses : ℕ) (verb : Word) → is_plain verb ≡ true → from < NODE_NUMBERS → IsNumber losses → are_plain (decimal from ∷ verb ∷ decimal losses ∷ []) ≡ true
-losses_plain from losses verb plain from_fits fits = rw (decimal_plain from (omega (arith, from_fits)), plain, decimal_plain losses fits) refl
+number_plain : (from losses : ℕ) (verb : Word) → is_plain verb ≡ true → from < NODE_NUMBERS → IsNumber losses → are_plain (decimal from ∷ verb ∷ decimal losses ∷ []) ≡ true
+number_plain from losses verb plain from_fits fits = rw (decimal_plain from (omega (arith, from_fits)), plain, decimal_plain losses fits) refl
 
 pub joins_read_back : AllJoinsReadBack
 joins_read_back plan to from losses to_fits from_fits fits = record {
   asked =
       let line : List ℕ = decimal to ++ spaced (decimal from ∷ codes "joins" ∷ decimal losses ∷ []) in
-      let short : nat_lt (longest_line plan) (length line) ≡ false = le-ltb (longest_line plan) (length line) (losses_short plan to from losses (codes "joins") (omega arith) to_fits from_fits fits) in
-      rw short (ap (incoming_of_words plan to) (words_back (decimal to) (decimal from ∷ codes "joins" ∷ decimal losses ∷ []) (decimal_plain to to_fits) (losses_plain from losses (codes "joins") refl from_fits fits)) ∙ joins_back plan to from losses to_fits from_fits fits);
+      let short : nat_lt (longest_line plan) (length line) ≡ false = le-ltb (longest_line plan) (length line) (number_short plan to from losses (codes "joins") (omega arith) to_fits from_fits fits) in
+      rw short (ap (incoming_of_words plan to) (words_back (decimal to) (decimal from ∷ codes "joins" ∷ decimal losses ∷ []) (decimal_plain to to_fits) (number_plain from losses (codes "joins") refl from_fits fits)) ∙ joins_back plan to from losses to_fits from_fits fits);
   answered =
       let line : List ℕ = decimal to ++ spaced (decimal from ∷ codes "joined" ∷ decimal losses ∷ []) in
-      let short : nat_lt (longest_line plan) (length line) ≡ false = le-ltb (longest_line plan) (length line) (losses_short plan to from losses (codes "joined") (omega arith) to_fits from_fits fits) in
-      rw short (ap (incoming_of_words plan to) (words_back (decimal to) (decimal from ∷ codes "joined" ∷ decimal losses ∷ []) (decimal_plain to to_fits) (losses_plain from losses (codes "joined") refl from_fits fits)) ∙ joined_back plan to from losses to_fits from_fits fits);
+      let short : nat_lt (longest_line plan) (length line) ≡ false = le-ltb (longest_line plan) (length line) (number_short plan to from losses (codes "joined") (omega arith) to_fits from_fits fits) in
+      rw short (ap (incoming_of_words plan to) (words_back (decimal to) (decimal from ∷ codes "joined" ∷ decimal losses ∷ []) (decimal_plain to to_fits) (number_plain from losses (codes "joined") refl from_fits fits)) ∙ joined_back plan to from losses to_fits from_fits fits);
 }
+
+-- ---- the form of lines that a node speaks
+
+speaks_back : (plan : CheckedPlan) (to from form : ℕ) → IsNumber to → from < NODE_NUMBERS → IsNumber form → incoming_of_words plan to (decimal to ∷ decimal from ∷ codes "speaks" ∷ decimal form ∷ []) ≡ Speaks from form
+unfolding incoming_of_words
+speaks_back plan to from form to_fits from_fits fits =
+    rw (numbers_read_back to to_fits, eq-eqb to to refl, numbers_read_back from (omega (arith, from_fits)), lt-ltb from NODE_NUMBERS from_fits, no_tick to from, numbers_read_back form fits) refl
+
+pub forms_read_back : FormsReadBack
+forms_read_back plan to from form to_fits from_fits fits =
+    let line : List ℕ = decimal to ++ spaced (decimal from ∷ codes "speaks" ∷ decimal form ∷ []) in
+    let short : nat_lt (longest_line plan) (length line) ≡ false = le-ltb (longest_line plan) (length line) (number_short plan to from form (codes "speaks") (omega arith) to_fits from_fits fits) in
+    rw short (ap (incoming_of_words plan to) (words_back (decimal to) (decimal from ∷ codes "speaks" ∷ decimal form ∷ []) (decimal_plain to to_fits) (number_plain from form (codes "speaks") refl from_fits fits)) ∙ speaks_back plan to from form to_fits from_fits fits)

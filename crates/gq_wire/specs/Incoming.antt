@@ -13,7 +13,7 @@ use Rattle.gq_text.specs.Words.{Word, words_of, number_of}
 use Rattle.gq_text.specs.Input.{place_named}
 use Rattle.gq_wire.specs.declared.incoming.TheConstants.{MOST_LINE, BESIDE_CONTENT}
 use Rattle.gq_wire.specs.declared.incoming.Incoming.{Incoming}
-use Rattle.gq_wire.specs.declared.incoming.Incoming.TheVariants.{Request, Plan, Bad, Letter, Joins, Joined, Fetch, Fetched, Tick, Nothing}
+use Rattle.gq_wire.specs.declared.incoming.Incoming.TheVariants.{Request, Plan, Bad, Letter, Joins, Joined, Speaks, Fetch, Fetched, Tick, Greet, Nothing}
 use Rattle.gq_wire.specs.Requests.{request_of}
 use Rattle.gq_wire.specs.Letters.{letter_of_words}
 use Rattle.gq_wire.specs.Fetching.{number_behind, fetch_of, fetched_of}
@@ -45,6 +45,11 @@ abbrev pub joined_or : ℕ → Option ℕ → Incoming → Incoming
 joined_or from (Some losses) other = Joined from losses
 joined_or from None other = other
 
+-- a node tells up to which form it speaks all forms of lines between nodes; or else the line is another
+abbrev pub speaks_or : ℕ → Option ℕ → Incoming → Incoming
+speaks_or from (Some form) other = Speaks from form
+speaks_or from None other = other
+
 -- a copy is asked for; one is given; or else the line is another
 abbrev pub fetch_or : ℕ → Option FileId → Incoming → Incoming
 fetch_or from (Some file) other = Fetch from file
@@ -66,14 +71,18 @@ behind_name here from (Some t) words = fetch_or from (fetch_of t words) (fetched
 abbrev pub node_words : CheckedPlan → (here from : ℕ) → List Word → Incoming
 node_words plan here from [] = Nothing
 node_words plan here from (word ∷ words) =
-    joins_or from (number_behind (codes "joins") word words) (joined_or from (number_behind (codes "joined") word words) (behind_name here from (place_named plan word) words))
+    joins_or from (number_behind (codes "joins") word words) (joined_or from (number_behind (codes "joined") word words)
+    (speaks_or from (number_behind (codes "speaks") word words) (behind_name here from (place_named plan word) words)))
 
 abbrev pub is_tick : List Word → Bool
 is_tick body = is_only (codes "tick") body
 
--- from the node of that number, if one may have it; a node's tick is from itself
+abbrev pub is_greet : List Word → Bool
+is_greet body = is_only (codes "greet") body
+
+-- from the node of that number, if one may have it; a node's tick is from itself, and so is the word that it is to greet the others
 abbrev pub from_node : CheckedPlan → (here from : ℕ) → List Word → Incoming
-from_node plan here from body = if nat_lt from NODE_NUMBERS then (if from == here && is_tick body then Tick else node_words plan here from body) else Nothing
+from_node plan here from body = if nat_lt from NODE_NUMBERS then (if from == here && is_tick body then Tick else if from == here && is_greet body then Greet else node_words plan here from body) else Nothing
 
 -- ---- the line
 
@@ -113,7 +122,9 @@ FitsPlan plan (Bad tenant) = tenant < length plan.rows
 FitsPlan plan (Letter from m) = (m.tenant < length plan.rows) × (m.file.tenant ≡ m.tenant)
 FitsPlan plan (Joins from losses) = Unit {0}
 FitsPlan plan (Joined from losses) = Unit {0}
+FitsPlan plan (Speaks from form) = Unit {0}
 FitsPlan plan (Fetch from file) = file.tenant < length plan.rows
 FitsPlan plan (Fetched from file copy) = file.tenant < length plan.rows
 FitsPlan plan Tick = Unit {0}
+FitsPlan plan Greet = Unit {0}
 FitsPlan plan Nothing = Unit {0}

@@ -19,7 +19,7 @@ use Rattle.gq_text.specs.Words.{Word}
 use Rattle.gq_text.specs.AnswerText.{bytes_word, content_word, spaced}
 use Rattle.gq_text.specs.Canonical.{IsPlan, IsNumber}
 use Rattle.gq_wire.specs.declared.incoming.Incoming.{Incoming}
-use Rattle.gq_wire.specs.declared.incoming.Incoming.TheVariants.{Request, Plan, Bad, Letter, Joins, Joined, Fetch, Fetched, Nothing}
+use Rattle.gq_wire.specs.declared.incoming.Incoming.TheVariants.{Request, Plan, Bad, Letter, Joins, Joined, Speaks, Fetch, Fetched, Nothing}
 use Rattle.gq_wire.specs.Values.{copy_of}
 use Rattle.gq_wire.specs.Requests.{request_words}
 use Rattle.gq_wire.specs.Letters.{is_of_round}
@@ -115,6 +115,10 @@ pub record JoinsReadBack (plan : CheckedPlan) (to from losses : ℕ) : Type 0 wh
 
 abbrev pub AllJoinsReadBack : Type 0
 AllJoinsReadBack = (plan : CheckedPlan) (to from losses : ℕ) → IsNumber to → from < NODE_NUMBERS → IsNumber losses → JoinsReadBack plan to from losses
+
+-- and so is the form of lines that a node tells
+abbrev pub FormsReadBack : Type 0
+FormsReadBack = (plan : CheckedPlan) (to from form : ℕ) → IsNumber to → from < NODE_NUMBERS → IsNumber form → incoming_of plan to (decimal to ++ spaced (decimal from ∷ codes "speaks" ∷ decimal form ∷ [])) ≡ Speaks from form
 
 -- ---- requests
 

@@ -19,6 +19,7 @@ use Rattle.gq_node.specs.declared.output.Holding.{Holding}
 use Rattle.gq_node.specs.declared.output.Transfer.{Transfer}
 use Rattle.gq_node.specs.declared.output.Transfer.TheVariants.{Wants, Brings}
 use Rattle.gq_node.specs.declared.output.Answer.TheVariants.{Done, Gone, Refused, Old, Early, Busy, Away, Has, Bad}
+use Rattle.gq_wire.specs.declared.incoming.TheConstants.{LINE_FORM}
 
 -- the first line that a node writes
 abbrev pub first_text : List ℕ
@@ -70,6 +71,16 @@ joins_line to from losses = line_text (decimal to) (decimal from ∷ codes "join
 
 abbrev pub joined_line : (to from losses : ℕ) → List ℕ
 joined_line to from losses = line_text (decimal to) (decimal from ∷ codes "joined" ∷ decimal losses ∷ [])
+
+-- ---- forms
+
+-- a node tells another that it speaks all forms of lines between nodes up to this one
+abbrev pub speaks_line : (to from form : ℕ) → List ℕ
+speaks_line to from form = line_text (decimal to) (decimal from ∷ codes "speaks" ∷ decimal form ∷ [])
+
+-- how a tenant is told the form of this program
+abbrev pub form_word : Word
+form_word = codes "lines=" ++ decimal LINE_FORM
 
 -- ---- a refusal
 
@@ -150,7 +161,7 @@ told_words asked (Old session op last) = codes "refused" ∷ codes "old" ∷ las
 told_words asked (Early session op last) = codes "refused" ∷ codes "early" ∷ last_words session op last
 told_words asked (Busy session op last) = codes "refused" ∷ codes "busy" ∷ last_words session op last
 told_words asked (Away session op home) = codes "refused" ∷ codes "home" ∷ decimal home ∷ decimal session ∷ decimal op ∷ []
-told_words asked (Has has) = codes "plan" ∷ holding_words has
+told_words asked (Has has) = codes "plan" ∷ holding_words has ++ form_word ∷ []
 told_words asked Bad = codes "refused" ∷ codes "bad" ∷ []
 
 -- the line of it, from that node

@@ -3,10 +3,11 @@
 ghost use Rattle.std.specs.Prelude.{◌≡◌, [], ◌∷◌, ◌++◌, ◌<◌, length, map, codes, decimal, OnOk, OnErr};
 ghost use Rattle.std.specs.List.{flat_map};
 ghost use Rattle.gq_desk.specs.CheckedPlan.{row_at};
-ghost use Rattle.gq_text.specs.AnswerText.{line_text, spaced, ended, outcome_words};
+ghost use Rattle.gq_text.specs.AnswerText.{line_text, spaced, outcome_words};
 ghost use Rattle.gq_text.specs.Pieces.{words_in, Extends};
-ghost use Rattle.gq_wire.specs.Texts.{volume_in, file_in, length_in, word_of, refusal_words_of, volume_word, are_alike, run_word, runs_behind, run_words, volumes_words, holding_words, told_words, told_line};
+ghost use Rattle.gq_wire.specs.Texts.{volume_in, file_in, length_in, word_of, refusal_words_of, volume_word, are_alike, run_word, runs_behind, run_words, volumes_words, holding_words, form_word, told_words, told_line};
 
+use crate::incoming::LINE_FORM;
 use gq_desk::{Plan, VolumeRow};
 use gq_memory::{GrowCopies, GrowVec, OutOfMemory};
 use gq_model::{Line, Refusal};
@@ -324,9 +325,18 @@ fn put_nodes(out: &mut Vec<u8>, nodes: &[u16]) -> Result<(), OutOfMemory>
     Ok(())
 }
 
+// Appends the form of lines that the node speaks.
+fn put_form(out: &mut Vec<u8>) -> Result<(), OutOfMemory>
+    ensures ok { OnOk result (out.new.items ≡ out.old.items ++ 32 ∷ form_word) }
+    ensures err { OnErr result (Extends out.old.items out.new.items) }
+{
+    out.grow_by(b" lines=")?;
+    put_number(out, u64::from(LINE_FORM))
+}
+
 // Appends what a tenant has.
 fn put_holding(out: &mut Vec<u8>, holding: &Holding) -> Result<(), OutOfMemory>
-    ensures ok { OnOk result (out.new.items ≡ out.old.items ++ ended (codes "plan" ∷ holding_words holding.now)) }
+    ensures ok { OnOk result (out.new.items ≡ out.old.items ++ spaced (codes "plan" ∷ holding_words holding.now)) }
     ensures err { OnErr result (Extends out.old.items out.new.items) }
 {
     out.grow_by(b" plan")?;
@@ -339,11 +349,10 @@ fn put_holding(out: &mut Vec<u8>, holding: &Holding) -> Result<(), OutOfMemory>
     ];
     put_numbers(out, &numbers)?;
     put_open_volumes(out, holding.volumes.items.as_slice())?;
-    put_nodes(out, holding.nodes.items.as_slice())?;
-    out.grow(b'\n')
+    put_nodes(out, holding.nodes.items.as_slice())
 }
 
-// Appends the line of what a tenant has.
+// Appends the line of what a tenant has, and of the form of lines that the node speaks.
 fn put_has(
     out: &mut Vec<u8>,
     plan: &Plan,
@@ -352,11 +361,13 @@ fn put_has(
     holding: &Holding,
 ) -> Result<(), OutOfMemory>
     requires { tenant < length plan.now.rows }
-    ensures ok { OnOk result (out.new.items ≡ out.old.items ++ line_text (row_at plan.now tenant).name (decimal from ∷ codes "plan" ∷ holding_words holding.now)) }
+    ensures ok { OnOk result (out.new.items ≡ out.old.items ++ line_text (row_at plan.now tenant).name (decimal from ∷ codes "plan" ∷ holding_words holding.now ++ form_word ∷ [])) }
     ensures err { OnErr result (Extends out.old.items out.new.items) }
 {
     put_head(out, plan, from, tenant)?;
-    put_holding(out, holding)
+    put_holding(out, holding)?;
+    put_form(out)?;
+    out.grow(b'\n')
 }
 
 /// Appends the line by which the node of that number tells the tenant this, or a part of it where memory is refused. `asked` is

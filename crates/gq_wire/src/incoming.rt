@@ -4,7 +4,7 @@ ghost use Rattle.std.specs.Prelude.{◌≡◌, ◌*◌, ◌<◌, ◌≤◌, leng
 ghost use Rattle.gq_text.specs.Words.{words_of, words_after, number_of};
 ghost use Rattle.gq_text.specs.Input.{place_named};
 ghost use Rattle.gq_node.specs.declared.lost.TheConstants.{NODE_NUMBERS};
-ghost use Rattle.gq_wire.specs.Incoming.{is_only, is_tick, behind_name, node_words, from_node, from_tenant, incoming_from, incoming_of_words, incoming_of, most_blocks_of, longest_line, FitsPlan};
+ghost use Rattle.gq_wire.specs.Incoming.{is_only, is_tick, is_greet, behind_name, node_words, from_node, from_tenant, incoming_from, incoming_of_words, incoming_of, most_blocks_of, longest_line, FitsPlan};
 
 use crate::fetching::{fetch, fetched, number_behind};
 use crate::letters::letter;
@@ -23,6 +23,10 @@ pub const MOST_LINE: usize = 4095;
 
 /// The most bytes of a line beside the digits of a content that is as long as a file of the plan may be.
 const BESIDE_CONTENT: usize = 255;
+
+/// This program speaks all forms of lines between nodes up to this one. Another number is told to other nodes and to tenants once a form comes
+/// that programs of before can't read.
+pub const LINE_FORM: u32 = 1;
 
 /// What a line is to a node.
 #[derive(Drop)]
@@ -56,6 +60,11 @@ pub enum Incoming {
         from: u16,
         losses: u32,
     },
+    /// The node of this number tells that it speaks all forms of lines between nodes up to this one.
+    Speaks {
+        from: u16,
+        form: u32,
+    },
     /// The node of this number asks for this one's copy of the file.
     Fetch {
         from: u16,
@@ -69,6 +78,8 @@ pub enum Incoming {
     },
     /// A tick.
     Tick,
+    /// The node is to tell the others which forms it speaks.
+    Greet,
     /// It is passed over: it is for another node, from nobody of the plan, too long, or a line between nodes without form.
     Nothing,
 }
@@ -105,7 +116,7 @@ fn behind_name(
     }
 }
 
-// The line from the node of that number, behind its addresses, where it is no tick.
+// The line from the node of that number, behind its addresses, where it is no tick and asks for no greeting.
 fn node_words(
     alloc: Global,
     from: u16,
@@ -124,6 +135,9 @@ fn node_words(
     }
     if let Some(losses) = number_behind(b"joined", word, rest) {
         return Ok(Incoming::Joined { from, losses });
+    }
+    if let Some(form) = number_behind(b"speaks", word, rest) {
+        return Ok(Incoming::Speaks { from, form });
     }
     match plan.find_word(word) {
         Some(tenant) => behind_name(alloc, from, tenant, rest, here),
@@ -148,6 +162,9 @@ fn from_node(
     let from = from as u16;
     if from == here && is_only(text, b"tick") {
         return Ok(Incoming::Tick);
+    }
+    if from == here && is_only(text, b"greet") {
+        return Ok(Incoming::Greet);
     }
     node_words(alloc, from, text, plan, here)
 }

@@ -1,6 +1,6 @@
 //! What is read of the lines that are written.
 
-ghost use Rattle.gq_wire.specs.Laws.{AllJoinsReadBack, CopiesInDigitsReadBack, LettersReadBack, TransfersReadBack, PassesOver, PlansReadBack, RequestsReadBack, TornLinesHaveNoForm, WritesReadBack};
+ghost use Rattle.gq_wire.specs.Laws.{AllJoinsReadBack, CopiesInDigitsReadBack, FormsReadBack, LettersReadBack, TransfersReadBack, PassesOver, PlansReadBack, RequestsReadBack, TornLinesHaveNoForm, WritesReadBack};
 
 /// The line of a letter, up to its newline, is read by the node that it is to as that letter.
 pub fn letters_read_back()
@@ -12,11 +12,12 @@ pub fn copies_in_digits_read_back()
     ensures { CopiesInDigitsReadBack }
 {}
 
-/// The lines between a new node and others are read so by the node that they are to: a line about a file, the question whether a plan has
-/// the node, and its answer.
+/// The other lines between nodes are read so by the node that they are to: those between a new node and others, that is a line about a file, the
+/// question whether a plan has the node, and its answer; and the form of lines that a node tells.
 pub fn transfers_read_back()
     ensures transfers { TransfersReadBack }
     ensures joins { AllJoinsReadBack }
+    ensures forms { FormsReadBack }
 {}
 
 /// The line of a request is read by the node that it is to as that request, with the number of its operation, whether a content is

@@ -5,7 +5,7 @@ ghost use Rattle.std.specs.List.{flat_map};
 ghost use Rattle.gq_text.specs.AnswerText.{line_text};
 ghost use Rattle.gq_text.specs.Pieces.{words_in, Extends};
 ghost use Rattle.gq_node.specs.declared.output.Transfer.TheVariants.{Wants, Brings};
-ghost use Rattle.gq_wire.specs.Texts.{copy_words, headed, letter_line, transfer_file, transfer_line, joins_line, joined_line, first_text};
+ghost use Rattle.gq_wire.specs.Texts.{copy_words, headed, letter_line, transfer_file, transfer_line, joins_line, joined_line, speaks_line, first_text};
 
 use gq_desk::Plan;
 use gq_memory::{GrowCopies, OutOfMemory};
@@ -183,15 +183,15 @@ pub fn put_transfer(
     }
 }
 
-// Appends a line to that node of this word and how many losses a plan tells of.
-fn put_losses(
+// Appends a line to that node of this word and this number.
+fn put_numbered(
     out: &mut Vec<u8>,
     to: u16,
     from: u16,
     word: &[u8],
-    losses: u64,
+    number: u64,
 ) -> Result<(), OutOfMemory>
-    ensures ok { OnOk result (out.new.items ≡ out.old.items ++ line_text (decimal to) (decimal from ∷ word.now ∷ decimal losses ∷ [])) }
+    ensures ok { OnOk result (out.new.items ≡ out.old.items ++ line_text (decimal to) (decimal from ∷ word.now ∷ decimal number ∷ [])) }
     ensures err { OnErr result (Extends out.old.items out.new.items) }
 {
     put_line(
@@ -200,7 +200,7 @@ fn put_losses(
         &[
             Piece::Number(u64::from(from)),
             Piece::Text(word),
-            Piece::Number(losses),
+            Piece::Number(number),
         ],
     )
 }
@@ -211,7 +211,7 @@ pub fn put_joins(out: &mut Vec<u8>, to: u16, from: u16, losses: u64) -> Result<(
     ensures ok { OnOk result (out.new.items ≡ out.old.items ++ joins_line to from losses) }
     ensures err { OnErr result (Extends out.old.items out.new.items) }
 {
-    put_losses(out, to, from, b"joins", losses)
+    put_numbered(out, to, from, b"joins", losses)
 }
 
 /// Appends the line by which the node `from` answers that of the number `to` that its plan has it, and so many losses or more, or a part
@@ -220,5 +220,14 @@ pub fn put_joined(out: &mut Vec<u8>, to: u16, from: u16, losses: u32) -> Result<
     ensures ok { OnOk result (out.new.items ≡ out.old.items ++ joined_line to from losses) }
     ensures err { OnErr result (Extends out.old.items out.new.items) }
 {
-    put_losses(out, to, from, b"joined", u64::from(losses))
+    put_numbered(out, to, from, b"joined", u64::from(losses))
+}
+
+/// Appends the line by which the node `from` tells that of the number `to` that it speaks all forms of lines between nodes up to this one, or
+/// a part of it where memory is refused.
+pub fn put_speaks(out: &mut Vec<u8>, to: u16, from: u16, form: u32) -> Result<(), OutOfMemory>
+    ensures ok { OnOk result (out.new.items ≡ out.old.items ++ speaks_line to from form) }
+    ensures err { OnErr result (Extends out.old.items out.new.items) }
+{
+    put_numbered(out, to, from, b"speaks", u64::from(form))
 }

@@ -1,12 +1,14 @@
 -- One arm for each thing that a line may bring.
-use Rattle.std.proofs.Common.{◌<◌, ◌∷◌, [], length, refl, sym, subst}
+use Rattle.std.proofs.Common.{◌≡◌, ◌<◌, ◌∷◌, [], length, refl, sym, ap, subst}
 use Rattle.gq_tag.specs.Tag.{own_message, file_place}
 use Rattle.gq_model.specs.declared.events.Line.TheVariants.{Bad as NoLine}
 use Rattle.gq_node.specs.Inputs.{Asked, AskedPlan, Brought, Joined as HeardJoined, Fetching, Fetched as WasFetched}
 use Rattle.gq_wire.specs.Incoming.{FitsPlan}
 use Rattle.gq_wire.specs.declared.incoming.Incoming.{Incoming}
-use Rattle.gq_wire.specs.declared.incoming.Incoming.TheVariants.{Request, Plan as AsksPlan, Bad, Letter, Joined, Fetch, Fetched, Nothing}
-use Rattle.gq_parts.specs.Texts.{joined_text}
+use Rattle.gq_wire.specs.declared.incoming.Incoming.TheVariants.{Request, Plan as AsksPlan, Bad, Letter, Joined, Speaks, Fetch, Fetched, Nothing}
+use Rattle.gq_node.specs.Tables.{Tables}
+use Rattle.gq_node.specs.declared.node.Node.{Node}
+use Rattle.gq_parts.specs.Texts.{joined_text, greeting_text}
 use Rattle.gq_parts.specs.Steps.{TookIncoming}
 use Rattle.gq_parts.proofs.Taking.{on_ok, none_took_all, took_alone, all_took, leads_took, joined_silent}
 use Rattle.gq_machine.proofs.machine.NodeMachine.take_incoming.Goals as goal
@@ -71,6 +73,26 @@ returns-in-Joined c =
     let P : Incoming → Type 0 = λ i. TookIncoming w i c.args.facts.now.items c.args.facts.now.items c.args.told.now.items c.args.told.now.items new in
     on_ok c.joined.result (λ leads. subst P (sym c.in-Joined.is) (all_took w new (Joined c.in-Joined.from c.in-Joined.losses) _ _ _ _
     (leads_took w new (HeardJoined c.in-Joined.from c.in-Joined.losses) c.args.facts.now.items c.args.told.now.items leads (joined_silent c.in-Joined.from c.in-Joined.losses)) (λ parts. refl))) c.joined.ensures
+
+pub returns-in-Speaks : goal.returns-in-Speaks
+returns-in-Speaks c =
+    let w : Tables = c.args.self.now.node.tables in
+    let new : Tables = c.speaks.new.self.node.tables in
+    let same : new ≡ w = ap (λ (node : Node). node.tables) c.speaks.ensures.node in
+    let P : Incoming → Tables → Type 0 = λ i last. TookIncoming w i c.args.facts.now.items c.args.facts.now.items c.args.told.now.items c.args.told.now.items last in
+    subst (λ i. P i new) (sym c.in-Speaks.is) (subst (P (Speaks c.in-Speaks.from c.in-Speaks.form)) (sym same) (all_took w w (Speaks c.in-Speaks.from c.in-Speaks.form) _ _ _ _ (none_took_all w c.args.facts.now.items c.args.told.now.items) (λ parts. refl)))
+
+pub returns-in-Greet : goal.returns-in-Greet
+returns-in-Greet c =
+    let w : Tables = c.args.self.now.node.tables in
+    let P : Incoming → Type 0 = λ i. TookIncoming w i c.args.facts.now.items c.args.facts.now.items c.args.told.now.items c.greet.new.told.items w in
+    on_ok c.greet.result (λ told. subst P (sym c.in-Greet.is) (record {
+      between = c.args.told.now.items;
+      took = none_took_all w c.args.facts.now.items c.args.told.now.items;
+      own = greeting_text w.plan w.here;
+      told_is = told;
+      own_is = λ parts agree. refl;
+    })) c.greet.ensures
 
 pub returns-in-Fetch : goal.returns-in-Fetch
 returns-in-Fetch c =
