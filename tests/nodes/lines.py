@@ -113,9 +113,9 @@ WIDE = (
     b"cat open 1 1 times 64\ncat open 1 1\ncat open 2 1 times 2\ncat open 1 1 times 4\ncat open 1 2\nreplace 3\n"
 )
 WIDE_LINES = {
-    "wide, what a tenant of 65 volumes has": (b"0 ann plan\n", b"ann 0 plan 4 0 1 200 16 1.1.64 1.2.1 67\n"),
-    "wide, what one of 64 has": (b"0 bob plan\n", b"bob 0 plan 4 1 1 200 16 1.2" + 63 * b" 2.1" + b" 67\n"),
-    "wide, what one of several runs has": (b"0 cat plan\n", b"cat 0 plan 4 2 1 100 16 1.1.65 2.1.2 1.1.4 1.2.1 67\n"),
+    "wide, what a tenant of 65 volumes has": (b"0 ann plan\n", b"ann 0 plan 4 0 1 200 16 1.1.64 1.2.1 67 lines=1\n"),
+    "wide, what one of 64 has": (b"0 bob plan\n", b"bob 0 plan 4 1 1 200 16 1.2" + 63 * b" 2.1" + b" 67 lines=1\n"),
+    "wide, what one of several runs has": (b"0 cat plan\n", b"cat 0 plan 4 2 1 100 16 1.1.65 2.1.2 1.1.4 1.2.1 67 lines=1\n"),
     "wide, a file of the last volume": (b"0 ann read 1 1 64 0\n", b"1 0 ann 1 1 1 64 0 ask\n"),
     "wide, one of none": (b"0 ann read 1 1 65 0\n0 ann read 1 1 64 1\n", b"ann 0 refused novolume 1 1 65\nann 0 refused nofile 1 1 64 1\n"),
     "wide, a line of 4,096 bytes": (filled(4096) + READ, ASK),
