@@ -1,8 +1,8 @@
 -- No place of a shelf is used twice.
-use Rattle.std.proofs.Common.{ℕ, ◌+◌, ◌*◌, ◌^◌, ◌≤◌, List, [], ◌∷◌, arith}
+use Rattle.std.proofs.Common.{ℕ, ◌≤◌, List, [], ◌∷◌, arith}
 use Rattle.gq_shelf.specs.declared.extent.Extent.{Extent}
 use Rattle.gq_shelf.specs.Extents.{begins, ends}
-use Rattle.gq_shelf.specs.Apart.{PutFrom, Behind, Apart, NoPlaceTwice}
+use Rattle.gq_shelf.specs.Apart.{PutFrom, Behind, NoPlaceTwice}
 
 through : (a b c : ℕ) → a ≤ b → b ≤ c → a ≤ c
 through a b c below above = omega arith

@@ -36,16 +36,10 @@ pub struct ShelfPlace {
 pub enum OpenFault {
     /// Memory was wanting.
     Memory,
-    /// The folder or a segment could not be opened.
+    /// The folder could not be read, or its names could not be made sure of.
     Read,
     /// There are segments, and a shelf was to be begun.
     There,
-}
-
-impl From<AllocError> for OpenFault {
-    fn from(_: AllocError) -> OpenFault {
-        OpenFault::Memory
-    }
 }
 
 /// A shelf in files. A segment is begun by the first content that is put after a start, or once the last one is long; none is appended to

@@ -68,7 +68,11 @@ impl Shelf for MemoryShelf {
 
     fn append(&mut self, bytes: &[u8]) -> Result<Extent, ShelfFault> {
         let at = self.bytes.len() as u64;
-        if self.is_broken || self.bytes.grow_by(bytes).is_err() {
+        if self.is_broken {
+            self.notes.is_refused();
+            return Err(ShelfFault::Write);
+        }
+        if self.bytes.grow_by(bytes).is_err() {
             self.is_broken = true;
             self.notes.is_refused();
             return Err(ShelfFault::Memory);

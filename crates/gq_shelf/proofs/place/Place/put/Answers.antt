@@ -1,4 +1,3 @@
-use Rattle.std.proofs.Common.{◌≡◌, ◌∙◌, sym, ap}
 use Rattle.gq_shelf.proofs.Clean.{put_lies, put_goes_on}
 use Rattle.gq_shelf.proofs.place.Place.put.Goals as goal
 

@@ -1,4 +1,4 @@
-use Rattle.std.proofs.Common.{◌≡◌, ◌∙◌, sym, ap}
+use Rattle.std.proofs.Common.{◌∙◌, ap}
 use Rattle.gq_shelf.specs.Places.{content_at}
 use Rattle.gq_shelf.proofs.Clean.{read_lies, read_goes_on}
 use Rattle.gq_shelf.proofs.place.Place.read.Goals as goal
