@@ -7,6 +7,8 @@
    At the end of the process, also where it is killed here or ends by _exit, the calls stand in the file that CALLS names, a letter each:
    w, s, t, r, S for a sync of a folder, o for a write to standard output.
 
+   With NAMES=1 a sync of a folder leaves a file NAME.named beside each of its files that has no dot in its name.
+
    How much of a file is synced stands in the file of its name with .synced behind. What a rename replaces is kept, as with .before behind,
    until the folder is synced; where it replaces nothing, that is marked, by .fresh. So who starts the node again can take away what a
    loss of power would take away. While a rename or the sync of a folder is amid its steps the folder is locked (flock): who has that lock,
@@ -146,6 +148,19 @@ static int lock_beside(const char *path) {
     return lock_of(last ? folder : ".");
 }
 
+/* A crash leaves the names that are in the folder. */
+static void note_names(DIR *folder) {
+    const char *names = getenv("NAMES");
+    if (!names || *names != '1') return;
+    char name[PATH_MAX];
+    for (struct dirent *it; (it = readdir(folder));)
+        if (!strchr(it->d_name, '.')) {
+            beside(name, it->d_name, ".named");
+            close(openat(dirfd(folder), name, O_WRONLY | O_CREAT, 0644));
+        }
+    rewinddir(folder);
+}
+
 /* No rename in the folder can be undone any more, whoever made it. */
 static void note_folder(int file) {
     char path[PATH_MAX];
@@ -153,6 +168,7 @@ static void note_folder(int file) {
     DIR *folder = opendir(path);
     if (!folder) return;
     int lock = lock_of(path);
+    note_names(folder);
     for (struct dirent *it; (it = readdir(folder));)
         if (ends_with(it->d_name, ".before") || ends_with(it->d_name, ".before.synced") || ends_with(it->d_name, ".fresh"))
             unlinkat(dirfd(folder), it->d_name, 0);

@@ -17,4 +17,6 @@ mod pool;
 #[cfg(test)]
 mod post;
 #[cfg(test)]
+mod shelf;
+#[cfg(test)]
 mod store;

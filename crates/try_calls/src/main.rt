@@ -22,6 +22,10 @@
 //! it asks for the order of the operations on a file too, with `shards N` it runs the script in so many shards, with `step`
 //! each line is answered as it comes, and with `live` it runs the programs of a live run and writes the script of that run.
 //!
+//! `shelf FOLDER` does what lines ask with the shelf of that folder: `append CONTENT`, `sync`, `read SEGMENT AT LEN SUM`,
+//! `remove SEGMENT`. It tells each as it is done: `at SEGMENT AT LEN SUM`, `synced`, `read CONTENT`, `removed` or `stays`,
+//! `damaged SEGMENT`, or `fault` and which. With `new` behind it no segment may be there.
+//!
 //! `run` runs a script by one world on the standard streams, and `shards N` in so many shards, also a short one.
 //!
 //! The status is 0, 1 after a fault of the input, of reading or of writing, 2 where the words are none of these, and 3
@@ -35,6 +39,7 @@ mod live;
 mod operations;
 mod play;
 mod records;
+mod shelf;
 mod store;
 mod streams;
 mod texts;
@@ -47,7 +52,7 @@ use gq_runs::{LiveRunFault, ProgramFault};
 use gq_script::{RunFault, Watched, run};
 use gq_shards::run_in_shards;
 use gq_text::PlanText;
-use std::alloc::Global;
+use std::alloc::{AllocError, Global};
 use std::fmt::{Display, Error as FormatError, Formatter, Write as FormatWrite};
 use std::io::{Read, Write};
 use std::process::ExitCode;
@@ -92,6 +97,12 @@ impl Display for Fault {
 
 impl From<OutOfMemory> for Fault {
     fn from(_refused: OutOfMemory) -> Fault {
+        Fault::Memory
+    }
+}
+
+impl From<AllocError> for Fault {
+    fn from(_: AllocError) -> Fault {
         Fault::Memory
     }
 }
@@ -371,6 +382,10 @@ fn live_run_shut<R: Threads + Wait + Sync>(rt: &HostRuntime, threads: &R) -> Res
     live::run_shut(threads, rt.alloc(), input(rt)?.as_slice())
 }
 
+fn use_shelf(rt: &HostRuntime, folder: &str, is_new: bool) -> Result<(), End> {
+    Ok(shelf::make(rt, folder, is_new, input(rt)?.as_slice())?)
+}
+
 fn make_calls(rt: &HostRuntime, part: &str, out: &mut Vec<u8>) -> Result<(), End> {
     Ok(calls::make(rt.alloc(), part, input(rt)?.as_slice(), out)?)
 }
@@ -391,6 +406,8 @@ fn go<R: Threads + Wait + Sync>(
         ("live", []) => live_run(rt, threads, out),
         ("live", [gate]) if gate.as_str() == "shut" => live_run_shut(rt, threads),
         ("calls", [part]) => make_calls(rt, part.as_str(), out),
+        ("shelf", [folder]) => use_shelf(rt, folder.as_str(), false),
+        ("shelf", [folder, new]) if new.as_str() == "new" => use_shelf(rt, folder.as_str(), true),
         ("stream", words) => stream(rt, threads, words, out),
         ("shards", [count]) => shards(rt, threads, number(count)?),
         (way, [most]) => Ok(store::make(rt.alloc(), way, number(most)?, out)?),

@@ -1,0 +1,4 @@
+pub mod Apart
+pub mod Extents
+pub mod Notes
+pub mod Places

@@ -1,0 +1,28 @@
+-- What a content is, whether it is in memory or lies on the shelf.
+use Rattle.std.specs.Prelude.{◌≡◌, ℕ, List, length, Option, Some, None}
+use Rattle.gq_shelf.specs.Notes.{Noted, after_failure}
+use Rattle.gq_shelf.specs.declared.extent.Extent.{Extent}
+use Rattle.gq_shelf.specs.declared.fault.ShelfFault.{ShelfFault}
+use Rattle.gq_shelf.specs.declared.fault.ShelfFault.TheVariants.{Memory}
+use Rattle.gq_shelf.specs.declared.place.Place.{Place}
+use Rattle.gq_shelf.specs.declared.place.Place.TheVariants.{Fresh, Shelved}
+
+-- its bytes, where this is what lies on the shelf
+abbrev pub content_at : (Extent → List ℕ) → Place → List ℕ
+content_at written (Fresh bytes) = bytes
+content_at written (Shelved extent) = written extent
+
+-- how many bytes it has
+abbrev pub long_at : Place → ℕ
+long_at (Fresh bytes) = length bytes
+long_at (Shelved extent) = extent.len
+
+-- what a read that failed says of the notes: one of a content in memory wanted memory, one of another failed there
+abbrev pub ReadFailed : Place → ShelfFault → Noted → Noted → Type 0
+ReadFailed (Fresh bytes) fault old new = (fault ≡ Memory) × (new ≡ old)
+ReadFailed (Shelved extent) fault old new = new ≡ after_failure fault extent old
+
+-- where it lies
+abbrev pub extent_in : Place → Option Extent
+extent_in (Fresh bytes) = None
+extent_in (Shelved extent) = Some extent

@@ -1,0 +1,62 @@
+//! What a shelf does.
+
+ghost use Rattle.std.specs.Prelude.{◌≡◌, ◌+◌, ◌<◌, ◌≤◌, ◌^◌, ℕ, Bool, true, false, length, IfOk, IfErr, OnOk, OnErr};
+ghost use Rattle.gq_shelf.specs.Extents.{Describes, begins, ends, place_of};
+ghost use Rattle.gq_shelf.specs.Notes.{Noted, after_put, after_read, after_failure, after_sync, after_refusal};
+
+use crate::{Extent, ShelfFault};
+use bytes::Bytes;
+
+/// Contents, each written once. Where one was put no other ever is.
+///
+/// What is read is not proved to be what was put: no code can tell. `IsClean` (`specs/Notes.antt`) says of the notes that it was. It only falls, so
+/// who has it at the end has it at each read.
+pub trait Shelf {
+    /// What was put, read, made sure of and refused in this life.
+    ghost noted: { Self → Noted };
+
+    /// All that was put lies before this place, and all that will be put does not.
+    ghost end: { Self → ℕ };
+
+    /// What was put may not be there, since a call was refused. Then nothing more is put or made sure of in this life.
+    ghost is_broken: { Self → Bool };
+
+    /// Puts a content behind all others. Until the next sync a crash may leave a part of it, or nothing.
+    fn append(&mut self, bytes: &[u8]) -> Result<Extent, ShelfFault>
+        requires { length bytes.now < 2 ^ 32 }
+        ensures put { IfOk result (λ extent. noted self.new ≡ after_put extent bytes.now (noted self.old)) }
+        ensures describes { IfOk result (λ extent. Describes extent bytes.now) }
+        ensures apart { IfOk result (λ extent. end self.old ≤ begins extent) }
+        ensures before_end { IfOk result (λ extent. ends extent ≤ end self.new) }
+        ensures end_rises { end self.old ≤ end self.new }
+        ensures was_whole { OnOk result (is_broken self.old ≡ false) }
+        ensures is_whole { OnOk result (is_broken self.new ≡ false) }
+        ensures refused { OnErr result (noted self.new ≡ after_refusal (noted self.old)) }
+        ensures breaks { OnErr result (is_broken self.new ≡ true) };
+
+    /// Makes sure of all contents.
+    fn sync(&mut self) -> Result<(), ShelfFault>
+        ensures sure { OnOk result (noted self.new ≡ after_sync (noted self.old)) }
+        ensures end_stays { end self.new ≡ end self.old }
+        ensures was_whole { OnOk result (is_broken self.old ≡ false) }
+        ensures is_whole { OnOk result (is_broken self.new ≡ false) }
+        ensures refused { OnErr result (noted self.new ≡ after_refusal (noted self.old)) }
+        ensures breaks { OnErr result (is_broken self.new ≡ true) };
+
+    /// The content. Bytes of another number or another sum are damage.
+    fn read(&mut self, extent: &Extent) -> Result<Bytes, ShelfFault>
+        ensures read { IfOk result (λ bytes. noted self.new ≡ after_read extent.now bytes (noted self.old)) }
+        ensures describes { IfOk result (λ bytes. Describes extent.now bytes) }
+        ensures failed { IfErr result (λ fault. noted self.new ≡ after_failure fault extent.now (noted self.old)) }
+        ensures end_stays { end self.new ≡ end self.old }
+        ensures broken_stays { is_broken self.new ≡ is_broken self.old };
+
+    /// Removes the segment with all that lies on it, and says whether it did. That of the greatest number stays: a start goes on behind it, so no
+    /// number comes twice.
+    fn remove(&mut self, segment: u32) -> Result<bool, ShelfFault>
+        ensures below { IfOk result (λ removed. removed ≡ true → place_of (segment + 1) 0 ≤ end self.old) }
+        ensures noted { OnOk result (noted self.new ≡ noted self.old) }
+        ensures refused { OnErr result (noted self.new ≡ after_refusal (noted self.old)) }
+        ensures end_stays { end self.new ≡ end self.old }
+        ensures broken_stays { is_broken self.new ≡ is_broken self.old };
+}
