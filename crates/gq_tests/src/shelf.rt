@@ -17,7 +17,9 @@ fn place(alloc: Global) -> Result<ShelfPlace, Fail> {
 }
 
 fn put<S: Shelf>(rt: &impl Abort, shelf: &mut S, content: &str) -> Extent {
-    match shelf.append(content.as_bytes()) {
+    let bytes = content.as_bytes();
+    assert!(rt; bytes.len() < 100);
+    match shelf.append(bytes) {
         Ok(extent) => extent,
         Err(_) => panic!(rt; "not put"),
     }
