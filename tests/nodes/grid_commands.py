@@ -13,7 +13,7 @@ HERE = os.path.dirname(os.path.abspath(__file__))
 sys.path.insert(0, os.path.join(HERE, "..", "..", "clients", "python"))
 import metrics
 from gridfs_grid.carried import children_of, end_of, free_ports
-from gridfs_grid.carrier import GREET_FIRST
+from gridfs_grid.carrier import GREET
 from gridfs_grid.one_machine import InUse, lock
 
 CLIENT = os.path.join(HERE, "..", "..", "clients", "python", "gridfs-client")
@@ -162,12 +162,13 @@ class Machine:
         self.held("a second start", self.is_refused(), (1, True))
         self.held("what it has changed", {path for path, seen in state_of("grid").items() if before.get(path) != seen}, set())
         self.held("the first one goes on", self.client("read", "0", "1"), (0, "hi"))
-        time.sleep(GREET_FIRST + 2)  # (by then each node has greeted the others)
+        told = lambda: [metrics.read(f"metrics/gridfs-{number}.prom", number) for number in range(4)]
+        forms = lambda: [sorted((labels, value) for (name, labels), value in it.items() if name.endswith("_line_form")) for it in told()]
+        wanted = [[("", 1), *((f'peer="{peer}"', 1) for peer in range(4) if peer != number)] for number in range(4)]
+        wait_for(lambda: forms() == wanted, GREET + SECONDS)  # (a greeting that no link took is told again)
+        self.held("forms of lines", forms(), wanted)
         self.held("SIGINT to a background job", (grid.end(signal.SIGINT), self.is_free()), ((0, False), True))
-        told = [metrics.read(f"metrics/gridfs-{number}.prom", number) for number in range(4)]
-        self.held("metrics", [(it.of("node_ready"), it.of("node_journal_bytes") > 0, it.of("carrier_lines_in_total") > 0) for it in told], [(0, True, True)] * 4)
-        forms = [sorted((labels, value) for (name, labels), value in it.items() if name.endswith("_line_form")) for it in told]
-        self.held("forms of lines", forms, [[("", 1), *((f'peer="{peer}"', 1) for peer in range(4) if peer != number)] for number in range(4)])
+        self.held("metrics", [(it.of("node_ready"), it.of("node_journal_bytes") > 0, it.of("carrier_lines_in_total") > 0) for it in told()], [(0, True, True)] * 4)
 
     def goes_on(self):
         """With a journal that is gone, one that is damaged, and a certificate that ends in five days."""
