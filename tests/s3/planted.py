@@ -59,7 +59,7 @@ BUGS = {
     "rules that were taken back go on": ("test_lifecycle.py Looks.test_put_meanwhile", "expiring.py", "                in_force.pop(bucket)\n", "                pass\n"),
     "what has no time has expired": ("test_lifecycle.py Rules.test_what_stays", "lifecycle.py", "not self.is_enabled or not found.time or not", "not self.is_enabled or not"),
     "what is old by a clock that nobody agrees with goes": ("test_lifecycle.py Looks.test_clock", "expiring.py", "if not self.gateway.clock.is_agreed():", "if False:"),
-    "a bucket has the rules of an earlier one": ("test_lifecycle.py Looks.test_what_was_given", "expiring.py", '"b") != made:', '"b") < 0:'),
+    "a bucket has the rules of an earlier one": ("test_lifecycle.py Looks.test_what_was_given", "given.py", '"b") == made else None', '"b") >= 0 else None'),
     "a removal leaves no marker": ("test_versions.py Versions.test_random", "objects.py", "        if place.is_latest:\n            target", "        if False:\n            target"),
     "a change of tags makes a version the latest": ("test_versions.py Versions.test_what_is_beside", "places.py", 'ORDER.fullmatch(self.values.get("o", ""))', "None"),
     "each version of a key has turns of its own": ("test_versions.py Versions.test_conditional_puts_side_by_side", "store.py", "self.shared.turns.under_way(about or name)", "self.shared.turns.under_way(name)"),
