@@ -16,6 +16,7 @@ SETTINGS = f"{HOME}/.config/gridfs/client.ini"
 WISHES = "ann 100K 10 names 2 commands\ncarol 500K 30 names 2 commands\n"
 BY_HAND = 1  # the node that is set up by hand
 READY = 40  # seconds in which nodes and gateways are there
+GREETED = 90  # seconds in which a node has greeted the others, and its carrier has written metrics since
 CONTENTS = {f"name {number}": f"content {number}\n" * 2000 for number in range(2)}
 # Puts and gets until the file stop is there. Tells how many were done, what failed, and what each name has.
 LOAD = """
@@ -194,12 +195,17 @@ def objects(grid):
 
 def metrics(grid):
     """What the dashboard shows, and what rules name, is told by a node over links or by the gateway."""
-    files = [grid.machines[0].does("cat", "/run/gridfs/0.prom"), grid.desk.does("/usr/bin/python3", "-c", OF_GATEWAY)]
-    told = set(re.findall(r"^# TYPE (\S+) ", "\n".join(files), re.MULTILINE))
     with open(os.path.join(TOP, "deploy", "prometheus", "rules.yml"), encoding="ascii") as file:
         named = set(re.findall(r"expr:.*?\b(gridfs_\w+)", file.read()))
-    unknown = (metrics_shown() | named - ELSEWHERE) - told
-    check(not unknown, f"nobody tells {sorted(unknown)}")
+
+    def unknown():
+        files = [grid.machines[0].does("cat", "/run/gridfs/0.prom"), grid.desk.does("/usr/bin/python3", "-c", OF_GATEWAY)]
+        return (metrics_shown() | named - ELSEWHERE) - set(re.findall(r"^# TYPE (\S+) ", "\n".join(files), re.MULTILINE))
+
+    until = time.monotonic() + GREETED
+    while unknown() and time.monotonic() < until:
+        time.sleep(1)
+    check(not unknown(), f"nobody tells {sorted(unknown())}")
     for name in ("rules.yml", "dashboard.json"):
         grid.desk.does("test", "-s", f"/usr/share/gridfs/{name}")
 
