@@ -8,6 +8,7 @@ mod grow_box;
 mod grow_bytes;
 mod grow_channel;
 mod grow_index_set;
+mod grow_map;
 mod grow_slab;
 mod grow_vec;
 
@@ -42,6 +43,7 @@ pub use grow_box::boxed;
 pub use grow_bytes::{GrowBytes, bytes_of, copied_bytes};
 pub use grow_channel::{channel, channel_of_one, send, sender_copied};
 pub use grow_index_set::{GrowIndexSet, set_copied};
+pub use grow_map::GrowMap;
 pub use grow_slab::GrowSlab;
 pub use grow_vec::{
     GrowCopies, GrowLengths, GrowPlaces, GrowVec, RoomInVec, SortVec, filled, room_for,
