@@ -7,6 +7,7 @@ import subprocess
 import sys
 import time
 import unittest
+import urllib.parse
 import urllib.request
 from pathlib import Path
 from unittest import mock
@@ -20,6 +21,7 @@ SESSIONS = 8  # of carol in the plan
 os.environ |= {"GRIDFS_S3": f"http://127.0.0.1:{endpoint.free_port()}", "GRIDFS_S3_FRONT": "1", "GRIDFS_S3_SEVERAL": "1", "GRIDFS_S3_MOST": "1000000"}
 import botocore.auth
 import test_operations
+from urllib3 import encode_multipart_formdata
 
 
 def setUpModule():
@@ -94,7 +96,16 @@ class Front(test_operations.Case):
             with urllib.request.urlopen(asked) as told:
                 self.assertEqual(told.headers["Access-Control-Allow-Origin"], "https://shop.example")
         one, two = (nginx_conf(Path("/x"), {name: instances_of(name, 4, 1) for name in names}, {"carol": "a", "dave": "b"}, "x") for names in (["carol"], ["carol", "dave"]))
-        self.assertEqual((one.count(":cors$"), two.count(":cors$")), (1, 0))
+        self.assertEqual((one.count(":(cors|form)$"), two.count(":(cors|form)$")), (1, 0))
+
+    def test_forms(self):
+        """They name their tenant in the body alone, unless the URL does so too."""
+        form = self.s3.generate_presigned_post(self.bucket, "posted")
+        content, kind = encode_multipart_formdata([*form["fields"].items(), ("file", ("name", b"x" * 100_000))])
+        for query in ("", f"?{urllib.parse.urlencode({'X-Amz-Credential': form['fields']['x-amz-credential']})}"):
+            with urllib.request.urlopen(urllib.request.Request(form["url"] + query, content, {"Content-Type": kind})) as told:
+                self.assertEqual((told.status, told.headers["Location"]), (204, f"{test_operations.URL}/{self.bucket}/posted"))
+            self.assertEqual(self.get("posted")["Body"].read(), b"x" * 100_000)
 
     def test_expect_that_is_signed(self):
         """nginx has answered it, and does not pass it on."""

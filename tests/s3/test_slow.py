@@ -173,7 +173,7 @@ class Places(unittest.IsolatedAsyncioTestCase):
 
         def asked(access, signature=None):
             found = mock.Mock()
-            found.signed.key.access, found.query = access, {"X-Amz-Signature": signature} if signature else {}
+            found.signed.key.access, found.by_anybody = access, signature or ""
             return found
 
         async def taken(*words):

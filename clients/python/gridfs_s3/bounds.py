@@ -1,4 +1,4 @@
-"""What one connection, one access key, one signed URL and all of them may hold at a time: bytes, seconds and places. What more comes waits, or is refused.
+"""What one connection, one access key, one signed URL or form and all of them may hold at a time: bytes, seconds and places. What more comes waits, or is refused.
 
 A body is taken whole before a session works for it, and an answer is given from where a session has put it. So whoever is slow holds a file, and no session:
 others' requests do not wait for him.
@@ -13,8 +13,6 @@ from contextlib import asynccontextmanager, nullcontext
 from .errors import S3Error
 from .requests import Asked
 
-IN_URL = "X-Amz-Signature"
-
 # Of a connection
 MOST_HEAD = 1 << 17  # bytes of a request's head
 HEAD_PIECE, BODY_PIECE = 1 << 12, 1 << 16  # bytes that are looked at before it is seen how many requests they were
@@ -27,7 +25,7 @@ IN_MEMORY = 1 << 16  # bytes up to which they are held in memory
 LONG = 1 << 20  # bytes from which on they want a place
 IDLE = 60.0  # seconds in which the next bytes have to come, or to be taken
 LEAST_RATE, GRACE = 4_096, 60.0  # bytes a second that have to come, or to be taken, on the whole; and seconds besides
-PLACES, OF_A_KEY, OF_A_URL = 64, 32, 4  # of long ones that are under way: in all, of an access key, of a signed URL
+PLACES, OF_A_KEY, OF_A_URL = 64, 32, 4  # of long ones that are under way: in all, of an access key, of a signed URL or form
 LEFT = 64 << 20  # bytes that the disk keeps free
 IN_HAND = 32  # contents of up to a MiB that are copied, and documents that are read, at a time
 
@@ -45,7 +43,7 @@ class Places:
     @asynccontextmanager
     async def one(self, asked: Asked) -> AsyncIterator[None]:
         async with self.share(f"key {asked.signed.key.access}", OF_A_KEY):
-            async with self.share(f"url {asked.query[IN_URL]}", OF_A_URL) if IN_URL in asked.query else nullcontext(), self.all:
+            async with self.share(f"url {asked.by_anybody}", OF_A_URL) if asked.by_anybody else nullcontext(), self.all:
                 yield
 
     @asynccontextmanager

@@ -35,7 +35,7 @@ http {{
         "~\\|(?<user>[a-z]{{1,16}})(\\.[A-Za-z0-9_-]{{1,40}})?$" $user;
         default "";
     }}
-    # who signs no request is a browser with a form, or one that asks for leave (by the URL of a signed request, or where there is one tenant alone)
+    # who signs no request is a browser with a form, or one that asks for leave: for a tenant that the URL names by ?X-Amz-Credential=, or for the only one here
     map "$request_method $http_origin $content_type" $by_browser {{
         "~^OPTIONS ." cors;
         "~*^POST .*multipart/form-data" form;
@@ -53,12 +53,13 @@ http {{
         error_page 401 = @who;
         error_page 403 = @nobody;
         error_page 402 = @cors;
-        error_page 501 = @form;
+        error_page 405 = @form;
         error_page 502 504 = @away;
         proxy_http_version 1.1;
         proxy_set_header Host $http_host;
         proxy_set_header Connection "";
         proxy_set_header X-Forwarded-For $remote_addr;
+        proxy_set_header X-Forwarded-Proto $scheme;
         # (Expect is answered here, and not passed on; a signature may cover it)
         proxy_set_header X-Front-Expect $http_expect;
         # contents go through as they come: a gateway puts them into a file, once it has judged whose they are. A request is sent once: what a gateway has
@@ -74,7 +75,7 @@ http {{
         proxy_send_timeout 600s;
         location / {{
             set $refused "$gateway $by_browser";
-            if ($refused = " form") {{ return 501; }}
+            if ($refused = " form") {{ return 405; }}
             if ($refused = " cors") {{ return 402; }}
             if ($gateway = "") {{ return 403; }}
             proxy_pass http://$gateway;
@@ -97,7 +98,7 @@ http {{
         }}
         location @form {{
             default_type application/xml;
-            return 501 '<?xml version="1.0" encoding="UTF-8"?>\\n<Error><Code>NotImplemented</Code><Message>Forms are not taken here: put by a signed URL.</Message></Error>';
+            return 403 '<?xml version="1.0" encoding="UTF-8"?>\\n<Error><Code>AccessDenied</Code><Message>No tenant is named: before several, the URL of a form has ?X-Amz-Credential=ACCESS-KEY/ too.</Message></Error>';
         }}
         location @cors {{
             default_type application/xml;
@@ -170,7 +171,7 @@ def nginx_conf(folder: Path, gateways: Mapping[str, Sequence[Instance]], sockets
             upstreams.append(f"    upstream gateway-{each.name} {{ server unix:{sockets[each.name]} max_fails=0; keepalive 32; }}")
         maps.append(f'        "~^{tenant}:" gateway-{tenant};')
         if len(gateways) == 1:
-            maps.append(f'        "~^:.*:cors$" gateway-{tenant};')
+            maps.append(f'        "~^:.*:(cors|form)$" gateway-{tenant};')
         servers = " ".join(f"server unix:{sockets[each.name]} {fails};" for each in found)
         upstreams.append(f"    upstream gateway-{tenant} {{ {servers} keepalive 32; }}")
     return NGINX.format(folder=folder, listen=listen, workers=workers, map="\n".join(maps), upstreams="\n".join(upstreams))

@@ -302,17 +302,20 @@ class Objects(Operations):
         target, body = await self.target_of(asked), body_of(asked)
         if body.told_size > LONGEST_PUT:
             raise S3Error("EntityTooLarge")
-        name = target.name
-        values, condition, algorithm = values_of(asked) | tags.in_headers(asked.headers), await self.gateway.condition_of(asked, name), algorithm_wanted(asked)
+        values, algorithm = values_of(asked) | tags.in_headers(asked.headers), algorithm_wanted(asked)
+        condition = await self.gateway.condition_of(asked, target.name)
         async with self.source_of(asked, body) as source:
-
-            def put(store: Store) -> Held:
-                return store.put_object(name, source, lambda: {**values, **values_by(source, algorithm), **target.values}, condition, target.about)
-
-            await self.gateway.need_bucket(asked.bucket)  # (it may have been removed while the content came)
-            held = await self.gateway.change(name, put, HELPERS if body.told_size >= MANY else 0, condition=condition)
-        found = Object(asked.key, held)
+            found = await self.put(asked, target, source, values, algorithm, condition)
         return answer(headers={"ETag": f'"{found.etag}"', **(found.checksum.headers() if found.checksum else {}), **target.told})
+
+    async def put(self, asked: Asked, target: Target, source: Whole | Spooled, values: Values, algorithm: str, condition: Condition | None = None) -> Object:
+        """Puts a content that is here, with what is kept beside it. The errors of a change."""
+
+        def work(store: Store) -> Held:
+            return store.put_object(target.name, source, lambda: {**values, **values_by(source, algorithm), **target.values}, condition, target.about)
+
+        await self.gateway.need_bucket(asked.bucket)  # (it may have been removed while the content came)
+        return Object(asked.key, await self.gateway.change(target.name, work, HELPERS if source.told_size >= MANY else 0, condition=condition))
 
     async def delete_object(self, asked: Asked) -> web.Response:
         """204, also where there is no such key. In a bucket with versions a marker is put, or that version goes which is named. With If-Match: 412

@@ -56,6 +56,7 @@ class Asked:
         self.operation = "Unknown"
         self.is_expecting = self.headers.get("expect", "").lower() == "100-continue"
         self.signed: signing.Signed
+        self.by_anybody = self.query.get(f"{signing.IN_QUERY}Signature", "")  # the signature of a URL, or of a form, which anybody may have
         self.cors: dict[str, str] = {}  # headers of the answer, for a browser whose page is another host's
         self.elements: Mapping[str, Set[str]] = {}  # that the XML of its body may have, by the element around them
 

@@ -16,6 +16,7 @@ from .copying import Copies
 from .cors import Cors
 from .errors import S3Error, error_of, tell
 from .expiring import Lifecycles
+from .forms import Forms, is_form
 from .gateway import Gateway
 from .given import Given
 from .grids import asked_by
@@ -81,7 +82,7 @@ class Endpoint:
         self.objects = Objects(gateway, self.buckets)
         self.copies = Copies(self.objects)
         self.uploads = Uploads(self.objects, self.copies)
-        self.tagging = Tagging(self.objects, self.copies)
+        self.tagging, self.forms = Tagging(self.objects, self.copies), Forms(self.objects)
         self.given = Given(gateway)
         self.lifecycles, self.cors = Lifecycles(self.buckets, self.given), Cors(gateway, self.given)
         self.page = Page(gateway, self.listings)
@@ -137,11 +138,11 @@ class Endpoint:
         if asked.method == "OPTIONS" and "origin" in asked.headers and asked.bucket:
             asked.operation = "Preflight"
             return await self.cors.ask_for_leave(asked)
-        if not self.is_signed(asked):
-            self.refuse_browsers(asked)
+        if is_form(asked) and not self.is_signed(asked):
+            return await self.put_by_form(asked)
         asked.signed = signing.check(asked.method, asked.path, asked.raw_query, asked.all_headers(), self.gateway.keys)
-        who_asks.set(f"url {asked.signed.signature}" if signing.IN_QUERY + "Signature" in asked.query else f"key {asked.signed.key.access}")
-        if signing.IN_QUERY + "Signature" not in asked.query:
+        self.is_told_who(asked)
+        if not asked.by_anybody:
             self.gateway.clock.is_confirmed()  # (the time of a signed URL may be days ago)
         self.expect_known(asked)
         operation = self.operation_of(asked)
@@ -154,10 +155,21 @@ class Endpoint:
     def is_signed(self, asked: Asked) -> bool:
         return "authorization" in asked.headers or "X-Amz-Signature" in asked.query or "Signature" in asked.query
 
-    def refuse_browsers(self, asked: Asked) -> None:
-        """What only browsers ask, who sign no request: 501 NotImplemented."""
-        if asked.method == "POST" and asked.headers.get("content-type", "").lower().startswith("multipart/form-data"):
-            raise S3Error("NotImplemented", "Forms are not taken here: put by a signed URL.")
+    def is_told_who(self, asked: Asked) -> None:
+        """Whoever asks by one access key, or by one signed URL or form, has a share of the sessions."""
+        who_asks.set(f"url {asked.by_anybody}" if asked.by_anybody else f"key {asked.signed.key.access}")
+
+    async def put_by_form(self, asked: Asked) -> web.StreamResponse:
+        """Who sends a form signs no request: its policy is signed. 403 AccessDenied where that key may not put; the errors of Forms."""
+        asked.operation = "PostObject"
+        form = await self.forms.read(asked)
+        self.is_told_who(asked)
+        self.expect_known(asked)
+        self.expect_headers(asked, {BY})
+        asked.signed.key.expect(asked.bucket, True)
+        if "origin" in asked.headers:
+            asked.cors = await self.cors.headers_for(asked)
+        return await self.forms.post_object(asked, form)
 
     def expect_known(self, asked: Asked) -> None:
         """501 NotImplemented, 400 InvalidArgument, 403 AccessDenied."""
@@ -224,7 +236,7 @@ class Endpoint:
     def change_of(self, asked: Asked) -> Operation:
         """501 NotImplemented, 405 MethodNotAllowed."""
         words = {name for name in asked.query if name not in OF_ANY_URL and not name.startswith(signing.IN_QUERY)}
-        conditions, headers = (CONDITIONS | NEVER_JUDGED) & asked.headers.keys(), {name for name in asked.headers if name.startswith("x-amz-") and not name.startswith("x-amz-meta-")}
+        conditions = (CONDITIONS | NEVER_JUDGED) & asked.headers.keys()
         found = self.changes(asked.method, bool(asked.key))
         if not found:
             raise S3Error("MethodNotAllowed")
@@ -232,11 +244,16 @@ class Endpoint:
             if change.words <= words <= change.words | change.besides and change.is_copy == ("x-amz-copy-source" in asked.headers):
                 if conditions - change.conditions:
                     raise S3Error("NotImplemented", f"The header {min(conditions - change.conditions)} is not judged here.")
-                if unknown := headers - OF_ANY_CHANGE - change.headers:
-                    raise S3Error("NotImplemented", f"The header {min(unknown)} is not taken here.")
+                self.expect_headers(asked, change.headers)
                 asked.elements = change.elements
                 return change.operation
         raise S3Error("NotImplemented", f"There is no {asked.method} with {'?' + '&'.join(sorted(words)) if words else 'these words'} here.")
+
+    def expect_headers(self, asked: Asked, known: Set[str]) -> None:
+        """501 NotImplemented for a header of Amazon's that is neither among these, nor one that any change may have."""
+        headers = {name for name in asked.headers if name.startswith("x-amz-") and not name.startswith("x-amz-meta-")}
+        if unknown := headers - OF_ANY_CHANGE - known:
+            raise S3Error("NotImplemented", f"The header {min(unknown)} is not taken here.")
 
     # Reads
 
