@@ -1,6 +1,7 @@
 """A stand-in for a grid with gateways before it, as tests start them; and clients of theirs."""
 
 import contextlib
+import json
 import os
 import socket
 import subprocess
@@ -88,6 +89,14 @@ class Gateway:
             "s3", endpoint_url=self.url, aws_access_key_id=access, aws_secret_access_key=secret, region_name="us-east-1",
             config=Config(signature_version="s3v4", s3={"addressing_style": "path"}, retries={"max_attempts": 0}, read_timeout=read_timeout),
         )  # fmt: skip
+
+
+def counts(room):
+    """How many requests of carol of each kind a stand-in had since it was asked last."""
+    with socket.socket(socket.AF_UNIX) as made:
+        made.connect(os.path.join(room, "socket"))
+        made.sendall(b"0 counts\n")
+        return json.loads(made.makefile("rb").readline())["carol"]
 
 
 @contextlib.contextmanager

@@ -11,6 +11,7 @@ import hashlib
 import os
 import random
 import sys
+from typing import NamedTuple
 
 sys.path.insert(0, os.path.dirname(os.path.abspath(__file__)))
 import code_of_s3  # noqa: F401  (which says where the code is)
@@ -19,7 +20,7 @@ from bodies_in_memory import Body
 from gridfs_client import ClientError, NoSuchName, Replaced, Unanswered
 from gridfs_s3.errors import S3Error
 from gridfs_s3.places import of_words, upload_name
-from gridfs_s3.shared import Shared
+from gridfs_s3.shared import Shared, SharedWriter
 from gridfs_s3.store import PageFull, Store
 from gridfs_s3.versions import Target
 
@@ -27,8 +28,12 @@ SHAPES = [
     registers.Shape(names=(1, 2), sessions=(2, 3, 4), pages=(1,), slots=(6, 12), kills=(0, 0.002, 0.01), gone=(0,), late=(0.1, 0.02, 0.005), many_sessions=(0.5, 0.9)),
     registers.Shape(names=(1, 2), sessions=(3, 4), pages=(1,), slots=(8,), kills=(0, 0.005), gone=(0,), many_sessions=(0.7,), unanswered=(0.01, 0.03)),
     registers.Shape(names=(1,), sessions=(2, 3), pages=(1,), slots=(8,), kills=(0.01,), gone=(0,), late=(0.02, 0.005), many_sessions=(1,), unanswered=(0, 0.02)),
+    registers.Shape(names=(2, 3), sessions=(2, 3), pages=(1, 2), slots=(6, 9), sizes=(45, 150, 250), kills=(0, 0.01), gone=(0,), late=(0.1, 0.005), many_sessions=(0.5, 1), unanswered=(0, 0.01)),
 ]
 ALONE = 2  # in the last shape there is one gateway at a time, which has all sessions: it settles a page before its first change
+
+
+SharedWriter.most_buckets = 1  # (what a gateway forgets of its pages, where there are many)
 
 
 class WentBack(Exception):
@@ -38,7 +43,7 @@ class WentBack(Exception):
 class Objects:
     """Puts, gets, removals and listings by any session of a gateway, as histories ask for them."""
 
-    many_pieces, times = 2, {}
+    many_pieces, times, digests = 2, {}, {}  # (digests: of contents, by what their ETags show of them)
 
     def __init__(self, session, layout, helpers, team):
         shared = Shared()
@@ -58,8 +63,9 @@ class Objects:
         if not self.is_settled and len(self.stores) == self.stores[0].layout.sessions:
             self.is_settled = True
             for store in self.stores:
-                with contextlib.suppress(Unanswered):
-                    store.settle(0)
+                for page in range(store.layout.pages):
+                    with contextlib.suppress(Unanswered):
+                        store.settle(page)
 
     def changed(self, work):
         self.settle()
@@ -78,7 +84,9 @@ class Objects:
 
     def put(self, name, content):
         content = content if isinstance(content, bytes) else content.read()
-        values = {"s": hashlib.sha256(content).hexdigest()}
+        digest = hashlib.sha256(content).hexdigest()
+        values = {"s": digest, "m": digest[:32]}
+        Objects.digests[digest[:32]] = digest
         kind = self.draw.choice(("whole", "whole", "whole", "in parts", "other words"))
         if kind == "in parts":
             self.changed(lambda store: self.put_in_parts(store, name, content, values))
@@ -134,7 +142,14 @@ class Objects:
             Objects.times[held.name] = held.version, time
 
     def names(self):
-        return [Entry(held) for held in self.store().all()]
+        """By the index, as a gateway's listings: after a look at all pages, but where this has all sessions, and nothing that others wrote comes into a page."""
+        store = self.store()
+        if not all(each.writer.has_settled_all() for each in self.stores) or len(self.stores) < store.layout.sessions:
+            store.look_at(range(store.layout.pages_volumes))
+        rows = store.shared.index.names("")
+        if self.draw.random() < 0.5:
+            return [Entry(row.key, Objects.digests[row.etag]) for row in rows if row.etag in Objects.digests]
+        return [Entry(held.name, of_words(held.words).get("s")) for held in self.store().all()]
 
     def sweep(self):
         pass
@@ -144,10 +159,9 @@ class Objects:
             store.close()
 
 
-class Entry:
-    def __init__(self, held):
-        self.name = held.name
-        self.sha256 = of_words(held.words).get("s")
+class Entry(NamedTuple):
+    name: str
+    sha256: str | None
 
 
 def absent(name):

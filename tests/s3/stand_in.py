@@ -4,10 +4,12 @@
     stand_in.py PLAN FOLDER
 
 It opens FOLDER/socket and writes NAME.ini for each tenant, as `./grid` does. Nothing is kept, and nothing is lost. At SIGHUP it reads the plan again, and tenants have the
-volumes of that.
+volumes of that. A line `0 counts` is told how many requests of each kind came since the last one.
 """
 
 import asyncio
+import collections
+import json
 import os
 import re
 import signal
@@ -18,6 +20,7 @@ class Tenant:
     def __init__(self, sessions, share, most):
         self.sessions, self.share, self.most = sessions, share, most
         self.volumes, self.files, self.last, self.told = [], {}, {}, {}
+        self.counts = collections.Counter()
 
     def plan(self):
         return f"plan 1 0 {self.sessions} {self.share} {self.most} " + " ".join(f"{files}.{blocks}" for files, blocks in self.volumes)
@@ -40,6 +43,7 @@ def answer(tenant, body):
         return tenant.plan()
     kind, session, operation, *rest = words
     session, operation = int(session), int(operation)
+    tenant.counts[kind] += 1
     last = tenant.last.get(session, 0)
     if not 1 <= session <= tenant.sessions:
         return f"refused nosession {session} {operation}"
@@ -84,6 +88,11 @@ async def main(plan, folder):
 
     async def serve(reader, writer):
         while line := await reader.readline():
+            if line == b"0 counts\n":
+                writer.write(json.dumps({name: dict(tenant.counts) for name, tenant in tenants.items()}).encode() + b"\n")
+                for tenant in tenants.values():
+                    tenant.counts.clear()
+                continue
             to, name, body = line.decode().rstrip("\n").split(" ", 2)
             if to == "0" and name in tenants and re.match("[a-z]", body) and (told := answer(tenants[name], body)):
                 writer.write(f"{name} 0 {told}\n".encode())

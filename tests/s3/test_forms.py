@@ -22,8 +22,9 @@ from code_of_s3 import TOP
 from botocore.auth import S3SigV4Auth
 from botocore.awsrequest import AWSRequest
 from botocore.credentials import Credentials
-from gridfs_client.contents import Inline
-from gridfs_client.core import Version
+from gridfs_client.answers import Tag
+from gridfs_client.contents import Inline, digest_of
+from gridfs_client.core import Known, Line, Page, Version
 from gridfs_client.buckets import Held
 from gridfs_client.errors import Damaged
 from gridfs_client.pages import check_words
@@ -32,9 +33,10 @@ from gridfs_s3.bodies import Body
 from gridfs_s3.copying import range_to_copy
 from gridfs_s3.errors import S3Error
 from gridfs_s3.front import instances_of, make_keys
+from gridfs_s3.index import Few, Index
 from gridfs_s3.keys import BadKeys, Key, parse_keys, read_keys
-from gridfs_s3.listing import Cut
-from gridfs_s3.places import Object, Part, check_bucket, name_of, object_of, of_words, parts_of, to_words, words_of
+from gridfs_s3.listing import Cut, latest_of
+from gridfs_s3.places import KEYS, Object, Part, check_bucket, name_of, of_words, parts_of, to_words, words_of
 from gridfs_s3.requests import Asked, http_date, judge, range_of, range_wanted, seconds_of_date
 from gridfs_s3.sessions import Pool
 from gridfs_s3.shared import Turns
@@ -69,9 +71,9 @@ class Places(Case):
                 name = name_of(bucket, key)
                 self.assertEqual(seen.setdefault(name, (bucket, key)), (bucket, key))
                 it = held(name, {"k": key} if name.startswith(".s3/key/") else {})
-                self.assertEqual(object_of(bucket, it).key, key)
+                self.assertEqual([row.key for row in Cut(Few([it]), bucket, "", "", "", 9, latest_of).rows], [key])
                 for other in buckets - {bucket}:
-                    self.assertIsNone(object_of(other, it))
+                    self.assertEqual(Cut(Few([it]), other, "", "", "", 9, latest_of).rows, [])
         self.fails("KeyTooLongError", name_of, "one", "x" * 1_025)
         self.fails("InvalidURI", name_of, "one", "\udc80")
 
@@ -299,25 +301,33 @@ class Requests(Case):
 
     def test_cuts(self):
         keys = sorted(["a/1", "a/2", "b", "c/1", "ü", "a", "a/"], key=str.encode)
-        every = [Object(key, held(f"b/{key}")) for key in keys]
+        every = [held(f"b/{key}") for key in [*keys, "x"] if not key.endswith("/") and key != "x"] + [held(f"{KEYS}b/{digest_of(b'a/')}", {"k": "a/"})]
+        every += [held("a/a"), held("b.c/a"), held("c/a"), held(".s3/bucket/b")]
+        index = Index()
+        index.keep(3, 1, Known(Tag(5, 1), Page(tuple(Line(each.name, 5, each.content, each.words) for each in every), (), 5)))
+        for names in (Few(every), index):
 
-        def told(**words):
-            cut = Cut(every, *({"prefix": "", "delimiter": "", "after": "", "most": 1_000} | words).values())
-            return [each.key for each in cut.rows], cut.groups, cut.is_cut
+            def told(names=names, **words):
+                cut = Cut(names, "b", *({"prefix": "", "delimiter": "", "after": "", "most": 1_000} | words).values(), latest_of)
+                return [each.key for each in cut.rows], cut.groups, cut.is_cut
 
-        self.assertEqual(told(), (keys, [], False))
-        self.assertEqual(told(delimiter="/"), (["a", "b", "ü"], ["a/", "c/"], False))
-        self.assertEqual(told(delimiter="/", after="a/", most=1), (["b"], [], True))
-        self.assertEqual(told(delimiter="/", after="a/1"), (["b", "ü"], ["c/"], False))
-        self.assertEqual(told(most=0), ([], [], False))
-        for size in (1, 2, 3):
-            found, after = [], ""
-            while True:
-                cut = Cut(every, "", "/", after, size)
-                found, after = found + [each.key for each in cut.rows] + cut.groups, cut.last
-                if not cut.is_cut:
-                    break
-            self.assertEqual(sorted(found), ["a", "a/", "b", "c/", "ü"])
+            self.assertEqual(told(), (keys, [], False))
+            self.assertEqual(told(prefix="a"), (["a", "a/", "a/1", "a/2"], [], False))
+            self.assertEqual(told(delimiter="/"), (["a", "b", "ü"], ["a/", "c/"], False))
+            self.assertEqual(told(delimiter="/", after="a/", most=1), (["b"], [], True))
+            self.assertEqual(told(delimiter="/", after="a/1"), (["b", "ü"], ["c/"], False))
+            self.assertEqual(told(most=0), ([], [], False))
+            self.assertEqual(told(most=7), (keys, [], False))
+            for size in (1, 2, 3):
+                found, after = [], ""
+                while True:
+                    cut = Cut(names, "b", "", "/", after, size, latest_of)
+                    found, after = found + [each.key for each in cut.rows] + cut.groups, cut.last
+                    if not cut.is_cut:
+                        break
+                self.assertEqual(sorted(found), ["a", "a/", "b", "c/", "ü"])
+            self.assertEqual((names.total("b/"), names.has_any("b.c/"), names.has_any("b.d/")), ((7, 14), True, False))
+            self.assertEqual([row.key for row in names.names(".s3/bucket/")], [".s3/bucket/b"])
 
 
 class Stream:

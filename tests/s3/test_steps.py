@@ -254,6 +254,30 @@ class Steps(unittest.TestCase):
         self.assertEqual(told[True], {(b"new", True), (b"dea", False)})
         self.assertIn((b"dea", True), told[False])
 
+    def test_settled_while_it_is_changed(self):
+        """A page that is settled is so at each step of a change, too, and no more once a write of it got no answer."""
+        for failing in range(1, 12):
+            memory, seen = fresh(), []
+
+            def at_step(step):
+                if mine:
+                    seen.append(list(mine[0].settled))
+                    if len(seen) == failing:
+                        raise Unanswered
+
+            mine = []
+            objects = client(memory, 1, at_step)
+            objects.settle(0)
+            mine.append(objects)
+            before = len(memory.pending)
+            try:
+                put(objects, NAME, b"new")
+            except Unanswered:
+                pass
+            self.assertEqual(seen, [[0]] * len(seen))
+            is_lost = any(write.place[0] in (0, 1) and write.place[1] >= 2 for write in memory.pending[before:])
+            self.assertEqual(list(objects.settled), [] if is_lost else [0], failing)
+
     def test_completion_that_is_refused(self):
         """The parts stay where they are, and nothing else takes their slots."""
         memory = fresh()

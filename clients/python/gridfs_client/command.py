@@ -9,7 +9,7 @@ import time
 from collections.abc import Callable, Iterator
 from concurrent.futures import ThreadPoolExecutor
 from contextlib import AbstractContextManager, closing, contextmanager
-from dataclasses import replace
+from dataclasses import asdict, replace
 from functools import cached_property, partial
 from typing import IO, Any, TypeVar
 
@@ -276,7 +276,7 @@ def get(opened: Opened | OpenedFleet, args: argparse.Namespace) -> None:
 
 def told_of(entry: Entry) -> dict[str, object]:
     """An entry, with words where there are any."""
-    return {key: value for key, value in vars(entry).items() if key != "words" or value}
+    return {key: value for key, value in asdict(entry).items() if key != "words" or value}
 
 
 def line_of(entry: Entry) -> str:

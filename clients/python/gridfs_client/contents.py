@@ -1,6 +1,7 @@
 """Contents: what a line says of what its name holds, and the text of it."""
 
 import base64
+import binascii
 import hashlib
 import re
 from collections.abc import Iterable, Iterator
@@ -19,8 +20,11 @@ def to_base64(content: bytes) -> str:
     return base64.urlsafe_b64encode(content).decode().rstrip("=")
 
 
+URLSAFE = str.maketrans("-_", "+/")
+
+
 def from_base64(text: str) -> bytes:
-    return base64.urlsafe_b64decode(text + "=" * (-len(text) % 4))
+    return binascii.a2b_base64(text.translate(URLSAFE) + "=" * (-len(text) % 4))
 
 
 def digest_of(content: bytes) -> str:
@@ -58,6 +62,8 @@ class Strand:
 
 def parse_strand(text: str) -> Strand:
     session, runs = text.split(":")
+    if runs.isdecimal():
+        return Strand(int(session), (int(runs),))
     ends = [[int(number) for number in run.split("-")] for run in runs.split(",")]
     return Strand(int(session), tuple(slot for run in ends for slot in range(run[0], run[-1] + 1)))
 
@@ -147,18 +153,15 @@ def parse_part(text: str) -> InSlots:
     return InSlots(int(size), digest, int(put), tuple(map(parse_strand, strands.split(";"))))
 
 
-def parse_content(text: str) -> Content | None:
-    """The content that a line says, None for a removal; a ValueError for what is neither."""
-    found = CONTENT.fullmatch(text)
-    if not found:
-        raise ValueError(text)
-    inline, parts = found.groups()
+def content_of(inline: str | None, parts: str | None) -> Content | None:
+    """The content that is told by what `CONTENT` found."""
     if inline is not None:
         return Inline(from_base64(inline))
     if parts is None:
         return None
-    each = tuple(map(parse_part, parts.split("&")))
-    return each[0] if len(each) == 1 else Joined(each)
+    if "&" not in parts:
+        return parse_part(parts)
+    return Joined(tuple(map(parse_part, parts.split("&"))))
 
 
 def parts_of(contents: Iterable[Content | None]) -> Iterator[InSlots]:

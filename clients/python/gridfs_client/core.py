@@ -346,7 +346,7 @@ def going(client: Knows, but: str | None = None, keeps: Keeps = keeps_none) -> G
     but those of names that it `keeps`."""
     others = for_change(client)
     own = others.pop(client.session)
-    shown = owned_greatest(others, client.grid)
+    shown = owned_greatest(others, {line.name for line in own.lines}, client.grid)
     found = Going()
     for line in own.lines:
         if line.name == but:
@@ -361,11 +361,13 @@ def going(client: Knows, but: str | None = None, keeps: Keeps = keeps_none) -> G
     return found
 
 
-def owned_greatest(pages: dict[int, Page], grid: str = "") -> dict[str, tuple[Version, int]]:
-    """Of each name the greatest version that is shown, and the session whose page shows it."""
+def owned_greatest(pages: dict[int, Page], names: Collection[str], grid: str = "") -> dict[str, tuple[Version, int]]:
+    """Of each of these names the greatest version that is shown, and the session whose page shows it."""
     found: dict[str, tuple[Version, int]] = {}
     for session, page in pages.items():
         for line in page.lines:
+            if line.name not in names:
+                continue
             here = (version_of(line, session, grid), session)
             found[line.name] = max(here, found.get(line.name, here))
     return found

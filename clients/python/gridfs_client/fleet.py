@@ -16,7 +16,7 @@ from .errors import BadName, BadSettings, ClientError, Damaged, NoRoom, NoSuchNa
 from .fleet_map import FleetMap
 from .layout import Layout
 from .listing import Listing
-from .names import Entry, Listed, NamedFiles, Swept, copied_whole, entry_of, no_words
+from .names import Entry, Listed, NamedFiles, Swept, copied_whole, entry_of, listed_of, no_words
 from .pages import check_name, check_words, text_of
 from .streams import Source
 from .ways import Found, Ground, Opens, Walk, slice_of
@@ -228,7 +228,7 @@ class FleetFiles:
         while grids := sorted(listing.wanted):
             listing.looked(dict(zip(grids, self.side_by_side(self.all_buckets, grids))))
             moments.append(time.time())
-        entries = [Listed(**vars(entry_of(told.held)), seen_from=moments[told.first - 1], seen_to=moments[told.last]) for told in listing.told()]
+        entries = [listed_of(told.held, moments[told.first - 1], moments[told.last]) for told in listing.told()]
         return Names(entries, listing.silent)
 
     def all_buckets(self, grid: str) -> "Sequence[Knows] | ClientError":

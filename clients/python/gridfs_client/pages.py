@@ -14,7 +14,7 @@ import re
 import unicodedata
 from collections.abc import Iterable
 
-from .contents import CONTENT, parse_content
+from .contents import CONTENT, content_of
 from .core import Copied, Line, Page, Signpost
 from .errors import BadName, Damaged
 
@@ -77,9 +77,9 @@ def parse_line(text: str) -> Line:
     found = LINE.fullmatch(text)
     if not found:
         raise ValueError(text)
-    version, grid, session, move, since, words, content, *_, name = found.groups()
+    version, grid, session, move, since, words, _, inline, parts, name = found.groups()
     copied = Copied(int(session), grid, int(move), int(since)) if grid else None
-    return Line(name, int(version), parse_content(content), words or "", copied)
+    return Line(name, int(version), content_of(inline, parts), words or "", copied)
 
 
 def parse_signpost(text: str) -> Signpost:

@@ -258,6 +258,10 @@ class Settings:
         folder.mkdir(parents=True, exist_ok=True)
         return folder
 
+    def end_path(self, number: int) -> Path:
+        """The note of where the session came to its end (ends.py)."""
+        return self.notes() / f"{self.tenant}-{number}.end"
+
     def note_silent(self, node: int) -> None:
         """Has the next commands know that a node was silent, or died of what it was asked. Nothing rests on it: where it can't be noted, it isn't."""
         with suppress(OSError):

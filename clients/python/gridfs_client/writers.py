@@ -28,8 +28,11 @@ class Writer:
 
     def bucket(self, page: int) -> Bucket:
         if page not in self.buckets:
-            self.buckets[page] = Bucket(self.session, self.layout, page, self.ground)
+            self.buckets[page] = self.new_bucket(page)
         return self.buckets[page]
+
+    def new_bucket(self, page: int) -> Bucket:
+        return Bucket(self.session, self.layout, page, self.ground)
 
     def change(self, bucket: Bucket, journal: Page) -> None:
         """Announces and carries a journal, and notes the slots that its page doesn't name any more: once that was carried, no page that does is seen

@@ -1,7 +1,5 @@
 """Operations on buckets."""
 
-from collections.abc import Iterable
-
 from aiohttp import web
 
 from gridfs_client.buckets import Bucket, Held
@@ -11,6 +9,7 @@ from . import versions
 from .bodies import body_of
 from .errors import S3Error
 from .gateway import Operations
+from .index import Names
 from .markup import document, element, escape, many
 from .places import BUCKETS, KEYS, SETTINGS, UPLOADS, VERSIONS, check_bucket, number_of, of_words, upload_of
 from .requests import Asked, answer, iso, place_of, token_of
@@ -34,10 +33,10 @@ class Buckets(Operations):
             raise S3Error("InvalidArgument", "max-buckets is at least 1.")
         token, prefix = query.get("continuation-token"), query.get("prefix", "")
         after = place_of(token) if token else ""
-        found = await self.gateway.all(lambda every: {held.name[len(BUCKETS) :]: held for held in every if held.name.startswith(BUCKETS)})
-        names = sorted(name for name in found if name.startswith(prefix) and name > after and asked.signed.key.sees(name))
+        found = await self.gateway.listing(lambda names: {row.name[len(BUCKETS) :]: row for row in names.names(BUCKETS + prefix)})
+        names = sorted(name for name in found if name > after and asked.signed.key.sees(name))
         names = names if query.get("bucket-region", self.gateway.region) == self.gateway.region else []
-        rows = [many("Bucket", element("Name", name), element("CreationDate", iso(number_of(of_words(found[name].words), "t")))) for name in names[:most]]
+        rows = [many("Bucket", element("Name", name), element("CreationDate", iso(found[name].time))) for name in names[:most]]
         tail = [
             element("ContinuationToken", token_of(names[most - 1])) if len(names) > most else None,
             element("Prefix", prefix) if "prefix" in query else None,
@@ -69,15 +68,14 @@ class Buckets(Operations):
     async def delete_bucket(self, asked: Asked) -> web.Response:
         """204; uploads that are under way go with it, and what it was given. 404 NoSuchBucket, 409 BucketNotEmpty."""
         await self.gateway.need_bucket(asked.bucket)
-        prefixes = (f"{asked.bucket}/", f"{KEYS}{asked.bucket}/", f"{VERSIONS}{asked.bucket}/")
+        contents = (f"{asked.bucket}/", f"{KEYS}{asked.bucket}/", f"{VERSIONS}{asked.bucket}/")
 
-        def look(every: Iterable[Held]) -> list[str]:
-            names = [held.name for held in every]
-            if any(name.startswith(prefixes) for name in names):
+        def look(names: Names) -> list[str]:
+            if any(map(names.has_any, contents)):
                 raise S3Error("BucketNotEmpty", BucketName=asked.bucket)
-            return [name for name in names if name.startswith((f"{UPLOADS}{asked.bucket}/", f"{SETTINGS}{asked.bucket}/"))]
+            return [row.name for prefix in (UPLOADS, SETTINGS) for row in names.names(f"{prefix}{asked.bucket}/")]
 
-        for name in [*await self.gateway.all(look), BUCKETS + asked.bucket]:
+        for name in [*await self.gateway.listing(look), BUCKETS + asked.bucket]:
             await self.gateway.change(name, lambda store, name=name: store.delete(name), number=self.session_of(name))  # type: ignore[misc]
         self.gateway.known_buckets.pop(asked.bucket, None)
         return answer(status=204)

@@ -26,6 +26,7 @@ def parser() -> argparse.ArgumentParser:
     found.add_argument("--map", metavar="FILE", help="a map of several grids (gridfs-fleet), in place of the settings of one")
     found.add_argument("--keys", metavar="FILE", required=True, help="the access keys with their secrets; others may not read it")
     found.add_argument("--listen", metavar="WHERE", default="127.0.0.1:9000", help="ADDRESS:PORT, or unix:PATH (127.0.0.1:9000)")
+    found.add_argument("--index", metavar="FILE", help="keeps what pages say for the next start; else, and over several grids, that goes with the process")
     found.add_argument("--region", default="us-east-1", metavar="WORD", help="the region that is told (us-east-1)")
     found.add_argument("--domain", metavar="NAME", help="BUCKET.NAME is a bucket's own host name")
     found.add_argument("--timeout", metavar="SECONDS", default=None, help="seconds to wait for a node's answer (20)")

@@ -128,11 +128,11 @@ class Lifecycles(Operations):
 
     async def all_in_force(self) -> dict[str, InForce]:
         """The rules of each bucket that has some. What is none is told, and passed over."""
-        kept = await self.gateway.all(lambda every: [held for held in every if held.name.startswith((BUCKETS, SETTINGS))])
-        words = {held.name.removeprefix(BUCKETS): of_words(held.words) for held in kept if held.name.startswith(BUCKETS)}
+        kept = await self.gateway.listing(lambda names: [*names.names(BUCKETS), *names.names(SETTINGS)])
+        words = {row.name.removeprefix(BUCKETS): of_words(row.words) for row in kept if row.name.startswith(BUCKETS)}
         found: dict[str, InForce] = {}
         for bucket in sorted(words):
-            if any(held.name == setting_name(bucket, KIND) for held in kept):
+            if any(row.name == setting_name(bucket, KIND) for row in kept):
                 try:
                     if rules := await self.in_force(bucket, number_of(words[bucket], "t"), words[bucket].get("v", "")):
                         found[bucket] = rules

@@ -17,6 +17,7 @@ from .bodies import body_of
 from .bounds import IN_HAND, Places
 from .errors import S3Error, tell
 from .grids import Grids, Taken, Want
+from .index import Few, Names, Union
 from .keys import Key
 from .markup import Element, element, many, parse
 from .places import BUCKETS, Object, check_bucket, of_words
@@ -144,8 +145,23 @@ class Gateway:
                         raise
         raise S3Error("ServiceUnavailable", "Many others change this at the same time. Nothing was changed.")
 
+    async def listing(self, work: Callable[[Names], Told]) -> Told:
+        """What comes of names, each with what it held at some moment of the call. Unanswered where a grid is silent.
+
+        The index of a grid has them. It is right without a look where nobody else changes a page: what it lacks then is what nobody has seen, of changes that
+        are under way. Else all pages that others may have changed are looked at first; over several grids along the ways of all names."""
+        if not self.grids.map:
+            pool = self.grids.pool("")
+            if not (pool.is_exact() and await pool.has_sessions()):
+                await pool.look_at_all()
+            return await pool.loop.run_in_executor(pool.threads, lambda: work(pool.shared.index))
+        if not (self.grids.is_exact() and all(await asyncio.gather(*(pool.has_sessions() for pool in self.grids.pools.values())))):
+            return await self.all(lambda every: work(Few(every)))
+        names = Union([pool.shared.index for pool in self.grids.pools.values()])
+        return await asyncio.get_running_loop().run_in_executor(None, lambda: work(names))
+
     async def all(self, work: Callable[[Iterable[Held]], Told]) -> Told:
-        """What comes of all that names hold, each at some moment of the call. Unanswered where a grid is silent."""
+        """What comes of all that names hold, with their contents and words, each at some moment of the call: all pages are read. Unanswered where a grid is silent."""
         if not self.grids.map:
             return await self.look("", lambda store: work(store.all()))
         listing = Listing(self.grids.map)

@@ -15,6 +15,7 @@ from gridfs_client.settings import Settings
 from gridfs_client.ways import Ground, Stop, slice_of
 
 from .errors import S3Error
+from .index import Index
 from .sessions import Pool
 from .shared import Turns
 from .store import Store
@@ -79,12 +80,12 @@ class Taken:
 class Grids:
     """The pool of each grid; without a map there is one, whose word is empty."""
 
-    def __init__(self, settings: Settings):
+    def __init__(self, settings: Settings, index: Index | None = None):
         self.settings, self.turns, self.gathering, self.lending = settings, Turns(), Gathering(), Lending()
         self.map = read_map(settings.values["map"]) if "map" in settings.values else None
         self.pools: dict[str, Pool] = {}
         if not self.map:
-            self.pools[""] = Pool(settings, self.gathering, self.lending, self.turns)
+            self.pools[""] = Pool(settings, self.gathering, self.lending, self.turns, index=index)
 
     @property
     def tenant(self) -> str:
@@ -239,6 +240,12 @@ class Grids:
         return Taken(pool, worker, others, trip)
 
     # Listings
+
+    def is_exact(self) -> bool:
+        """Whether the indexes of all grids have what names hold, with nobody asked: none of them lacks anything, no move is under way, and no name went on to a
+        grid that the map lacks."""
+        pools = self.pools.values()
+        return self.map is not None and not self.map.moves and all(pool.is_exact() and pool.shared.index.leads <= self.pools.keys() for pool in pools)
 
     async def look_at(self, grid: str) -> Sequence[Knows] | ClientError:
         """What is seen of each bucket of a grid, by another session where the home of one is silent; or why it can't be told."""

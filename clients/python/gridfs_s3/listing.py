@@ -1,17 +1,15 @@
 """Listings of objects, in both versions, and of uploads."""
 
-from collections.abc import Callable, Iterable, Sequence
-from itertools import groupby
+from collections.abc import Callable, Sequence
 from urllib.parse import quote
 
 from aiohttp import web
 
-from gridfs_client.buckets import Held
-
 from .errors import S3Error
 from .gateway import Operations
+from .index import Names, Row, by_keys
 from .markup import document, element, many
-from .places import UPLOADS, Object, number_of, object_of, of_words, upload_of
+from .places import UPLOADS, number_of, of_words, upload_of
 from .requests import Asked, answer, iso, place_of, token_of
 
 
@@ -33,56 +31,68 @@ def group_of(key: str, prefix: str, delimiter: str) -> str | None:
     return key[: at + len(delimiter)] if at >= 0 else None
 
 
-def rest_of(versions: Sequence[Object], version: str) -> set[int]:
-    """The versions of a key behind this one, by their identity; all where it is not there any more."""
-    found = next((at for at, each in enumerate(versions, 1) if each.version == version), 0)
-    return {id(each) for each in versions[found:]}
+Chosen = Callable[[list[Row]], Sequence[Row]]  # of the versions of a key, the latest first, those that are listed
 
 
 class Cut:
-    """So many keys and common prefixes after a place, of keys in ascending order."""
+    """So many versions and common prefixes of a bucket after a place, in order. Behind a common prefix it goes on at the first key that does not begin so."""
 
-    def __init__(self, keys: Iterable[Object], prefix: str, delimiter: str, after: str, most: int, goes_on: Callable[[Object], bool] = lambda _: False):
-        """`goes_on` says which objects at the place itself are wanted still."""
-        self.rows: list[Object] = []
+    def __init__(self, names: Names, bucket: str, prefix: str, delimiter: str, after: str, most: int, chosen: Chosen, version: str | None = None):
+        """With a version it begins behind that, of the key `after`: with all that are left of it, where that version is gone."""
+        self.rows: list[Row] = []
         self.groups: list[str] = []
-        self.last, self.is_cut, limit = after, False, after.encode()
-        for each in keys:
-            group = group_of(each.key, prefix, delimiter)
-            place = each.key if group is None else group
-            is_behind = place.encode() > limit or (group is None and each.key == after and goes_on(each))
-            if not is_behind or (self.groups and self.groups[-1] == group):
+        self.last, self.is_cut, self.most = after, False, most
+        self.base, self.prefix, self.delimiter, self.chosen, self.version = f"{bucket}/", prefix, delimiter, chosen, version
+        begin, self.end = f"{self.base}{prefix}".encode(), f"{self.base}{prefix}".encode() + b"\xff"
+        self.limit, limit = after.encode(), f"{self.base}{after}".encode()
+        self.place: bytes | None = max(begin, limit + (b"\0" if version is None else b"")) if after else begin
+        with names.at_once():
+            while self.place is not None and not self.is_cut:
+                self.go_on(names, self.place)
+
+    def go_on(self, names: Names, place: bytes) -> None:
+        """As far as to the next common prefix, or to the end."""
+        self.place = None
+        for found in by_keys(names.rows(place, self.end)):
+            key = found[0].key[len(self.base) :]
+            wanted, group = self.chosen(found), group_of(key, self.prefix, self.delimiter)
+            if group is None and key.encode() == self.limit:
+                wanted = rest_of(wanted, self.version)
+            if not wanted:
                 continue
-            if len(self.rows) + len(self.groups) >= most:
-                self.is_cut = most > 0
-                break
-            self.last = place
-            if group is None:
-                self.rows.append(each)
-            else:
-                self.groups.append(group)
+            if group is not None:
+                if group.encode() > self.limit and self.has_room(group):
+                    self.groups.append(group)
+                self.place = f"{self.base}{group}".encode() + b"\xff"
+                return
+            for row in wanted:
+                if not self.has_room(key):
+                    return
+                self.rows.append(row._replace(key=key))
+
+    def has_room(self, last: str) -> bool:
+        """Whether one more is told, which is now the last one."""
+        if len(self.rows) + len(self.groups) >= self.most:
+            self.is_cut = self.most > 0
+            return False
+        self.last = last
+        return True
 
 
-def latest_of(versions: Iterable[Object]) -> list[Object]:
-    """The first one of each key, of versions that are in order."""
-    return [next(each) for _, each in groupby(versions, key=lambda version: version.key)]
+def rest_of(versions: Sequence[Row], version: str | None) -> Sequence[Row]:
+    """The versions of a key behind this one; all where it is not there any more."""
+    return versions[next((at for at, each in enumerate(versions, 1) if each.version == version), 0) :]
+
+
+def latest_of(versions: list[Row]) -> Sequence[Row]:
+    """The latest, unless that is a marker."""
+    return [] if versions[0].is_marker else versions[:1]
 
 
 class Listings(Operations):
-    async def versions_of(self, bucket: str, prefix: str) -> list[Object]:
-        """All versions of the objects of a bucket whose keys begin so, in the order of the keys' bytes, those of a key from the latest on; each key as it was at some
-        moment of the call."""
-
-        def find(every: Iterable[Held]) -> list[Object]:
-            found = [each for each in (object_of(bucket, held) for held in every) if each and each.key.startswith(prefix)]
-            found.sort(key=lambda each: each.order, reverse=True)
-            return sorted(found, key=lambda each: each.key.encode())
-
-        return await self.gateway.all(find)
-
-    async def objects_of(self, bucket: str, prefix: str) -> list[Object]:
-        """The objects of a bucket whose keys begin so, in the order of their bytes: the latest version of each key, unless that is a marker."""
-        return [each for each in latest_of(await self.versions_of(bucket, prefix)) if not each.is_marker]
+    async def objects(self, bucket: str, prefix: str, delimiter: str, after: str, most: int) -> Cut:
+        """Objects of a bucket whose keys begin so, each as it was at some moment of the call: the latest version of its key."""
+        return await self.gateway.listing(lambda names: Cut(names, bucket, prefix, delimiter, after, most, latest_of))
 
     async def list_objects(self, asked: Asked) -> web.Response:
         """200. 400 InvalidArgument, 404 NoSuchBucket."""
@@ -113,7 +123,7 @@ class Listings(Operations):
         """What both listings of objects tell."""
         await self.gateway.need_bucket(asked.bucket)
         prefix, delimiter, most = self.words_of(asked)
-        cut = Cut(await self.objects_of(asked.bucket, prefix), prefix, delimiter, after, most)
+        cut = await self.objects(asked.bucket, prefix, delimiter, after, most)
         rows = [self.row("Contents", each, coding_of(asked), [], is_owned) for each in cut.rows]
         return self.told(asked, cut, marks(cut), rows)
 
@@ -121,7 +131,7 @@ class Listings(Operations):
         """A prefix, a delimiter, and how many are wanted at most. 400 InvalidArgument."""
         return asked.query.get("prefix", ""), asked.query.get("delimiter", ""), asked.number("max-keys", 1_000, 1_000)
 
-    def row(self, name: str, each: Object, coding: str | None, version: list[str], is_owned: bool) -> str:
+    def row(self, name: str, each: Row, coding: str | None, version: list[str], is_owned: bool) -> str:
         """One object of a listing. A marker has no content."""
         content = [element("ETag", f'"{each.etag}"'), element("Size", each.size)] if not each.is_marker else []
         owner, kind = self.gateway.owner() if is_owned else None, element("StorageClass", "STANDARD") if content else None
@@ -150,17 +160,20 @@ class Listings(Operations):
         if version and not after:
             raise S3Error("InvalidArgument", "version-id-marker is wanted with key-marker.")
         prefix, delimiter, most = self.words_of(asked)
-        versions = await self.versions_of(asked.bucket, prefix)
-        latest = {id(each) for each in latest_of(versions)}
-        left = rest_of([each for each in versions if each.key == after], version) if version else set()
-        cut = Cut(versions, prefix, delimiter, after, most, lambda each: id(each) in left)
+        latest = set[str]()  # names of those versions that are the latest of their keys
+
+        def each_of(versions: list[Row]) -> Sequence[Row]:
+            latest.add(versions[0].name)
+            return versions
+
+        cut = await self.gateway.listing(lambda names: Cut(names, asked.bucket, prefix, delimiter, after, most, each_of, version or None))
         marks = [element("KeyMarker", encoded(after, coding)), element("VersionIdMarker", version)]
         if cut.is_cut:
             is_row = bool(cut.rows) and cut.rows[-1].key == cut.last
             marks += [element("NextKeyMarker", encoded(cut.last, coding)), element("NextVersionIdMarker", cut.rows[-1].version) if is_row else ""]
         rows = []
         for each in cut.rows:
-            inner = [element("VersionId", each.version), element("IsLatest", "true" if id(each) in latest else "false")]
+            inner = [element("VersionId", each.version), element("IsLatest", "true" if each.name in latest else "false")]
             rows.append(self.row("DeleteMarker" if each.is_marker else "Version", each, coding, inner, True))
         return answer(document("ListVersionsResult", *self.told(asked, cut, marks, rows)))
 
@@ -169,8 +182,8 @@ class Listings(Operations):
         await self.gateway.need_bucket(asked.bucket)
         query, place, coding = asked.query, f"{UPLOADS}{asked.bucket}/", coding_of(asked)
         prefix, delimiter, most = query.get("prefix", ""), query.get("delimiter", ""), asked.number("max-uploads", 1_000, 1_000)
-        held = await self.gateway.all(lambda every: [(upload_of(each.name), of_words(each.words)) for each in every if each.name.startswith(place)])
-        uploads = sorted((values.get("k", ""), upload, number_of(values, "i")) for upload, values in held if upload and "k" in values)
+        found = await self.gateway.listing(lambda names: [(upload_of(each.name), of_words(each.words)) for each in names.names(place)])
+        uploads = sorted((values.get("k", ""), upload, number_of(values, "i")) for upload, values in found if upload and "k" in values)
         marker = (query["key-marker"], query.get("upload-id-marker", "\uffff")) if "key-marker" in query else None
         rows: list[str] = []
         groups: list[str] = []

@@ -2,8 +2,6 @@
 
 from prometheus_client import CollectorRegistry, Counter, Gauge, Histogram, generate_latest
 
-from gridfs_client.pages import length_of_lines
-
 from .grids import Grids
 from .sessions import Pool
 
@@ -32,9 +30,8 @@ def room_of(pool: Pool) -> tuple[int, int]:
 
 
 def fullest(pool: Pool) -> float:
-    """How full the fullest page is of those that are known."""
-    lengths = [length_of_lines(known.page.lines) for known in list(pool.shared.pages.values())]
-    return max(lengths, default=0) / pool.layout.contents_room if pool.is_open else 0
+    """How full the fullest page is, or was, of those that are known."""
+    return pool.shared.index.fullest / pool.layout.contents_room if pool.is_open else 0
 
 
 def text(tenant: str, grids: Grids) -> bytes:

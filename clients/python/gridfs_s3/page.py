@@ -12,15 +12,15 @@ from botocore.auth import S3SigV4QueryAuth
 from botocore.awsrequest import AWSRequest
 from botocore.credentials import Credentials
 from gridfs_client.asking import ask_all
-from gridfs_client.buckets import Held
 from gridfs_client.errors import Unanswered
 
 from . import metrics, signing
 from .errors import S3Error
 from .gateway import Gateway
+from .index import Names, Row
 from .keys import Key
-from .listing import Cut, Listings
-from .places import BUCKETS, KEYS, Object, check_bucket
+from .listing import Listings
+from .places import BUCKETS, check_bucket
 from .requests import Asked
 from .sessions import Pool
 from .workers import Worker
@@ -99,17 +99,20 @@ class Page:
         return web.Response(text=text, content_type="text/html", charset="utf-8", headers=HEADERS)
 
     async def all(self, key: Key) -> str:
-        helds: list[Held] = []
+        found: list[tuple[str, tuple[int, int]]] = []
         silent, rows = "", list[str]()
+
+        def look(names: Names) -> list[tuple[str, tuple[int, int]]]:
+            buckets = [row.name[len(BUCKETS) :] for row in names.names(BUCKETS)]
+            return [(name, names.total(f"{name}/")) for name in buckets if key.sees(name)]
+
         try:
-            helds = await self.gateway.all(lambda every: list(every))
+            found = await self.gateway.listing(look)
         except Unanswered as fault:
             silent = f"<p>Names are not told: {escape(str(fault))}.</p>"
-        for name in sorted(held.name[len(BUCKETS) :] for held in helds if held.name.startswith(BUCKETS)):
-            if key.sees(name):
-                sizes = [held.content.size for held in helds if held.name.startswith((f"{name}/", f"{KEYS}{name}/"))]
-                link = f'<a href="/-/{quote(name)}/">{escape(name)}</a>'
-                rows.append(f'<tr><td class="k">{link}</td><td class="n">{len(sizes)}</td><td class="n">{size_of(sum(sizes))}</td></tr>')
+        for name, (count, size) in found:
+            link = f'<a href="/-/{quote(name)}/">{escape(name)}</a>'
+            rows.append(f'<tr><td class="k">{link}</td><td class="n">{count}</td><td class="n">{size_of(size)}</td></tr>')
         buckets = silent or table('<tr><th>Bucket</th><th class="n">Objects</th><th class="n">Size</th></tr>', rows, "There are no buckets.")
         pools = list(self.gateway.grids.pools.values())
         await asyncio.gather(*(self.load(pool, worker) for pool in pools for worker in list(pool.workers.values())))
@@ -148,7 +151,7 @@ class Page:
         key.expect(bucket, is_change=False)
         await self.gateway.need_bucket(bucket)
         prefix = asked.query.get("prefix", "")
-        cut = Cut(await self.listings.objects_of(bucket, prefix), prefix, "/", asked.query.get("after", ""), MOST)
+        cut = await self.listings.objects(bucket, prefix, "/", asked.query.get("after", ""), MOST)
         rows = [(group, self.folder_row(group, prefix)) for group in cut.groups]
         rows += [(each.key, self.object_row(asked, bucket, each, prefix, key)) for each in cut.rows]
         shown = [row for _, row in sorted(rows)]
@@ -165,12 +168,12 @@ class Page:
         link = f'<a href="?prefix={quote(group, safe="")}">{escape(group[len(prefix) :])}</a>'
         return f'<tr><td class="k">{link}</td><td class="n"></td><td></td></tr>'
 
-    def object_row(self, asked: Asked, bucket: str, found: Object, prefix: str, key: Key) -> str:
+    def object_row(self, asked: Asked, bucket: str, found: Row, prefix: str, key: Key) -> str:
         shown = escape(found.key[len(prefix) :]) or "(the folder itself)"
         link = f'<a href="{escape(self.link(asked, bucket, found, key))}">{shown}</a>'
         return f'<tr><td class="k">{link}</td><td class="n">{size_of(found.size)}</td><td>{time_of(found.time)}</td></tr>'
 
-    def link(self, asked: Asked, bucket: str, found: Object, key: Key) -> str:
+    def link(self, asked: Asked, bucket: str, found: Row, key: Key) -> str:
         """A signed URL of an object at this host, which is kept as a file: shown here, what is in it could do what this page may."""
         host = asked.headers.get("host", "")
         signer = S3SigV4QueryAuth(Credentials(key.access, key.secret), "s3", self.gateway.region, expires=GOOD_FOR)

@@ -106,7 +106,10 @@ def to_words(values: Values) -> str:
 
 
 def of_words(words: str) -> Values:
-    return dict(parse_qsl(words, keep_blank_values=True)) if words else {}
+    if "%" in words or "+" in words:
+        return dict(parse_qsl(words, keep_blank_values=True))
+    pairs = (word.partition("=") for word in words.split("&") if word)
+    return {key: value for key, _, value in pairs}
 
 
 @dataclass(frozen=True)

@@ -5,6 +5,7 @@ import asyncio
 import os
 import signal
 import socket
+import sqlite3
 import stat
 from collections.abc import Sequence
 from pathlib import Path
@@ -50,18 +51,22 @@ async def serve(asked: argparse.Namespace) -> None:
     from .errors import tell
     from .gateway import Gateway
     from .grids import Grids
+    from .index import Index
     from .keys import BadKeys, read_keys
     from .routes import Endpoint
 
     loop = asyncio.get_running_loop()
     try:
         timeout = asked.timeout or os.environ.get("GRIDFS_TIMEOUT") or "20"
-        grids = Grids(Settings.gather({"config": asked.config, "map": asked.map, "timeout": timeout}, os.environ))
+        settings = Settings.gather({"config": asked.config, "map": asked.map, "timeout": timeout}, os.environ)
+        grids = Grids(settings, Index(asked.index) if asked.index and "map" not in settings.values else None)
         tenant = grids.tenant
         keys = read_keys(asked.keys, tenant)
         await grids.open()
     except (ClientError, BadKeys) as fault:
         raise SystemExit(f"gridfs-s3: {fault}") from None
+    except sqlite3.Error as fault:
+        raise SystemExit(f"gridfs-s3: {asked.index}: {fault}") from None
     gateway = Gateway(grids, tenant, keys, asked.region, asked.domain)
     endpoint = Endpoint(gateway)
     try:
@@ -104,6 +109,7 @@ async def serve(asked: argparse.Namespace) -> None:
         pass
     # What is under way at sessions is left as where the process is killed: a session's next change settles it.
     for pool in grids.pools.values():
+        pool.note_end()
         pool.close()
     os._exit(0)
 

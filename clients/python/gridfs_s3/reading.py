@@ -6,7 +6,8 @@ from contextlib import closing
 from dataclasses import dataclass
 from functools import partial
 
-from gridfs_client.buckets import Bucket, Held
+from gridfs_client.answers import Row
+from gridfs_client.buckets import Bucket, Held, held_of
 from gridfs_client.contents import Inline, InSlots, digest_in_hex
 from gridfs_client.errors import Damaged, Replaced, Unanswered
 from gridfs_client.layout import Layout
@@ -66,8 +67,12 @@ class Reader(NamedFiles):
         """What a name holds."""
         if self.trip:
             return self.trip.look(name)
-        bucket = self.bucket(name)
-        bucket.refresh()
+        page = self.layout.page_of(name)
+        rows = self.session.list(self.layout.page(1, page)[0])
+        if self.index_has(page, rows):
+            return held_of(self.shared.index.greatest(page, name))
+        bucket = self.writer.bucket(page)
+        bucket.refresh(rows)
         return bucket.held(name)
 
     def latest(self, name: str) -> Held | None:
@@ -79,14 +84,20 @@ class Reader(NamedFiles):
     def latest_in(self, bucket: Bucket, name: str) -> Held | None:
         """The same, of what was seen last."""
         begin, end = f"{VERSIONS}{bucket_in(name)}/", beside(name)
-        held = [bucket.held(name), *(each for each in self.shared.held_in(bucket) if each.name.startswith(begin) and each.name.endswith(end))]
+        held = [bucket.held(name), *(each for each in bucket.names() if each.name.startswith(begin) and each.name.endswith(end))]
         versions = [each for each in (version_in(name, found) for found in held if found) if each]
         return max(versions, key=lambda each: each.order).held if versions else None
+
+    def index_has(self, page: int, rows: Sequence[Row]) -> bool:
+        """Whether the index has all pages of a bucket as they are listed: then a look would see just these."""
+        index = self.shared.index
+        places = ((each, self.layout.page(each, page)[1]) for each in range(1, self.layout.sessions + 1))
+        return not self.ground and page not in index.open and all(rows[file].tag == index.tag(page, each) for each, file in places)
 
     def all(self) -> Iterator[Held]:
         """All that names hold, each at some moment of the call."""
         for bucket, _ in self.buckets():
-            yield from self.shared.held_in(bucket)
+            yield from bucket.names()
 
     def spans(self, held: Held) -> Iterator[Span]:
         begin = 0

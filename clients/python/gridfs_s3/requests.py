@@ -6,6 +6,7 @@ import re
 import secrets
 import time
 from collections.abc import Mapping, Set
+from functools import lru_cache
 from urllib.parse import unquote
 
 from aiohttp import web
@@ -18,7 +19,12 @@ SERVER = "gridfs-s3"
 
 
 def iso(ms: int) -> str:
-    return time.strftime("%Y-%m-%dT%H:%M:%S", time.gmtime(ms // 1000)) + f".{ms % 1000:03}Z"
+    return f"{iso_of_seconds(ms // 1000)}.{ms % 1000:03}Z"
+
+
+@lru_cache(1_024)
+def iso_of_seconds(seconds: int) -> str:
+    return time.strftime("%Y-%m-%dT%H:%M:%S", time.gmtime(seconds))
 
 
 def http_date(ms: int) -> str:

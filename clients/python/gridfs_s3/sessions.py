@@ -1,27 +1,33 @@
 """The sessions of a tenant at one grid, which this gateway has for itself, and who works by which."""
 
 import asyncio
+import secrets
 import time
 from collections import Counter
-from collections.abc import Callable, Sequence
+from collections.abc import Callable, Iterator, Sequence
 from concurrent.futures import ThreadPoolExecutor
 from contextlib import suppress
 from dataclasses import replace
+from functools import partial
+from itertools import islice
 from typing import Any, TypeVar
 
 from gridfs_client.answers import NO_SESSION, PlanTold
 from gridfs_client.asking import ask_plan
 from gridfs_client.carriers import Carrier
 from gridfs_client.core import Page
-from gridfs_client.errors import BadSettings, CarrierFault, ClientError, SessionTaken, Unanswered
+from gridfs_client.ends import End, parse_end, read_end, write_end
+from gridfs_client.errors import BadSettings, CarrierFault, ClientError, NoSuchName, SessionTaken, Unanswered
 from gridfs_client.fleet_map import Move
 from gridfs_client.layout import Layout, layout_of
+from gridfs_client.names import NamedFiles
 from gridfs_client.opening import SOON
 from gridfs_client.settings import Settings
 from gridfs_client.ways import Ground, slice_of
 
 from .claims import Claims
 from .errors import error_of, tell
+from .index import Index
 from .shared import Shared, Turns
 from .store import Store
 from .trips import Trip
@@ -33,6 +39,9 @@ TIDY = 30.0  # seconds
 TRIES = 60  # of settling a page by a session whose home is silent
 LOOK = 0.1  # seconds between looks at what other commands want
 PLAN_AGAIN, ANSWERS = 10.0, 2.0  # seconds after which all nodes are asked whether the plan has grown, and for which their answers are waited for
+SURE_FOR = 2.0  # seconds for which sessions that were this gateway's are taken to be
+SOME, TURNS = 16, 3  # volumes that a session looks at, before others have their turn; and how often it is tried
+WORD_OF_GRID = ".s3/index"  # a name, with what the index of this grid says of it
 RETRY = 1.0  # seconds until a session whose home is silent, or a carrier that has ended, is tried again
 
 
@@ -40,8 +49,9 @@ class Pool:
     """All workers. Whoever waits for one gets it by turns; those whose homes are silent are left out as long as there are others. Where another command of
     this machine waits for a session, it is lent to that."""
 
-    def __init__(self, settings: Settings, gathering: Gathering, lending: Lending, turns: Turns, ground: Ground | None = None):
-        self.settings, self.shared, self.ground, self.lending = settings, Shared(turns), ground, lending
+    def __init__(self, settings: Settings, gathering: Gathering, lending: Lending, turns: Turns, ground: Ground | None = None, index: Index | None = None):
+        self.settings, self.ground, self.lending = settings, ground, lending
+        self.shared = Shared(turns, index or Index(grid=ground.grid if ground else ""))
         self.grid = ground.grid if ground else ""
         self.workers: dict[int, Worker] = {}
         self.waiting: list[Wanted] = []
@@ -58,6 +68,11 @@ class Pool:
         self.lasting: list[asyncio.Task[None]] = []  # what goes on as long as the gateway does
         self.claims = Claims(settings, lambda claim, answer: self.loop.call_soon_threadsafe(self.loop.add_reader, claim, answer))
         self.asking = asyncio.Lock()  # of who asks all nodes: what they tell of no session is kept for one who asks
+        self.settling = asyncio.Semaphore()  # so that requests find a session
+        self.has_begun = False  # to see to what earlier clients left
+        self.tidied: set[int] = set()  # numbers of sessions whose pages are being settled
+        self.looks, self.looked = asyncio.Lock(), 0.0  # at all pages; and when the last one began that ended well
+        self.asking_all, self.sure_until = asyncio.Lock(), 0.0  # whether all sessions are still this gateway's
 
     # Beginning
 
@@ -106,7 +121,49 @@ class Pool:
             self.fault = fault
             tell(f"{self.named()}{fault}: it is tried again")
             self.spawn(self.open_again())
+        await self.go_on()
         self.lasting = [self.spawn(self.tidy()), self.spawn(self.lend_on()), self.spawn(self.follow_plan())]
+
+    async def go_on(self) -> None:
+        """Goes on with the index of an earlier gateway, if that is of this grid. Where that gateway ended in order, and nobody had a session since, nothing is
+        under way into its pages, and they stand in the index."""
+        index = self.shared.index
+        if not index.is_kept:
+            return
+        await asyncio.gather(*(self.go_on_by(worker) for worker in self.workers.values()))  # (first: asking for the word takes numbers)
+        try:
+            word = await self.run(await self.lease(), self.word_of_grid, is_soon=True) if self.is_open else ""
+        except ClientError:
+            word = ""
+        if not word or index.about("grid") != word:
+            index.forget()
+            for worker in self.workers.values():
+                self.renew(worker)
+            if word:
+                index.say("grid", word)
+
+    def word_of_grid(self, store: Store) -> str:
+        """What the index of this grid says of it: a random word under a name. (What the index has is not asked: perhaps it is another grid's.)"""
+        files = NamedFiles(store.session, self.layout)
+        try:
+            return files.get(WORD_OF_GRID)[0].decode()
+        except NoSuchName:
+            files.put(WORD_OF_GRID, secrets.token_hex(16).encode())
+            return files.get(WORD_OF_GRID)[0].decode()
+
+    async def go_on_by(self, worker: Worker) -> None:
+        if end := parse_end(self.shared.index.about(f"session {worker.number}")):
+            with suppress(ClientError):
+                await self.run(await self.lease(worker.number), partial(Store.go_on, end=end), is_soon=True)
+
+    def note_end(self) -> None:
+        """Writes down how far each session came, for a later gateway. Called once nothing is under way."""
+        index = self.shared.index
+        if index.is_kept:
+            for worker in self.workers.values():
+                end = None if worker.is_busy or worker.is_silent or worker.is_lent else worker.store.end()
+                index.say(f"session {worker.number}", end.text() if end else "")
+            index.close()
 
     def named(self) -> str:
         return f"{self.grid}: " if self.grid else ""
@@ -126,22 +183,80 @@ class Pool:
         return sum(slot.room for session in range(1, self.sessions + 1) for slot in self.layout.slots(session))
 
     def renew(self, worker: Worker) -> None:
-        """Forgets all that the worker knows of files."""
+        """Forgets all that the worker knows of files; its pages are settled anew, by and by."""
         worker.store = Store(worker.session, self.layout, self.shared, self.ground)
+        if self.has_begun:
+            self.loop.call_soon_threadsafe(lambda: self.spawn(self.tidy_session(worker.number)))
 
     def known_pages(self, name: str) -> list[Page]:
         """The pages that may have lines of a name, as they were seen last."""
         if not self.is_open:
             return []
         number = self.layout.page_of(name)
-        found = (self.shared.pages.get((session, number)) for session in range(1, self.sessions + 1))
+        found = (self.shared.index.known(number, session) for session in range(1, self.sessions + 1))
         return [known.page for known in found if known]
 
     def pages_lacking(self, move: Move) -> list[tuple[int, int]]:
         """The sessions that are here, each with its pages that may not be yet as a move wants them, as they were seen last."""
         numbers = [number for number, worker in self.workers.items() if not worker.is_lent and not worker.is_silent]
-        pages = [(number, page, self.shared.pages.get((number, page))) for number in numbers for page in range(self.layout.pages)]
+        pages = [(number, page, self.shared.index.known(page, number)) for number in numbers for page in range(self.layout.pages)]
         return [(number, page) for number, page, known in pages if known is None or not is_shared(known.page, move)]
+
+    # All names
+
+    def is_exact(self) -> bool:
+        """Whether the index has what all pages say, with nobody asked: all sessions of the tenant are here, and nothing but changes of this gateway comes
+        into their pages."""
+        return self.has_all and all(worker.store.writer.has_settled_all() for worker in self.workers.values())
+
+    async def has_sessions(self) -> bool:
+        """Whether all sessions are still this gateway's, as each of them was found to be in the last two seconds. (It may have been stopped, and replaced by
+        another one, which nobody tells it.)"""
+        async with self.asking_all:
+            begun = time.monotonic()
+            if begun <= self.sure_until:
+                return True
+            found = all(await asyncio.gather(*(self.has_session(number) for number in list(self.workers))))
+            self.sure_until = begun + SURE_FOR if found else 0.0
+            return found
+
+    async def has_session(self, number: int) -> bool:
+        try:
+            await self.run(await self.lease(number), lambda store: store.session.list(0), is_soon=True)
+            return True
+        except ClientError:
+            return False
+
+    async def look_at_all(self) -> None:
+        """Sees that the index has each page as it was at some moment of this call, or a later one. Who comes while others look waits, and then one look is for
+        all of those."""
+        begin = time.monotonic()
+        async with self.looks:
+            if self.looked > begin:
+                return
+            begun = time.monotonic()
+            volumes = iter([volume for volume in range(self.layout.pages_volumes) if not self.is_exact_in(volume)])
+            count = sum(not worker.is_silent and not worker.is_lent for worker in self.workers.values())
+            found = await asyncio.gather(*(self.look_at_some(volumes) for _ in range(max(1, count))), return_exceptions=True)
+            for fault in found:
+                if fault:
+                    raise fault  # (once all have ended)
+            self.looked = begun
+
+    def is_exact_in(self, volume: int) -> bool:
+        """The same of the pages in a volume."""
+        return self.has_all and all(page in worker.store.settled for page in self.layout.pages_in(volume) for worker in self.workers.values())
+
+    async def look_at_some(self, volumes: Iterator[int]) -> None:
+        """Looks at these volumes, some at a time, by another session where the home of one is silent."""
+        while some := list(islice(volumes, SOME)):
+            for turn in range(TURNS):
+                try:
+                    await self.run(await self.lease(), lambda store, some=some: store.look_at(some), is_soon=turn < TURNS - 1)  # type: ignore[misc]
+                    break
+                except (Unanswered, SessionTaken):
+                    if turn == TURNS - 1:
+                        raise
 
     # Taking turns
 
@@ -233,13 +348,16 @@ class Pool:
                     self.release(worker)
 
     async def lend(self, worker: Worker) -> None:
-        """Gives a session up once it is free, and has it again once the command is done. What is known of files is forgotten, and no page is settled by it
-        any more."""
+        """Gives a session up once it is free, and has it again once the command is done. What is known of files is forgotten; and all pages are settled anew, or
+        those alone that commands changed, where these ended in order and say so."""
         async with self.lending.lend():
             worker.is_lent = True
             try:
                 await self.lease(worker.number)
+                carried, path = dict(worker.store.writer.carried), self.settings.end_path(worker.number)
+                last = worker.session.last
                 self.renew(worker)
+                write_end(path, None if last is None else End(worker.session.home, last))
                 worker.lock.close()
                 lock = None
                 while lock is None:
@@ -247,7 +365,8 @@ class Pool:
                     with suppress(OSError):  # (which is told elsewhere)
                         lock = None if self.settings.is_wanted(worker.number) else self.settings.lock(worker.number)
                 worker.lock = lock
-                worker.session.forget()
+                await self.loop.run_in_executor(self.threads, worker.store.has_back, carried, read_end(path))
+                write_end(path, None)
                 self.release(worker)
             except Unanswered:
                 pass
@@ -426,7 +545,9 @@ class Pool:
                 worker = await self.lease(number)
             except Unanswered:
                 continue  # (it is renewed once its home answers)
+            carried = worker.store.writer.carried  # (its pages stay where they are)
             self.renew(worker)
+            worker.store.writer.carried = carried
             self.release(worker)
 
     # Pages
@@ -472,6 +593,8 @@ class Pool:
         slots that sessions lent to contents that are gone."""
         while not self.is_open:
             await asyncio.sleep(RETRY)
+        self.has_begun = True
+        self.settling = asyncio.Semaphore(max(1, len(self.workers) // 2))
         await asyncio.gather(*(self.tidy_session(number) for number in list(self.workers)))
         while True:
             await asyncio.sleep(TIDY)
@@ -486,10 +609,28 @@ class Pool:
                         error_of(fault)  # (which tells it)
 
     async def tidy_session(self, number: int) -> None:
+        """Settles all pages of a session, one after another, and finds its free slots. Where the session is renewed meanwhile it begins anew."""
+        if number in self.tidied:
+            return
+        self.tidied.add(number)
+        try:
+            store = None
+            while store is not self.workers[number].store:
+                store = self.workers[number].store
+                await self.tidy_store(number, store)
+        finally:
+            self.tidied.discard(number)
+
+    async def tidy_store(self, number: int, store: Store) -> None:
         for page in range(self.layout.pages):
             for _ in range(TRIES):
+                while self.workers[number].is_lent:
+                    await asyncio.sleep(RETRY)
+                if page in store.settled or store is not self.workers[number].store:
+                    break
                 try:
-                    await self.settle_by(number, page)
+                    async with self.settling:
+                        await self.settle_by(number, page)
                     break
                 except ClientError:
                     await asyncio.sleep(RETRY)

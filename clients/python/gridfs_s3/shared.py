@@ -4,18 +4,23 @@ import threading
 import time
 from collections.abc import Iterator
 from contextlib import contextmanager
+from dataclasses import replace
 from typing import cast
+from weakref import WeakValueDictionary
 
 from gridfs_client import core
 from gridfs_client.answers import Row, Tag
-from gridfs_client.buckets import Bucket, Held
-from gridfs_client.core import Known
+from gridfs_client.buckets import Bucket
+from gridfs_client.core import Known, Page
 from gridfs_client.layout import Layout
 from gridfs_client.sessions import Files
 from gridfs_client.ways import Ground
 from gridfs_client.writers import Writer
 
+from .index import Index
+
 AHEAD = 3_600_000  # milliseconds by which a time may be ahead of the clock
+MOST_SEARCHED = 512  # pages that one put looks at for room
 LATEST = 9_999_999_999_999  # which a line has room for
 
 
@@ -81,35 +86,35 @@ class Turns:
 class Shared:
     """Pages of all sessions of a gateway at one grid. Each call may come from any thread."""
 
-    def __init__(self, turns: Turns | None = None) -> None:
+    def __init__(self, turns: Turns | None = None, index: Index | None = None) -> None:
         self.turns = turns or Turns()
-        self.pages: dict[tuple[int, int], Known] = {}  # by session and number, as it was seen last by any session
-        self.held: dict[int, tuple[tuple[Tag, ...], list[Held]]] = {}  # of each bucket of pages what its names hold, with the tags of these pages
+        self.index = index or Index()  # pages as they were seen last by any session
         self.swept: dict[int, float] = {}  # pages that were swept, and when
         self.searched: dict[int, float] = {}  # sessions all of whose pages were searched for room, and when
 
     def keep(self, session: int, number: int, known: Known) -> None:
-        before = self.pages.get((session, number))
-        if before is None or before.tag < known.tag:
-            self.pages[session, number] = known
-
-    def held_in(self, bucket: Bucket) -> list[Held]:
-        """What the names of a bucket hold, as it was looked at last."""
-        tags = tuple(known.tag for known in bucket.client.seen)
-        found = self.held.get(bucket.number)
-        if found is None or found[0] != tags:
-            found = self.held[bucket.number] = tags, bucket.names()
-        return found[1]
+        self.index.keep(number, session, known)
 
 
 class SharedBucket(Bucket):
     """A bucket that reads no page that another session of the gateway has read since it was written. A tag tells one content of a file: so a page with
     the tag that is listed is the page that would be read."""
 
-    def __init__(self, shared: Shared, session: Files, layout: Layout, number: int, ground: Ground | None = None):
+    def __init__(self, writer: "SharedWriter", session: Files, layout: Layout, number: int, ground: Ground | None = None):
         super().__init__(session, layout, number, ground)
-        self.shared = shared
+        self.writer, self.shared = writer, writer.shared
         self.listed: tuple[Tag, ...] = ()
+        self.is_changing = False
+        self.go_on()
+
+    def go_on(self) -> None:
+        """Begins with what is known of the pages; and where the own one is as it was carried last, that is the journal."""
+        index, carried = self.shared.index, self.writer.carried.get(self.number)
+        own = index.known(self.number, self.me) if carried else None
+        if own is None or own.tag != carried:
+            return
+        self.client = replace(self.client, seen=tuple(index.known(self.number, each) or Known() for each in self.all), journal=own.page)
+        self.is_carried = True
 
     def tags(self, rows: tuple[Row, ...]) -> tuple[Tag, ...]:
         self.listed = super().tags(rows)
@@ -118,10 +123,11 @@ class SharedBucket(Bucket):
     def known(self, state: core.State) -> core.Answer | None:
         match state:
             case core.Looks(client, _, ((session, least), *_)):
-                found = self.shared.pages.get((session, self.number))
                 listed = self.listed[session - 1]
-                if found and found.tag == listed != client.seen[session - 1].tag and found.page.number >= least:
-                    return found
+                if self.shared.index.tag(self.number, session) == listed != client.seen[session - 1].tag:
+                    found = self.shared.index.known(self.number, session)
+                    if found and found.tag == listed and found.page.number >= least:
+                        return found
         return None
 
     def answer(self, request: core.Request, rows: tuple[Row, ...] | None) -> core.Answer:
@@ -133,15 +139,70 @@ class SharedBucket(Bucket):
                 self.shared.keep(self.me, self.number, Known(cast(Tag, told), page))
         return told
 
+    def forget(self) -> None:
+        super().forget()
+        if not self.is_changing:
+            self.writer.carried.pop(self.number, None)
+
+    def change(self, journal: Page) -> Page:
+        """The page is settled meanwhile, as before, and no more where no answer comes."""
+        self.is_changing = True
+        try:
+            before = super().change(journal)
+        except BaseException:
+            self.writer.carried.pop(self.number, None)
+            raise
+        finally:
+            self.is_changing = False
+        self.writer.carried[self.number] = self.client.seen[self.me - 1].tag
+        return before
+
 
 class SharedWriter(Writer):
-    """A writer whose buckets share what they read."""
+    """A writer whose buckets share what they read. Of many it keeps those that were used last: what it needs of others is in the index."""
+
+    most_buckets = 64
 
     def __init__(self, shared: Shared, session: Files, layout: Layout, ground: Ground | None = None):
         super().__init__(session, layout)
         self.shared, self.ground = shared, ground
+        self.tags_carried, self.beginnings = dict[int, Tag](), shared.index.beginnings
+        self.at_hand: WeakValueDictionary[int, Bucket] = WeakValueDictionary()
+
+    @property
+    def carried(self) -> dict[int, Tag]:
+        """Pages of the session into which nothing can come that an earlier client, or an unanswered change, wrote: each with its tag, as it was carried. None
+        where the index was begun anew: it has to have each of these."""
+        if self.beginnings != self.shared.index.beginnings:
+            self.tags_carried, self.beginnings = {}, self.shared.index.beginnings
+        return self.tags_carried
+
+    @carried.setter
+    def carried(self, tags: dict[int, Tag]) -> None:
+        self.tags_carried = tags
 
     def bucket(self, page: int) -> Bucket:
-        if page not in self.buckets:
-            self.buckets[page] = SharedBucket(self.shared, self.session, self.layout, page, self.ground)
-        return self.buckets[page]
+        """The bucket of a page: one of the last that were used, or that somebody has at hand. (Two for one page would each have a journal.)"""
+        found = self.buckets.pop(page, None) or self.at_hand.get(page) or self.new_bucket(page)
+        self.buckets[page] = self.at_hand[page] = found
+        if len(self.buckets) > self.most_buckets:
+            del self.buckets[next(iter(self.buckets))]
+        return found
+
+    def new_bucket(self, page: int) -> Bucket:
+        return SharedBucket(self, self.session, self.layout, page, self.ground)
+
+    def has_settled_all(self) -> bool:
+        return len(self.carried) == self.layout.pages
+
+    def find_room(self) -> None:
+        """Where all pages of the session are as this client carried them they are not looked at again: the index has them. Else many are not looked at at
+        once: a gateway settles them by and by, and then finds what is free."""
+        if not self.has_settled_all():
+            return super().find_room() if self.layout.pages <= MOST_SEARCHED else None
+        slots, puts = set[int](), set[int]()
+        for page in self.shared.index.pages_of(self.me):
+            slots |= page.slots(self.me)
+            puts |= page.puts()
+        self.keeper.retain(slots, puts)
+        self.keeper.flush()

@@ -2,25 +2,26 @@
 
 import secrets
 import time
-from collections.abc import Callable, Sequence
+from collections.abc import Callable, Collection, Iterable, Sequence
+from contextlib import suppress
 from functools import partial
 from typing import IO, Protocol, cast
 
+from gridfs_client.answers import Tag
 from gridfs_client.buckets import Bucket, Held
 from gridfs_client.contents import Content, Inline, InSlots, Joined
 from gridfs_client.core import Line, Version
-from gridfs_client.errors import CarrierFault, Damaged, NoRoom, NoSuchName, SessionTaken, Unanswered
+from gridfs_client.ends import End
+from gridfs_client.errors import CarrierFault, ClientError, Damaged, NoRoom, NoSuchName, SessionTaken, Unanswered
 from gridfs_client.fleet import sign, spool
 from gridfs_client.fleet_map import Move
-from gridfs_client.layout import Layout
 from gridfs_client.moving import clear
 from gridfs_client.names import no_words
 from gridfs_client.pages import check_words
 from gridfs_client.pieces import choose
 from gridfs_client.placing import Placing
-from gridfs_client.sessions import Files
-from gridfs_client.streams import Source
-from gridfs_client.ways import Ground
+from gridfs_client.sessions import Session
+from gridfs_client.streams import OneByOne, Source
 from gridfs_client.writers import Writer
 
 from .checksums import Checksum
@@ -94,9 +95,12 @@ class FewSearches(Placing):
 class Store(Reader):
     """The names of one session, as objects; by one thread at a time."""
 
-    def __init__(self, session: Files, layout: Layout, shared: Shared, ground: Ground | None = None):
-        super().__init__(session, layout, shared, ground)
-        self.settled: set[int] = set()  # pages of the session into which nothing can come that an earlier client, or an unanswered change, wrote
+    goes_on = False  # where an earlier gateway ended, with nothing left under way
+
+    @property
+    def settled(self) -> Collection[int]:
+        """Pages of the session into which nothing can come that an earlier client, or an unanswered change, wrote."""
+        return self.writer.carried
 
     def make_room(self, bucket: Bucket, line: Line) -> None:
         """Where a page has no room, or is half full of removals, all sessions have to sweep it: PageFull, but not again at once, unless there are many removals
@@ -124,7 +128,8 @@ class Store(Reader):
         return choose(self.me, self.writer.keeper.number, size, free) is not None
 
     def moved(self, bucket: Bucket, name: str, source: Source, writers: Sequence[Writer], words: str) -> InSlots:
-        placing = FewSearches(self.layout, bucket, writers, self.team)
+        team = self.team if len(writers) > 1 else OneByOne()  # (a thread more takes longer than a short content)
+        placing = FewSearches(self.layout, bucket, writers, team)
         placing.words, placing.shared = words, self.shared
         return placing.run(name, source, partial(self.progress, "put"))
 
@@ -207,9 +212,8 @@ class Store(Reader):
             self.writer.change(bucket, journal)
         except (Unanswered, SessionTaken, CarrierFault):
             self.shared.turns.is_unsure(subject, version.number)
-            self.settled.clear()
+            self.writer.carried.clear()
             raise
-        self.settled.add(bucket.number)
         return Held(name, version, content or Inline(b""), words)
 
     def no_line(self, bucket: Bucket, name: str) -> NoLine:
@@ -270,9 +274,17 @@ class Store(Reader):
         if page not in self.settled:
             bucket = self.writer.bucket(page)
             self.writer.tidy(bucket, anew=True)
-            self.settled.add(page)
-            times = [number_of(of_words(held.words), "t") for held in self.shared.held_in(bucket)]
+            times = (number_of(of_words(line.words), "t") for known in bucket.client.seen for line in known.page.lines)
             self.shared.turns.is_later_than(max(times, default=0))
+
+    def look_at(self, volumes: Iterable[int]) -> None:
+        """Sees that the index has each page of these volumes as it is now, or was after this began: a request for each volume, and those for each bucket of
+        which a page was changed."""
+        for volume in volumes:
+            rows = self.session.list(volume)
+            for page in self.layout.pages_in(volume):
+                if not self.index_has(page, rows):
+                    self.writer.bucket(page).refresh(rows)
 
     def share_in(self, move: Move, page: int) -> None:
         """What a move wants of this session at the old grid: that its page has the signpost, and later that the lines of the slices go."""
@@ -290,15 +302,32 @@ class Store(Reader):
         self.writer.keeper.recall()
         self.writer.keeper.flush()
 
+    def end(self) -> End | None:
+        """Where the session came to its end, where nothing is under way into its pages."""
+        assert isinstance(self.session, Session)
+        return End(self.session.home, self.session.last) if self.writer.has_settled_all() and self.session.last is not None else None
+
+    def go_on(self, end: End) -> None:
+        """Goes on as it came to an end in an earlier gateway, where nobody had the session since."""
+        self.has_back({page: self.shared.index.tag(page, self.me) for page in range(self.layout.pages)}, end)
+
+    def has_back(self, carried: dict[int, Tag], end: End | None) -> None:
+        """Begins with a session whose pages were as they were carried, but for those that the note tells of; where that is not to be believed, with none."""
+        assert isinstance(self.session, Session)
+        self.session.forget()
+        with suppress(ClientError):
+            self.session.start()
+            if end and end.is_of(self.session):
+                changed = {self.layout.page_at(volume, file) for volume, file in end.written}
+                self.writer.carried = {page: tag for page, tag in carried.items() if page not in changed}
+                self.goes_on = True
+
     def free_slots(self) -> None:
         """Finds the slots that earlier clients left taken: once all pages of the session are settled, what none of them names is free."""
-        if len(self.settled) == self.layout.pages:
-            buckets = [self.writer.bucket(page) for page in range(self.layout.pages)]
-            for bucket in buckets:
-                bucket.look()
-            slots = {slot for bucket in buckets for slot in bucket.journal.slots(self.me)}
-            puts = {put for bucket in buckets for put in bucket.journal.puts()}
-            self.writer.keeper.retain(slots, puts)
+        if self.goes_on:
+            self.writer.keeper.load()
+        elif self.writer.has_settled_all():
+            self.writer.find_room()
             self.writer.keeper.recall()
             self.writer.keeper.write(self.writer.keeper.needed())  # (also where nothing is freed: so no pending write of the table takes effect later)
 

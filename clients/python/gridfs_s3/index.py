@@ -1,0 +1,478 @@
+"""What the pages of a grid say, in the order of keys: an index on disk, so that a listing reads no page, and that memory has to hold few.
+
+It has the text of each page as any session of this gateway saw it last, with the tag of its file, and a row for each line. A tag tells one content of a
+file: so a page of which the grid tells the same tag is the page that stands here. Which pages have to be asked for, so that the rows are what names held at
+some moment of a request, is not decided here (sessions.py).
+"""
+
+import os
+import sqlite3
+import tempfile
+import threading
+import time
+from bisect import bisect_left
+from collections import OrderedDict
+from collections.abc import Iterable, Iterator, Sequence
+from contextlib import AbstractContextManager, ExitStack, contextmanager, nullcontext, suppress
+from heapq import merge
+from itertools import groupby, islice
+from typing import Final, NamedTuple, Protocol
+
+from gridfs_client.answers import Tag
+from gridfs_client.buckets import Held
+from gridfs_client.core import Known, Line, Page, Version, version_of
+from gridfs_client.errors import ClientError
+from gridfs_client.pages import parse_line, parse_page, text_of
+from gridfs_client.ways import Found, version_in
+
+from .errors import tell
+from .places import KEYS, NULL, VERSIONS, Object, of_words
+
+FORM = 1
+RECENT = 4 << 20  # bytes of text of pages that are kept as they were read
+COMMIT = 2.0  # seconds after which what was kept is written down
+TABLES = (
+    "create table if not exists pages (place integer primary key, number integer, session integer, text blob)",
+    "create table if not exists rows (key blob, name text, session integer, version integer, writer integer, grid text, move integer, "
+    "size integer, etag text, time integer, words text, number integer, chooser integer, is_marker integer, primary key (key, name, session)) without rowid",
+    "create table if not exists about (word text primary key, value text)",
+)
+ADDED = f"insert or replace into rows values ({', '.join('?' * 14)})"
+LINE: Final = ""  # in the place of a name: the row is that of a line of a session's page, by its name
+SIZE: Final = 7  # places in a row
+WORDS: Final = 10
+AT_ONCE = 5_000  # names that are counted before others are let in
+BESIDE = (KEYS, VERSIONS)  # names of objects that don't tell their keys
+
+
+class Row(NamedTuple):
+    """An object, a version of one, or another name, as a listing tells of it. An object has its bucket and key for its key. `words` are kept of names that are no
+    objects' alone; the versions of one key are in order by `order`."""
+
+    key: str
+    name: str
+    size: int
+    etag: str
+    time: int
+    words: str
+    order: tuple[int, int]
+    is_marker: bool
+
+    @property
+    def version(self) -> str:
+        """Its ID among the versions of its key."""
+        return self.name.removeprefix(VERSIONS).split("/")[1] if self.name.startswith(VERSIONS) else NULL
+
+
+# A row of the index: key, name, session; the version; size (none of a removal), ETag, time, words; the order among versions, and whether it is a marker.
+Stored = tuple[bytes, str, int, int, int, str, int, int | None, str, int, str, int, int, int]
+COLUMNS = "key, name, session, version, writer, grid, move, size, etag, time, words, number, chooser, is_marker"
+
+
+def row_for(held: Held) -> Row:
+    """The row of what a name holds, by that name."""
+    found = Object("", held)
+    words = held.words if held.name.startswith(".s3/") else ""
+    return Row(held.name, held.name, found.size, found.etag, found.time, words, found.order, found.is_marker)
+
+
+def stored(line: Line, session: int, grid: str) -> Stored:
+    version = version_of(line, session, grid)
+    place = line.name.encode(), LINE, session, version.number, version.session, version.grid, version.move
+    if line.content is None:
+        return *place, None, "", 0, "", 0, 0, 0
+    row = row_for(Held(line.name, Version(line.version, session), line.content, line.words))
+    return *place, row.size, row.etag, row.time, row.words, *row.order, row.is_marker
+
+
+def key_beside(name: str, words: str) -> bytes | None:
+    """Bucket and key of an object whose name does not tell its key; None where the words don't either, as those of a removal."""
+    key = of_words(words).get("k")
+    prefix = next(each for each in BESIDE if name.startswith(each))
+    return f"{name[len(prefix):].partition('/')[0]}/{key}".encode() if key else None
+
+
+def line_in(text: bytes, name: str) -> Line | None:
+    """The line of a name in the text of a page."""
+    end = f" {name}\n".encode()
+    at = text.find(end, text.find(b"\n"))
+    while at >= 0:
+        line = parse_line(text[text.rfind(b"\n", 0, at) + 1 : at + len(end) - 1].decode())
+        if line.name == name:
+            return line
+        at = text.find(end, at + 1)  # (another name ends so)
+    return None
+
+
+class Names(Protocol):
+    """All that names hold, each at some moment of a request."""
+
+    def at_once(self) -> AbstractContextManager[None]:
+        """What is read meanwhile is of one moment."""
+
+    def rows(self, begin: bytes, end: bytes) -> Iterator[Row]:
+        """What holds something from the first of these keys on to before the other, in the order of their bytes, by who is in `at_once`. An object has its
+        bucket and key for its key, and also stands by its name where that does not tell it."""
+
+    def names(self, prefix: str) -> list[Row]:
+        """The names that begin so, and hold something."""
+
+    def has_any(self, prefix: str) -> bool: ...
+
+    def total(self, prefix: str) -> tuple[int, int]:
+        """How many keys begin so that are there, and the bytes of the latest version of each."""
+
+
+class Few:
+    """Names that are all in memory."""
+
+    def __init__(self, every: Iterable[Held]):
+        found = [row_for(held) for held in every]
+        beside = [(row, key_beside(row.name, row.words)) for row in found if row.name.startswith(BESIDE)]
+        found += [row._replace(key=key.decode(), words="") for row, key in beside if key]
+        self.every = sorted((row.key.encode(), row) for row in found)
+
+    def at_once(self) -> AbstractContextManager[None]:
+        return nullcontext()
+
+    def rows(self, begin: bytes, end: bytes) -> Iterator[Row]:
+        return (row for key, row in islice(self.every, bisect_left(self.every, begin, key=first), None) if key < end)
+
+    def names(self, prefix: str) -> list[Row]:
+        return list(self.rows(prefix.encode(), prefix.encode() + b"\xff"))
+
+    def has_any(self, prefix: str) -> bool:
+        return next(self.rows(prefix.encode(), prefix.encode() + b"\xff"), None) is not None
+
+    def total(self, prefix: str) -> tuple[int, int]:
+        return total(self, prefix)
+
+
+def first(pair: tuple[bytes, Row]) -> bytes:
+    return pair[0]
+
+
+class Index:
+    """Each call may come from any thread. Without a path the file is nobody else's, and goes with the process; else a later process goes on with it."""
+
+    def __init__(self, path: str | None = None, grid: str = ""):
+        self.grid, self.guard = grid, threading.RLock()
+        self.tags: dict[tuple[int, int], Tag] = {}
+        self.recent: OrderedDict[tuple[int, int], tuple[Known, int]] = OrderedDict()
+        self.recent_bytes, self.changes, self.committed = 0, 0, time.monotonic()
+        self.fullest = 0  # bytes of the fullest page
+        self.numbers: dict[tuple[int, int], int] = {}
+        self.asks: dict[tuple[int, int], tuple[int, ...]] = {}  # of pages that ask for others
+        self.leads: set[str] = set()  # grids to which signposts lead
+        self.open: set[int] = set()  # buckets of which a page asks for a later one than is known
+        self.is_kept, self.beginnings = path is not None, 0  # how often it was begun anew
+        if path is None:
+            handle, name = tempfile.mkstemp(prefix="gridfs-s3-index-")
+            os.close(handle)
+            self.base = self.opened(name)
+            os.unlink(name)
+        else:
+            try:
+                self.base = self.opened(path)
+            except sqlite3.OperationalError:
+                raise  # (another gateway has it)
+            except (sqlite3.DatabaseError, ClientError):
+                for end in ("", "-wal", "-shm"):
+                    with suppress(FileNotFoundError):
+                        os.unlink(path + end)
+                self.base = self.opened(path)
+
+    def opened(self, path: str) -> sqlite3.Connection:
+        base = sqlite3.connect(path, timeout=1, check_same_thread=False, isolation_level=None)
+        try:
+            base.execute("pragma locking_mode = exclusive")
+            base.execute(f"pragma journal_mode = {'wal' if self.is_kept else 'memory'}")
+            base.execute("pragma synchronous = off")
+            base.execute("pragma cache_size = -65536")
+            base.execute("begin immediate")
+            if base.execute("pragma user_version").fetchone() != (FORM,):
+                for (name,) in base.execute("select name from sqlite_master where type = 'table'").fetchall():
+                    base.execute(f"drop table {name}")
+                base.execute(f"pragma user_version = {FORM}")
+            for table in TABLES:
+                base.execute(table)
+            self.learn(base)
+        except BaseException:
+            base.close()
+            raise
+        return base
+
+    def learn(self, base: sqlite3.Connection) -> None:
+        """What is known of pages in memory."""
+        self.tags.clear()
+        self.numbers.clear()
+        self.asks.clear()
+        for place, number, session, length, head in base.execute("select place, number, session, length(text), substr(text, 1, 500) from pages"):
+            page = parse_page(head[: head.find(b"\n") + 1], "the index")
+            self.tags[place // 64, place % 64] = Tag(number, session)
+            self.note(place // 64, place % 64, page)
+            self.fullest = max(self.fullest, length)
+        for (text,) in base.execute("select text from pages where instr(text, x'0a3e')"):
+            self.leads.update(each.grid for each in parse_page(text, "the index").signposts)
+        self.open = {page for page in {page for page, _ in self.asks} if not self.is_closed(page)}
+
+    def note(self, page: int, session: int, seen: Page) -> None:
+        self.numbers[page, session] = seen.number
+        self.leads.update(each.grid for each in seen.signposts)
+        if seen.after:
+            self.asks[page, session] = seen.after
+        else:
+            self.asks.pop((page, session), None)
+
+    def is_closed(self, page: int) -> bool:
+        """Whether each page of a bucket is there with the number that the others ask for."""
+        asks = (self.asks.get((page, session), ()) for session in range(1, 17))
+        return all(self.numbers.get((page, session), 0) >= number for after in asks for session, number in enumerate(after, 1))
+
+    def close(self) -> None:
+        """Writes down what is known, for a later process."""
+        with self.guard:
+            if self.base.in_transaction:
+                self.base.execute("commit")
+            self.base.close()
+
+    def forget(self) -> None:
+        """Nothing is known."""
+        with self.guard:
+            for table in ("pages", "rows", "about"):
+                self.base.execute(f"delete from {table}")
+            self.know_nothing()
+
+    def know_nothing(self) -> None:
+        self.beginnings += 1
+        self.tags.clear()
+        self.recent.clear()
+        self.numbers.clear()
+        self.asks.clear()
+        self.open.clear()
+        self.recent_bytes = 0
+
+    def go_on_in_memory(self, why: sqlite3.Error) -> None:
+        """Where the disk takes no more, it begins anew in memory, and nothing is left for a later process."""
+        tell(f"the index can't be written: {why}; it is in memory from now on")
+        with suppress(sqlite3.Error):
+            self.base.close()
+        self.is_kept = False
+        self.base = self.opened(":memory:")
+        self.know_nothing()
+
+    def about(self, word: str) -> str:
+        with self.guard:
+            found = self.base.execute("select value from about where word = ?", (word,)).fetchone()
+        return str(found[0]) if found else ""
+
+    def say(self, word: str, value: str) -> None:
+        with self.guard:
+            self.base.execute("insert or replace into about values (?, ?)", (word, value))
+            self.commit()
+
+    def commit(self) -> None:
+        if self.base.in_transaction:
+            self.base.execute("commit")
+        self.base.execute("begin")
+        self.committed = time.monotonic()
+
+    # Pages
+
+    def tag(self, page: int, session: int) -> Tag:
+        return self.tags.get((page, session), Tag(0, 0))
+
+    def known(self, page: int, session: int) -> Known | None:
+        """The page of a session as it was seen last."""
+        with self.guard:
+            if found := self.recent.get((page, session)):
+                self.recent.move_to_end((page, session))
+                return found[0]
+            told = self.base.execute("select number, session, text from pages where place = ?", (page * 64 + session,)).fetchone()
+            if told is None:
+                return None
+            known = Known(Tag(told[0], told[1]), parse_page(told[2], "the index"))
+            self.is_recent(page, session, known, len(told[2]))
+            return known
+
+    def greatest(self, page: int, name: str) -> Found | None:
+        """The line of a name that counts, of all pages of its bucket; only that is read."""
+        lines = list[Found]()
+        with self.guard:
+            for place, text in self.base.execute("select place, text from pages where place between ? and ?", (page * 64, page * 64 + 63)):
+                if line := line_in(text, name):
+                    lines.append(Found(Version(line.version, place % 64), place % 64, "", line))
+        return max(lines, key=version_in) if lines else None
+
+    def is_recent(self, page: int, session: int, known: Known, length: int) -> None:
+        _, before = self.recent.pop((page, session), (None, 0))
+        self.recent[page, session] = known, length
+        self.recent_bytes += length - before
+        while self.recent_bytes > RECENT and len(self.recent) > 1:
+            _, (_, length) = self.recent.popitem(last=False)
+            self.recent_bytes -= length
+
+    def keep(self, page: int, session: int, known: Known) -> None:
+        """A page as it was read or written, unless a later one is known."""
+        with self.guard:
+            if known.tag <= self.tag(page, session):
+                return
+            text = text_of(known.page)
+            try:
+                self.keep_text(page, session, known, text)
+            except sqlite3.OperationalError as fault:
+                self.go_on_in_memory(fault)
+                self.keep_text(page, session, known, text)
+            self.tags[page, session] = known.tag
+            self.note(page, session, known.page)
+            self.open.discard(page) if self.is_closed(page) else self.open.add(page)
+            self.is_recent(page, session, known, len(text))
+            self.fullest = max(self.fullest, len(text))
+            self.changes += 1
+            if self.is_kept and time.monotonic() - self.committed > COMMIT:
+                try:
+                    self.commit()
+                except sqlite3.OperationalError as fault:
+                    self.go_on_in_memory(fault)
+
+    def keep_text(self, page: int, session: int, known: Known, text: bytes) -> None:
+        before = self.known(page, session)
+        self.base.execute("insert or replace into pages values (?, ?, ?, ?)", (page * 64 + session, known.tag.number, known.tag.session, text))
+        self.change_rows(before.page.lines if before else (), known.page.lines, session)
+
+    def change_rows(self, before: tuple[Line, ...], after: tuple[Line, ...], session: int) -> None:
+        old, new = {line.name: line for line in before}, {line.name: line for line in after}
+        changed = [name for name in old.keys() | new.keys() if old.get(name) is not new.get(name) and old.get(name) != new.get(name)]
+        gone = [(name.encode(), session) for name in changed if name in old and name not in new]
+        come = [stored(new[name], session, self.grid) for name in changed if name in new]
+        beside = {name: self.keys_of(name, old) for name in changed if name.startswith(BESIDE)}
+        self.base.executemany("delete from rows where key = ? and name = '' and session = ?", gone)
+        self.base.executemany(ADDED, come)
+        for name, keys in beside.items():
+            self.base.executemany("delete from rows where key = ? and name = ?", [(key, name) for key in keys])
+            found = max(self.lines(name), key=by_version, default=None)
+            if found and found[SIZE] is not None and (key := key_beside(name, found[WORDS])):
+                self.base.execute(ADDED, (key, name, 0, *found[3:WORDS], "", *found[WORDS + 1 :]))
+
+    def lines(self, name: str) -> list[Stored]:
+        """The lines of a name."""
+        return self.base.execute(f"select {COLUMNS} from rows where key = ? and name = ''", (name.encode(),)).fetchall()
+
+    def keys_of(self, name: str, old: dict[str, Line]) -> set[bytes]:
+        """The key of an object whose name does not tell it, as the lines say it that were known until now."""
+        words = [each[WORDS] for each in self.lines(name)] + ([old[name].words] if name in old else [])
+        return {key for key in (key_beside(name, each) for each in words) if key}
+
+    def pages_of(self, session: int) -> Iterator[Page]:
+        """All pages of a session."""
+        for page, each in sorted(self.tags):
+            if each == session:
+                with self.guard:
+                    told = self.base.execute("select text from pages where place = ?", (page * 64 + session,)).fetchone()
+                if told:
+                    yield parse_page(told[0], "the index")
+
+    # Names
+
+    @contextmanager
+    def at_once(self) -> Iterator[None]:
+        with self.guard:
+            yield
+
+    def rows(self, begin: bytes, end: bytes) -> Iterator[Row]:
+        return that_count(self.stored(begin, end))
+
+    def stored(self, begin: bytes, end: bytes) -> Iterator[Stored]:
+        return self.base.execute(f"select {COLUMNS} from rows where key >= ? and key < ? order by key, name", (begin, end))
+
+    def names(self, prefix: str) -> list[Row]:
+        with self.guard:
+            return list(self.rows(prefix.encode(), prefix.encode() + b"\xff"))
+
+    def has_any(self, prefix: str) -> bool:
+        with self.guard:
+            return next(self.rows(prefix.encode(), prefix.encode() + b"\xff"), None) is not None
+
+    def total(self, prefix: str) -> tuple[int, int]:
+        return total(self, prefix)
+
+
+def by_version(found: Stored) -> tuple[int, int, str, int]:
+    return found[3:7]
+
+
+def that_count(every: Iterable[Stored]) -> Iterator[Row]:
+    """Of rows in order those that count, where they hold something."""
+    best: Stored | None = None
+    for found in every:
+        if best and best[:2] != found[:2]:
+            if best[SIZE] is not None:
+                yield row_of(best)
+            best = None
+        if best is None or by_version(found) > by_version(best):
+            best = found
+    if best and best[SIZE] is not None:
+        yield row_of(best)
+
+
+def row_of(found: Stored) -> Row:
+    key = found[0].decode()
+    return Row(key, found[1] or key, found[SIZE] or 0, found[8], found[9], found[WORDS], (found[11], found[12]), bool(found[13]))
+
+
+class Union:
+    """The indexes of several grids as they are at one moment: of each name the greatest line of all counts, as where all pages of a way are read at once."""
+
+    def __init__(self, indexes: Sequence[Index]):
+        self.indexes = indexes
+
+    @contextmanager
+    def at_once(self) -> Iterator[None]:
+        with ExitStack() as held:
+            for index in self.indexes:
+                held.enter_context(index.at_once())
+            yield
+
+    def rows(self, begin: bytes, end: bytes) -> Iterator[Row]:
+        for row in that_count(merge(*(index.stored(begin, end) for index in self.indexes), key=by_key)):
+            # (a key that stands beside a name is as old as the grid that says it)
+            if row.name != row.key:
+                found = max((line for index in self.indexes for line in index.lines(row.name)), key=by_version)
+                if found[SIZE] is None:
+                    continue
+                row = row_of((row.key.encode(), row.name, *found[2:]))
+            yield row
+
+    def names(self, prefix: str) -> list[Row]:
+        with self.at_once():
+            return list(self.rows(prefix.encode(), prefix.encode() + b"\xff"))
+
+    def has_any(self, prefix: str) -> bool:
+        with self.at_once():
+            return next(self.rows(prefix.encode(), prefix.encode() + b"\xff"), None) is not None
+
+    def total(self, prefix: str) -> tuple[int, int]:
+        return total(self, prefix)
+
+
+def by_key(found: Stored) -> tuple[bytes, str]:
+    return found[:2]
+
+
+def by_keys(rows: Iterable[Row]) -> Iterator[list[Row]]:
+    """The versions of each key, the latest first, of rows in order."""
+    return (sorted(each, key=lambda row: row.order, reverse=True) for _, each in groupby(rows, key=lambda row: row.key))
+
+
+def total(names: Names, prefix: str) -> tuple[int, int]:
+    """How many keys begin so that are there, and the bytes of the latest version of each, as they were at some moments: others are let in meanwhile."""
+    place, end, count, size = prefix.encode(), prefix.encode() + b"\xff", 0, 0
+    while True:
+        found, last = 0, ""
+        with names.at_once():
+            for latest, *_ in islice(by_keys(names.rows(place, end)), AT_ONCE):
+                found, last = found + 1, latest.key
+                count, size = (count, size) if latest.is_marker else (count + 1, size + latest.size)
+        if found < AT_ONCE:
+            return count, size
+        place = last.encode() + b"\0"

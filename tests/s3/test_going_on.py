@@ -1,0 +1,289 @@
+"""A gateway that goes on with the index of an earlier one: it ended in order, or was killed, or others had its sessions since, or the index is another grid's."""
+
+import contextlib
+import os
+import signal
+import subprocess
+import sys
+import tempfile
+import threading
+import time
+import types
+import unittest
+
+sys.path.insert(0, os.path.dirname(os.path.abspath(__file__)))
+import code_of_s3
+import endpoint
+import over_grids
+from gridfs_client.answers import Tag
+from gridfs_client.ends import parse_end
+from gridfs_client.fleet_map import read_map
+from gridfs_client.layout import Layout, Volume
+from gridfs_client.sessions import Session
+from gridfs_s3.sessions import SURE_FOR
+from gridfs_s3.store import Store
+
+COUNT, SESSIONS = 40, 8
+
+
+def listed(s3, bucket="bucket"):
+    """Keys with their sizes."""
+    found = s3.list_objects_v2(Bucket=bucket)
+    return {each["Key"]: each["Size"] for each in found.get("Contents", [])}
+
+
+COMMAND = [sys.executable, "-B", os.path.join(code_of_s3.CLIENT, "gridfs-client")]
+
+
+HAS_ONE = """\
+import sys
+from gridfs_client.asking import ask_plan
+from gridfs_client.opening import OpenSessions
+from gridfs_client.settings import Settings
+
+found = Settings.gather({"config": sys.argv[1], "locks": sys.argv[2]}, {})
+carrier = found.carrier()
+OpenSessions(found, ask_plan(carrier), carrier).first().read(0, 0)
+print("it has one", flush=True)
+sys.stdin.read()
+"""
+
+
+def settings_of(room):
+    return ["--config", f"{room}/carol.ini", "--locks", f"{room}/locks"]
+
+
+def command(room, *words, given=None):
+    subprocess.run([*COMMAND, *settings_of(room), *words], input=given, capture_output=True, timeout=60, check=True)
+
+
+class GoingOn(unittest.TestCase):
+    def setUp(self):
+        self.rooms = contextlib.ExitStack()
+        self.addCleanup(self.rooms.close)
+        self.room = self.rooms.enter_context(endpoint.stand_in())
+
+    def gateway(self, room=None, index=None):
+        return self.rooms.enter_context(contextlib.closing(Ending(room or self.room, index or f"{self.room}/index")))
+
+    def filled(self):
+        """A gateway with objects, which it has settled."""
+        it = self.gateway()
+        s3 = it.client()
+        s3.create_bucket(Bucket="bucket")
+        for number in range(COUNT):
+            s3.put_object(Bucket="bucket", Key=f"{number:03}/" if number % 3 else f"{number:03}", Body=b"x" * number)
+        self.quiet(s3)
+        self.assertEqual(len(listed(s3)), COUNT)
+        return it, {f"{number:03}/" if number % 3 else f"{number:03}": number for number in range(COUNT)}
+
+    def quiet(self, s3):
+        """Waits until listings ask for nothing but the bucket: then all pages are settled, and a while for what comes after that."""
+        until = time.monotonic() + 60
+        while True:
+            listed(s3)  # (which finds that all sessions are the gateway's still, for two seconds)
+            endpoint.counts(self.room)
+            listed(s3)
+            if endpoint.counts(self.room).get("list", 0) <= 1:
+                break
+            self.assertLess(time.monotonic(), until)
+            time.sleep(0.5)
+        while sum(endpoint.counts(self.room).values()):
+            self.assertLess(time.monotonic(), until)
+            time.sleep(1)
+
+    def test_ended_in_order(self):
+        it, wanted = self.filled()
+        self.assertEqual(it.end(), 0)
+        for _ in range(2):
+            endpoint.counts(self.room)
+            it.start()
+            s3 = it.client()
+            self.assertEqual(listed(s3), wanted)
+            told = endpoint.counts(self.room)
+            self.assertEqual((told.get("list"), told.get("write")), (2 + SESSIONS, None), told)  # (for the index' word, the bucket, and each session)
+            s3.put_object(Bucket="bucket", Key="new", Body=b"12345")
+            s3.delete_object(Bucket="bucket", Key="003")
+            wanted = {key: size for key, size in wanted.items() if key != "003"} | {"new": 5}
+            self.assertEqual(listed(s3), wanted)
+            self.assertEqual(s3.get_object(Bucket="bucket", Key="006")["Body"].read(), b"x" * 6)
+            self.assertEqual(it.end(), 0)
+
+    def test_others_had_its_sessions(self):
+        it, wanted = self.filled()
+        self.assertEqual(it.end(), 0)
+        for number in range(6):
+            command(self.room, "put", "-", f"bucket/{number:03}", given=b"y" * 99)
+            command(self.room, "rm", "bucket/009") if number == 3 else None
+            wanted[f"{number:03}"] = 99
+        del wanted["009"]
+        it.start()
+        self.assertEqual(listed(it.client()), wanted)
+
+    def test_killed(self):
+        it, wanted = self.filled()
+        for number in range(5):
+            it.client().put_object(Bucket="bucket", Key=f"late {number}", Body=b"x")
+            wanted[f"late {number}"] = 1
+        it.kill()
+        it.start()
+        self.assertEqual(listed(it.client()), wanted)
+        self.quiet(it.client())
+        self.assertEqual(listed(it.client()), wanted)
+
+    def test_another_grid(self):
+        """Its pages have tags as those of the index, and other contents."""
+        it, _ = self.filled()
+        self.assertEqual(it.end(), 0)
+        other = self.rooms.enter_context(endpoint.stand_in())
+        another = self.gateway(other, f"{other}/index")
+        another.client().create_bucket(Bucket="bucket")
+        for number in range(COUNT):
+            another.client().put_object(Bucket="bucket", Key=f"{number}", Body=b"z" * 7)
+        self.assertEqual(another.end(), 0)
+        os.replace(f"{self.room}/index", f"{other}/index")
+        another.start()
+        self.assertEqual(listed(another.client()), {f"{number}": 7 for number in range(COUNT)})
+
+
+    def test_a_gateway_that_was_stopped(self):
+        """A command by locks of its own, as on another machine, had one of its sessions meanwhile. What that changed is told once two seconds have gone."""
+        it, wanted = self.filled()
+        it.process.send_signal(signal.SIGSTOP)
+        locks = self.rooms.enter_context(tempfile.TemporaryDirectory())
+        words = ["--config", f"{self.room}/carol.ini", "--locks", locks, "put", "-", "bucket/meanwhile"]
+        subprocess.run([*COMMAND, *words], input=b"1234567", capture_output=True, timeout=60, check=True)
+        time.sleep(SURE_FOR)
+        it.process.send_signal(signal.SIGCONT)
+        self.assertEqual(listed(it.client()), wanted | {"meanwhile": 7})
+
+
+class Lent(unittest.TestCase):
+    """A session that was lent to a command."""
+
+    plan = "grid 2 2\nroom 3000000\ntenant carol 2900000 8 1000 16384\ngo\n" + "carol open 64 64\n" * 8 + "carol open 64 256\n" * 2
+    pages = 31
+
+    def test_it(self):
+        with contextlib.ExitStack() as rooms:
+            folder = rooms.enter_context(tempfile.TemporaryDirectory())
+            with open(f"{folder}/plan", "w", encoding="ascii") as out:
+                out.write(self.plan)
+            room = rooms.enter_context(endpoint.stand_in(f"{folder}/plan", f"{folder}/grid"))
+            it = rooms.enter_context(contextlib.closing(Ending(room)))
+            s3, wanted = it.client(), {}
+            s3.create_bucket(Bucket="bucket")
+            for number in range(COUNT):
+                s3.put_object(Bucket="bucket", Key=f"{number:03}", Body=b"x" * number)
+                wanted[f"{number:03}"] = number
+            self.writes(room)
+            for number in range(3):
+                # In order, once or several times: the pages that were changed are settled anew, and no others.
+                for each in range(1 + number % 3):
+                    command(room, "put", "-", f"bucket/{number:03}", given=b"y" * (90 + each))
+                    wanted[f"{number:03}"] = 90 + each
+                self.assertEqual(listed(s3), wanted)
+                self.assertLess(self.writes(room), self.pages)
+                self.assertEqual(listed(s3), wanted)
+            # Killed once it had the session: all are.
+            words = [sys.executable, "-B", "-c", HAS_ONE, f"{room}/carol.ini", f"{room}/locks"]
+            with subprocess.Popen(words, env={**os.environ, "PYTHONPATH": code_of_s3.CLIENT}, stdin=subprocess.PIPE, stdout=subprocess.PIPE) as process:
+                self.assertEqual(process.stdout.readline(), b"it has one\n")
+                process.kill()
+            self.assertGreaterEqual(self.writes(room), 2 * self.pages)
+            self.assertEqual(listed(s3), wanted)
+
+    def writes(self, room):
+        """How many there were until nothing more is written."""
+        found, last = 0, time.monotonic()
+        while time.monotonic() < last + 3:
+            if count := endpoint.counts(room).get("write", 0):
+                found, last = found + count, time.monotonic()
+            time.sleep(0.2)
+        return found
+
+
+class SeveralGrids(unittest.TestCase):
+    def test_listings_between_moves(self):
+        """Listings ask nobody once all pages are settled, and are right while slices move, and after that."""
+        with contextlib.ExitStack() as rooms:
+            room = rooms.enter_context(tempfile.TemporaryDirectory())
+            for label in ("east", "west"):
+                rooms.enter_context(endpoint.stand_in(folder=os.path.join(room, label)))
+            fleet = over_grids.Fleet(room, ["east", "west"])
+            it = rooms.enter_context(contextlib.closing(Ending(room)))
+            s3, wanted = it.client(), {}
+            s3.create_bucket(Bucket="bucket")
+            for number in range(COUNT):
+                key = f"{number:03}/" if number % 3 else f"{number:03}"
+                s3.put_object(Bucket="bucket", Key=key, Body=b"x" * number)
+                wanted[key] = number
+            for slices, label in (("0-40000", "west"), ("20000-30000", "east"), ("20000-30000", "west")):
+                done = threading.Thread(target=fleet.tell, args=("move", slices, label))
+                done.start()
+                while done.is_alive():
+                    self.assertEqual(listed(s3), wanted, slices)
+                done.join()
+                self.assertFalse(read_map(fleet.map).moves)
+                self.assertEqual(listed(s3), wanted, slices)
+                until = time.monotonic() + 90
+                while self.looks_of(lambda: self.assertEqual(listed(s3), wanted, slices), room) > 2:  # (of the bucket alone)
+                    self.assertLess(time.monotonic(), until)
+                    time.sleep(0.5)
+                gone = next(iter(wanted))
+                s3.delete_object(Bucket="bucket", Key=gone)
+                del wanted[gone]
+                s3.put_object(Bucket="bucket", Key=f"after {slices}", Body=b"12345")
+                wanted[f"after {slices}"] = 5
+                self.assertEqual(listed(s3), wanted, slices)
+
+    def looks_of(self, work, room):
+        """How many volumes are listed meanwhile."""
+        work()  # (which finds that all sessions are the gateway's still, for two seconds)
+        for label in ("east", "west"):
+            endpoint.counts(os.path.join(room, label))
+        work()
+        return sum(endpoint.counts(os.path.join(room, label)).get("list", 0) for label in ("east", "west"))
+
+
+class Ending(endpoint.Gateway):
+    def __init__(self, room, index=None):
+        super().__init__(os.path.join(room, "carol.ini"), room, words=("--index", index) if index else ())
+
+    def close(self):
+        if self.process.poll() is None:
+            self.kill()
+
+
+class HowFar(unittest.TestCase):
+    """What a session's last number has to be."""
+
+    def gone_on(self, said, last, home=2):
+        class Began(Session):
+            def __init__(self):
+                self.home, self.last, self.number = home, None, 1
+
+            def start(self):
+                self.last = last
+                return last
+
+        store = Store.__new__(Store)
+        store.session, store.me = Began(), 1
+        store.layout = types.SimpleNamespace(pages=3, page_at=Layout(2, (Volume(4, 1), Volume(4, 1), Volume(4, 1), Volume(4, 1), Volume(4, 2))).page_at)
+        store.writer = types.SimpleNamespace(carried={})
+        store.shared = types.SimpleNamespace(index=types.SimpleNamespace(tag=lambda page, _: Tag(page + 5, 1)))
+        store.go_on(parse_end(f"{said}\n"))
+        return store.writer.carried
+
+    def test_it(self):
+        carried = {0: Tag(5, 1), 1: Tag(6, 1), 2: Tag(7, 1)}
+        self.assertEqual(self.gone_on("2 7", 8), carried)
+        for said, last, home in (("2 7", 7, 2), ("2 7", 9, 2), ("2 7", 8, 66), ("2 0", 8, 2)):
+            self.assertEqual(self.gone_on(said, last, home), {})
+        # Pages that were written meanwhile, or their journals, are settled anew; slots and tables are none.
+        for places, left in (("0.2", {1, 2}), ("2.2 0.0", {1, 2}), ("1.1 3.3", {0}), ("4.0 0.1", {0, 1, 2})):
+            self.assertEqual(self.gone_on(f"2 7 {places}", 8).keys(), left, places)
+
+
+if __name__ == "__main__":
+    unittest.main()

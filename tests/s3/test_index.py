@@ -1,0 +1,336 @@
+"""The index of a gateway: what it tells of random pages, as they come and go; where it is right with nobody asked; and what a later process takes from it."""
+
+import asyncio
+import contextlib
+import io
+import os
+import random
+import sqlite3
+import sys
+import tempfile
+import types
+import unittest
+
+sys.path.insert(0, os.path.dirname(os.path.abspath(__file__)))
+import code_of_s3  # noqa: F401  (which says where the code is)
+
+from gridfs_client.answers import Tag
+from gridfs_client.contents import Inline, digest_of
+from gridfs_client.core import Copied, Known, Line, Page, Signpost
+from gridfs_client.errors import Unanswered
+from gridfs_client.pages import text_of
+from gridfs_s3.grids import Grids
+from gridfs_s3.index import Few, Index, Union, line_in
+from gridfs_s3.listing import Cut, latest_of
+from gridfs_s3.places import KEYS, to_words
+from gridfs_s3.sessions import Pool
+
+SESSIONS, PAGES = 3, 2
+KEYS_OF_NAMES = ["a", "ab", "a/b", "a/", "ü", "b", "b/c/d", "\x01", "z z", "5"]
+
+
+def name_of(key):
+    return f"b/{key}" if not key.endswith("/") and key.isprintable() else f"{KEYS}b/{digest_of(key.encode())}"
+
+
+class Grid:
+    """Pages of one grid as its sessions write them: each puts or removes a name, and lets go what another session shows a greater line of, now and then."""
+
+    def __init__(self, draw, index, grid=""):
+        self.draw, self.index, self.grid = draw, index, grid
+        self.number = {page: 0 for page in range(PAGES)}
+        self.pages = {(page, session): Page() for page in range(PAGES) for session in range(1, SESSIONS + 1)}
+        self.tags = dict.fromkeys(self.pages, 0)
+        self.history = []  # what the index was told of, once or more
+
+    def held(self):
+        """The greatest line of each name: what it holds, where that is something."""
+        found = {}
+        for (_, session), page in self.pages.items():
+            for line in page.lines:
+                copied = line.copied
+                version = (line.version, copied.session, copied.grid, copied.move) if copied else (line.version, session, self.grid, 0)
+                found[line.name] = max(found.get(line.name, (version, line)), (version, line), key=lambda pair: pair[0])
+        return found
+
+    def may_go(self, line, page, session, shown):
+        """Whether a greater line is shown, or it is a removal of what no other page shows."""
+        if shown[line.name][1] is not line:
+            return True
+        return line.content is None and not any(other.shown(line.name) for (at, each), other in self.pages.items() if (at, each) != (page, session))
+
+    def change(self, copy=None):
+        key = self.draw.choice(KEYS_OF_NAMES)
+        name = copy.name if copy else name_of(key)
+        page, session = len(name) % PAGES, self.draw.randrange(1, SESSIONS + 1)
+        # (two sessions that don't see each other choose one number)
+        self.number[page] += self.pages[page, session].number >= self.number[page] or self.draw.random() < 0.6
+        number = max(self.number[page], copy.version if copy else 0)
+        self.number[page] = number
+        lines = [line for line in self.pages[page, session].lines if line.name != name]
+        if not copy:
+            values = {"t": str(number), "k": key} if name.startswith(KEYS) else {"t": str(number)}
+            copy = Line(name, number, None if self.draw.random() < 0.4 else Inline(bytes(self.draw.randrange(9))), to_words(values))
+            if copy.content is None:
+                copy = Line(name, number, None)
+        lines.append(copy)
+        shown = self.held() | {name: ((number, session, self.grid, 0), copy)}
+        lines = [line for line in lines if line is copy or not self.may_go(line, page, session, shown) or self.draw.random() < 0.5]
+        self.pages[page, session] = Page(tuple(lines), (), number)
+        self.tags[page, session] += 1
+        known = Known(Tag(self.tags[page, session], session), self.pages[page, session])
+        self.history.append((page, session, known))
+        self.index.keep(page, session, known)
+        if self.draw.random() < 0.3:
+            self.index.keep(*self.draw.choice(self.history))  # (who was slow tells of it late)
+
+
+def right(grids):
+    """What names hold, over these grids, as rows that a listing is to tell: key, size and time."""
+    lines = {}
+    for grid in grids:
+        for name, (version, line) in grid.held().items():
+            lines[name] = max(lines.get(name, (version, line)), (version, line), key=lambda pair: pair[0])
+    keys = {name_of(key): f"b/{key}" for key in KEYS_OF_NAMES}
+    return sorted((keys[name].encode(), line.content.size, line.version) for name, (_, line) in lines.items() if line.content)
+
+
+def told(names):
+    cut = Cut(names, "b", "", "", "", 1_000, latest_of)
+    return [(f"b/{row.key}".encode(), row.size, row.time) for row in cut.rows]
+
+
+class Pages(unittest.TestCase):
+    def test_random_pages(self):
+        for seed in range(25):
+            draw, index = random.Random(seed), Index()
+            grid = Grid(draw, index)
+            for _ in range(60):
+                grid.change()
+                self.assertEqual(told(index), right([grid]), seed)
+                for key in KEYS_OF_NAMES:
+                    name = name_of(key)
+                    found, wanted = index.greatest(len(name) % PAGES, name), grid.held().get(name)
+                    self.assertEqual(found and found.line, wanted and wanted[1])
+            lines = sum(len(page.lines) for page in grid.pages.values())
+            self.assertEqual(index.base.execute("select count(*) from rows where name = ''").fetchone(), (lines,))
+            for each in grid.pages:
+                if grid.tags[each]:
+                    self.assertEqual(index.known(*each).page, grid.pages[each])
+                    self.assertEqual(index.tag(*each), Tag(grid.tags[each], each[1]))
+            for session in range(1, SESSIONS + 1):
+                self.assertEqual(list(index.pages_of(session)), [grid.pages[page, session] for page in range(PAGES) if grid.tags[page, session]])
+
+    def test_several_grids(self):
+        """A copy is greater than what it is a copy of, and less than what comes after."""
+        for seed in range(25):
+            draw = random.Random(seed)
+            east, west = (Grid(draw, Index(grid=grid), grid) for grid in ("east", "west"))
+            both = Union([east.index, west.index])
+            for _ in range(40):
+                if draw.random() < 0.5:
+                    east.change()
+                elif east.held():
+                    (number, session, grid, move), line = draw.choice(sorted(east.held().values(), key=lambda pair: pair[0]))
+                    if line.name not in west.held():
+                        west.change(Line(line.name, line.version, line.content, line.words, Copied(session, grid, 1, number)))
+                    else:
+                        west.change()
+                self.assertEqual(told(both), right([east, west]), seed)
+
+    def test_a_later_process(self):
+        with tempfile.TemporaryDirectory() as folder:
+            path = os.path.join(folder, "index")
+            index = Index(path)
+            grid = Grid(random.Random(7), index)
+            for _ in range(50):
+                grid.change()
+            index.say("grid", "word")
+            index.close()
+            later = Index(path)
+            self.assertEqual((told(later), later.tags, later.about("grid")), (right([grid]), index.tags, "word"))
+            grid.index = later
+            for _ in range(50):
+                grid.change()
+                self.assertEqual(told(later), right([grid]))
+            later.forget()
+            self.assertEqual((told(later), later.tags, later.about("grid"), later.known(0, 1)), ([], {}, "", None))
+            later.close()
+
+    def test_a_file_that_is_none(self):
+        """One that is damaged, or of another form, is begun anew; one that another gateway has is left to it."""
+        known = Known(Tag(1, 1), Page((Line("b/a", 1, Inline(b"")),), (), 1))
+        with tempfile.TemporaryDirectory() as folder:
+            path = os.path.join(folder, "index")
+            with open(path, "wb") as out:
+                out.write(b"no index\n" * 999)
+            index = Index(path)
+            index.keep(0, 1, known)
+            with self.assertRaisesRegex(sqlite3.OperationalError, "locked"):
+                Index(path)
+            index.close()
+            with contextlib.closing(sqlite3.connect(path)) as base:
+                base.execute("pragma user_version = 99")
+            later = Index(path)
+            self.assertEqual((later.tags, told(later)), ({}, []))
+            later.keep(0, 1, known)
+            later.close()
+            with contextlib.closing(sqlite3.connect(path)) as base, base:
+                base.execute("update pages set text = cast('no page' || char(10) as blob)")
+            self.assertEqual(Index(path).tags, {})
+
+    def test_a_line_in_a_text(self):
+        lines = (Line("x 5", 1, Inline(b"a")), Line("5", 2, Inline(b"b")), Line("x x 5", 3, None))
+        text = text_of(Page(lines, (7, 5), 5))
+        self.assertEqual([line_in(text, name) for name in ("x 5", "5", "x x 5", "x", "y")], [*lines, None, None])
+        self.assertIsNone(line_in(text_of(Page((), (), 5)), "5"))
+        self.assertIsNone(line_in(b"", "5"))
+
+    def test_what_pages_ask_for(self):
+        index = Index()
+        index.keep(0, 1, Known(Tag(1, 1), Page((), (0, 4), 3)))
+        self.assertEqual(index.open, {0})
+        index.keep(1, 2, Known(Tag(1, 2), Page((), (), 4)))
+        self.assertEqual(index.open, {0})
+        index.keep(0, 2, Known(Tag(1, 2), Page((), (), 4)))
+        self.assertEqual(index.open, set())
+
+    def test_signposts(self):
+        with tempfile.TemporaryDirectory() as folder:
+            index = Index(os.path.join(folder, "index"), "east")
+            index.keep(0, 1, Known(Tag(1, 1), Page((), (), 3, (Signpost(1, 0, 9, "west"),))))
+            self.assertEqual(index.leads, {"west"})
+            index.close()
+            self.assertEqual(Index(os.path.join(folder, "index"), "east").leads, {"west"})
+
+    def test_memory(self):
+        """Few pages are kept as they were read."""
+        index = Index()
+        for number in range(4_000):
+            lines = tuple(Line(f"b/{number}/{each}", 1, Inline(b"x" * 30)) for each in range(40))
+            index.keep(number, 1, Known(Tag(1, 1), Page(lines, (), 1)))
+        self.assertLess(len(index.recent), 3_000)
+        self.assertEqual(index.total("b/"), (160_000, 4_800_000))
+
+
+    def test_a_full_disk(self):
+        """It goes on in memory, and knows nothing of before: so nobody takes a page to be there that is not."""
+        for path in (None, "index"):
+            with tempfile.TemporaryDirectory() as folder:
+                index = Index(path and os.path.join(folder, path))
+                index.base.execute("commit")
+                index.base.execute("pragma max_page_count = 12")
+                index.base.execute("begin")
+                grid, told_of = Grid(random.Random(3), index), io.StringIO()
+                lines = tuple(Line(f"b/long/{each}", 1, Inline(b"x" * 1_000)) for each in range(100))
+                grid.change()
+                self.assertEqual(told(index), right([grid]))
+                with contextlib.redirect_stderr(told_of):
+                    index.keep(7, 1, Known(Tag(1, 1), Page(lines, (), 1)))
+                self.assertIn("in memory from now on", told_of.getvalue())
+                self.assertEqual((index.beginnings, index.is_kept, list(index.tags), len(told(index))), (1, False, [(7, 1)], 100))
+
+
+class FewTests(unittest.TestCase):
+    def test_no_names(self):
+        self.assertEqual((told(Few([])), Few([]).has_any(""), Few([]).total("")), ([], False, (0, 0)))
+
+
+def pool_of(settled, looks):
+    """A pool whose sessions have settled these pages, each with what a look does."""
+    layout = types.SimpleNamespace(pages_volumes=len(looks), pages=len(looks), pages_in=lambda volume: range(volume, volume + 1))
+    pool = Pool.__new__(Pool)
+    pool.layout, pool.sessions, pool.looks, pool.looked = layout, len(settled), asyncio.Lock(), 0.0
+    writer = lambda pages: types.SimpleNamespace(has_settled_all=lambda: len(pages) == layout.pages)
+    pool.workers = {number: types.SimpleNamespace(store=types.SimpleNamespace(settled=pages, writer=writer(pages)), is_silent=False, is_lent=False) for number, pages in enumerate(settled, 1)}
+
+    async def lease():
+        return None
+
+    async def run(worker, work, is_soon=False):
+        await asyncio.sleep(0)
+        return work(types.SimpleNamespace(look_at=lambda volumes: [looks[volume]() for volume in volumes]))
+
+    pool.lease, pool.run = lease, run
+    return pool
+
+
+class Looks(unittest.TestCase):
+    def test_where_nobody_is_asked(self):
+        everything = {0, 1, 2}
+        for settled, is_exact, looked in [
+            ([everything, everything], True, []), ([everything, {0, 2}], False, [1]), ([everything, set()], False, [0, 1, 2]), ([{1}, {1, 2}], False, [0, 2]),
+        ]:  # fmt: skip
+            found = []
+            pool = pool_of(settled, [lambda each=each: found.append(each) for each in range(3)])
+            self.assertEqual(pool.is_exact(), is_exact)
+            asyncio.run(pool.look_at_all())
+            self.assertEqual(sorted(found), looked)
+            pool.sessions += 1  # (another gateway has it)
+            self.assertFalse(pool.is_exact())
+
+    def test_who_comes_while_others_look(self):
+        """A look that began before does not do; one for all who wait does."""
+        value, seen, count = [0], {}, [0]
+
+        async def work():
+            pool = pool_of([set()], [lambda: (seen.update(value=value[0]), count.__setitem__(0, count[0] + 1))])
+
+            async def listing():
+                wanted = value[0]
+                await pool.look_at_all()
+                self.assertGreaterEqual(seen["value"], wanted)
+
+            found = []
+            for _ in range(30):
+                found.append(asyncio.ensure_future(listing()))
+                await asyncio.sleep(0)
+                value[0] += 1
+            await asyncio.gather(*found)
+
+        asyncio.run(work())
+        self.assertLess(count[0], 30)
+
+    def test_a_look_that_fails(self):
+        """It is nobody else's: who waited looks himself."""
+        faults, count = [None, *[Unanswered("silent")] * 3], [0]
+
+        def look():
+            count[0] += 1
+            if faults and (fault := faults.pop(0)):
+                raise fault
+
+        async def work():
+            pool = pool_of([set()], [look])
+            return await asyncio.gather(*(pool.look_at_all() for _ in range(3)), return_exceptions=True)
+
+        told = asyncio.run(work())
+        self.assertEqual([type(each) for each in told], [type(None), Unanswered, type(None)])
+        self.assertEqual(count[0], 5)
+
+    def test_several_grids(self):
+        """Nobody is asked where all grids are settled, no move is under way, and no signpost leads to a grid that the map lacks."""
+        pool = lambda is_exact, *leads: types.SimpleNamespace(is_exact=lambda: is_exact, shared=types.SimpleNamespace(index=types.SimpleNamespace(leads=set(leads))))
+        for east, west, moves, is_exact in [
+            (pool(True), pool(True), (), True), (pool(True, "west"), pool(True, "east"), (), True), (pool(True, "north"), pool(True), (), False),
+            (pool(True), pool(False), (), False), (pool(True), pool(True), ("a move",), False),
+        ]:  # fmt: skip
+            grids = Grids.__new__(Grids)
+            grids.pools, grids.map = {"east": east, "west": west}, types.SimpleNamespace(moves=moves)
+            self.assertEqual(grids.is_exact(), is_exact)
+
+    def test_a_silent_home(self):
+        faults = [Unanswered("silent")] * 2
+
+        def look():
+            if faults:
+                raise faults.pop()
+
+        asyncio.run(pool_of([set()], [look]).look_at_all())
+        faults = [Unanswered("silent")] * 3
+        with self.assertRaises(Unanswered):
+            asyncio.run(pool_of([set()], [look]).look_at_all())
+
+
+if __name__ == "__main__":
+    unittest.main()
