@@ -6,11 +6,13 @@ import hashlib
 import re
 from collections.abc import Iterable, Iterator
 from dataclasses import dataclass
+from itertools import chain
 
 NUMBER = r"(?:0|[1-9][0-9]*)"
 RUNS = rf"{NUMBER}(?:-{NUMBER})?(?:,{NUMBER}(?:-{NUMBER})?)*"
 STRANDS = rf"{NUMBER}:{RUNS}(?:;{NUMBER}:{RUNS})*"
 PART = rf"[1-9][0-9]* [A-Za-z0-9_-]{{43}} {NUMBER} {STRANDS}"
+MOST_FILES = 4_194_304  # of a tenant: no slot has so great a number
 BESIDE = re.compile(r".*/=([A-Za-z0-9_-]{43})", re.DOTALL)
 CONTENT = re.compile(rf"-|@([A-Za-z0-9_-]*)|({PART}(?:&{PART})*)")
 
@@ -44,28 +46,41 @@ def digest_to_place(name: str) -> bytes:
 
 @dataclass(frozen=True)
 class Strand:
-    """Slots of one session, in the order in which they are used."""
+    """Slots of one session, in runs, in the order in which they are used. (A line may name any, and says it shortly: so they are not told one by one.)"""
 
     session: int
-    slots: tuple[int, ...]
+    runs: tuple[range, ...]
+
+    @property
+    def count(self) -> int:
+        return sum(map(len, self.runs))
+
+    @property
+    def slots(self) -> Iterator[int]:
+        return chain.from_iterable(self.runs)
 
     def text(self) -> str:
         """`1:0-2,7`: the session, and runs of slot numbers."""
-        runs: list[list[int]] = []
-        for slot in self.slots:
-            if runs and slot == runs[-1][1] + 1:
-                runs[-1][1] = slot
-            else:
-                runs.append([slot, slot])
-        return f"{self.session}:" + ",".join(str(first) if first == last else f"{first}-{last}" for first, last in runs)
+        return f"{self.session}:" + ",".join(str(run.start) if len(run) == 1 else f"{run.start}-{run.stop - 1}" for run in self.runs)
+
+
+def strand_of(session: int, slots: Iterable[int]) -> Strand:
+    runs: list[range] = []
+    for slot in slots:
+        if runs and slot == runs[-1].stop:
+            runs[-1] = range(runs[-1].start, slot + 1)
+        else:
+            runs.append(range(slot, slot + 1))
+    return Strand(session, tuple(runs))
 
 
 def parse_strand(text: str) -> Strand:
+    """A ValueError for a run that goes down, and for slots that no tenant has."""
     session, runs = text.split(":")
-    if runs.isdecimal():
-        return Strand(int(session), (int(runs),))
     ends = [[int(number) for number in run.split("-")] for run in runs.split(",")]
-    return Strand(int(session), tuple(slot for run in ends for slot in range(run[0], run[-1] + 1)))
+    if any(not run[0] <= run[-1] < MOST_FILES for run in ends):
+        raise ValueError(text)
+    return Strand(int(session), tuple(range(run[0], run[-1] + 1) for run in ends))
 
 
 @dataclass(frozen=True)
@@ -102,7 +117,7 @@ class InSlots:
 
     @property
     def pieces(self) -> int:
-        return sum(len(strand.slots) for strand in self.strands)
+        return sum(strand.count for strand in self.strands)
 
     @property
     def parts(self) -> "tuple[InSlots, ...]":
@@ -110,10 +125,11 @@ class InSlots:
 
     def order(self) -> Iterator[tuple[int, int]]:
         """Session and slot of each piece: strands take turns, and one that has ended is left out."""
-        for turn in range(max((len(strand.slots) for strand in self.strands), default=0)):
-            for strand in self.strands:
-                if turn < len(strand.slots):
-                    yield strand.session, strand.slots[turn]
+        left = [(strand.session, strand.slots) for strand in self.strands]
+        while left:
+            turn = [(session, slots, slot) for session, slots in left if (slot := next(slots, None)) is not None]
+            yield from ((session, slot) for session, _, slot in turn)
+            left = [(session, slots) for session, slots, _ in turn]
 
     def text(self) -> str:
         return f"{self.size} {self.digest} {self.put} {';'.join(strand.text() for strand in self.strands)}"
@@ -150,7 +166,10 @@ Content = Inline | InSlots | Joined
 
 def parse_part(text: str) -> InSlots:
     size, digest, put, strands = text.split(" ")
-    return InSlots(int(size), digest, int(put), tuple(map(parse_strand, strands.split(";"))))
+    found = InSlots(int(size), digest, int(put), tuple(map(parse_strand, strands.split(";"))))
+    if found.pieces > found.size:  # (each has a byte at least)
+        raise ValueError(text)
+    return found
 
 
 def content_of(inline: str | None, parts: str | None) -> Content | None:

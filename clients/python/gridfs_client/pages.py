@@ -25,6 +25,7 @@ NUMBER = r"(?:0|[1-9][0-9]*)"
 COPIED = rf"@({GRID})\.([1-9][0-9]*)>([1-9][0-9]*)\.([1-9][0-9]*)"
 SIGNPOST = re.compile(rf">([1-9][0-9]*) ({NUMBER})-({NUMBER}) ({GRID})")
 LINE = re.compile(rf"([1-9][0-9]*)(?:{COPIED})? (?:\{{([!-z]+)\}} )?({CONTENT.pattern}) (.+)", re.DOTALL)
+HEAD = re.compile(rf"names 2(?: {NUMBER})+")
 WORDS = re.compile(r"[!-z]*")
 OLD_FORM = "has names of an older form: get them with the client that put them, and put them into a tenant without names"
 
@@ -97,7 +98,7 @@ def parse_page(content: bytes, where: str) -> Page:
         head, *lines, rest = content.decode().split("\n")
         if (head + " ").startswith(OLD_WORDS + " "):
             raise Damaged(f"{where} {OLD_FORM}")
-        if rest or not head.startswith(FIRST_WORDS):
+        if rest or not HEAD.fullmatch(head):
             raise ValueError(head)
         number, *after = map(int, head[len(FIRST_WORDS) :].split(" "))
         signposts = sum(line.startswith(">") for line in lines)
