@@ -1,12 +1,14 @@
 """nginx before two gateways of one tenant, by the configuration that is made for it (front.py), over a stand-in: test_operations.py through it, and what only it can
 spoil."""
 
+import json
 import os
 import shutil
 import subprocess
 import sys
 import time
 import unittest
+import urllib.error
 import urllib.parse
 import urllib.request
 from pathlib import Path
@@ -14,7 +16,7 @@ from unittest import mock
 
 sys.path.insert(0, os.path.dirname(os.path.abspath(__file__)))
 import endpoint
-from gridfs_s3 import cors
+from gridfs_s3 import cors, policies
 from gridfs_s3.front import instances_of, nginx_conf
 
 SESSIONS = 8  # of carol in the plan
@@ -96,7 +98,21 @@ class Front(test_operations.Case):
             with urllib.request.urlopen(asked) as told:
                 self.assertEqual(told.headers["Access-Control-Allow-Origin"], "https://shop.example")
         one, two = (nginx_conf(Path("/x"), {name: instances_of(name, 4, 1) for name in names}, {"carol": "a", "dave": "b"}, "x") for names in (["carol"], ["carol", "dave"]))
-        self.assertEqual((one.count(":(cors|form)$"), two.count(":(cors|form)$")), (1, 0))
+        self.assertEqual((one.count(":(cors|form|read)$"), two.count(":(cors|form|read)$")), (1, 0))
+
+    def test_what_anybody_may_read(self):
+        """He signs nothing, and his tenant is the only one, or that of the URL."""
+        self.put("public/a", b"for all")
+        self.put("private", b"for few")
+        policy = {"Statement": {"Effect": "Allow", "Principal": "*", "Action": "s3:GetObject", "Resource": f"arn:aws:s3:::{self.bucket}/public/*"}}
+        self.s3.put_bucket_policy(Bucket=self.bucket, Policy=json.dumps(policy))
+        time.sleep(policies.SURE_FOR)  # (both gateways know of it)
+        for query in ("", "?X-Amz-Credential=carol/"):
+            with urllib.request.urlopen(f"{test_operations.URL}/{self.bucket}/public/a{query}") as told:
+                self.assertEqual(told.read(), b"for all")
+            with self.assertRaises(urllib.error.HTTPError) as fault:
+                urllib.request.urlopen(f"{test_operations.URL}/{self.bucket}/private{query}")
+            self.assertEqual(fault.exception.code, 403)
 
     def test_forms(self):
         """They name their tenant in the body alone, unless the URL does so too."""

@@ -19,7 +19,7 @@ from .store import Store
 MOST_BUCKETS = 10_000  # in one answer
 NEVER_GIVEN = {
     "encryption": "ServerSideEncryptionConfigurationNotFoundError",
-    "object-lock": "ObjectLockConfigurationNotFoundError", "ownershipControls": "OwnershipControlsNotFoundError", "policy": "NoSuchBucketPolicy",
+    "object-lock": "ObjectLockConfigurationNotFoundError", "ownershipControls": "OwnershipControlsNotFoundError",
     "publicAccessBlock": "NoSuchPublicAccessBlockConfiguration", "replication": "ReplicationConfigurationNotFoundError", "tagging": "NoSuchTagSet",
     "website": "NoSuchWebsiteConfiguration",
 }  # what a bucket can't be given here, and how it is told that it has none

@@ -36,6 +36,7 @@ ERRORS = {
     "InvalidURI": (400, "The URI is malformed."),
     "KeyTooLongError": (400, "A key has at most 1,024 bytes."),
     "MalformedPOSTRequest": (400, "The body is no form of multipart/form-data."),
+    "MalformedPolicy": (400, "The policy is no JSON that a policy of a bucket is."),
     "MalformedXML": (400, "The XML is malformed, or not what this request takes."),
     "MaxPostPreDataLengthExceeded": (400, "The fields of a form before its file are too long."),
     "MetadataTooLarge": (400, "An object has at most 2,048 bytes of metadata."),

@@ -35,10 +35,11 @@ http {{
         "~\\|(?<user>[a-z]{{1,16}})(\\.[A-Za-z0-9_-]{{1,40}})?$" $user;
         default "";
     }}
-    # who signs no request is a browser with a form, or one that asks for leave: for a tenant that the URL names by ?X-Amz-Credential=, or for the only one here
+    # who signs no request sends a form, asks for leave, or reads what anybody may: for a tenant that the URL names by ?X-Amz-Credential=, or for the only one here
     map "$request_method $http_origin $content_type" $by_browser {{
         "~^OPTIONS ." cors;
         "~*^POST .*multipart/form-data" form;
+        "~^(GET|HEAD) " read;
         default "";
     }}
     # and of its gateways any, or the one that has the session of an upload
@@ -171,7 +172,7 @@ def nginx_conf(folder: Path, gateways: Mapping[str, Sequence[Instance]], sockets
             upstreams.append(f"    upstream gateway-{each.name} {{ server unix:{sockets[each.name]} max_fails=0; keepalive 32; }}")
         maps.append(f'        "~^{tenant}:" gateway-{tenant};')
         if len(gateways) == 1:
-            maps.append(f'        "~^:.*:(cors|form)$" gateway-{tenant};')
+            maps.append(f'        "~^:.*:(cors|form|read)$" gateway-{tenant};')
         servers = " ".join(f"server unix:{sockets[each.name]} {fails};" for each in found)
         upstreams.append(f"    upstream gateway-{tenant} {{ {servers} keepalive 32; }}")
     return NGINX.format(folder=folder, listen=listen, workers=workers, map="\n".join(maps), upstreams="\n".join(upstreams))

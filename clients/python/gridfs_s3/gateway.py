@@ -318,6 +318,12 @@ class Gateway:
             async with self.documents:
                 return await loop.run_in_executor(None, lambda: parse(spool.read(0, spool.size), name, asked.elements))
 
+    async def text(self, asked: Asked, most: int) -> bytes:
+        """The whole of a request's body that is no content. The errors of a body."""
+        body = body_of(asked, is_of_content=False)
+        await let_body_come(asked)
+        return await body.all(most)
+
     # Buckets
 
     async def need_bucket(self, bucket: str) -> str:

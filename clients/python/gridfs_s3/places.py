@@ -3,7 +3,7 @@
     BUCKET/KEY                the object, where that is a name: 1 to 255 bytes of UTF-8, no control character, no / at the end
     .s3/key/BUCKET/DIGEST     any other object: DIGEST is SHA-256 of the key, in 43 letters of base64url; the words have the key
     .s3/bucket/BUCKET         the bucket is there
-    .s3/set/BUCKET/lifecycle  the rules that the bucket was given, in XML; .s3/set/BUCKET/cors as well
+    .s3/set/BUCKET/lifecycle  the rules that the bucket was given, in XML; .s3/set/BUCKET/cors as well, and .s3/set/BUCKET/policy in JSON
     .s3/up/BUCKET/ID/=DIGEST  an upload in parts that is under way: what was uploaded, in the order of the parts. DIGEST is SHA-256 of the object's
                               name, so that both are in the same page, at the same grid
     .s3/version/BUCKET/ID/=DIGEST

@@ -23,6 +23,7 @@ from .grids import asked_by
 from .listing import Listings
 from .objects import Objects
 from .page import Page
+from .policies import Policies
 from .requests import SERVER, Asked, answer
 from .tagging import Tagging
 from .uploads import Uploads
@@ -33,7 +34,7 @@ SLOW = 10.0  # seconds from which on a request is told of on standard error
 READS = ("GET", "HEAD")
 # What a read may ask for that is not here. Other words that are not known mean nothing to a read.
 NOT_HERE = (
-    "accelerate", "analytics", "inventory", "legal-hold", "logging", "metrics", "notification", "policyStatus", "requestPayment", "restore", "retention", "select",
+    "accelerate", "analytics", "inventory", "legal-hold", "logging", "metrics", "notification", "requestPayment", "restore", "retention", "select",
     "torrent", "versions", "intelligent-tiering", *NEVER_GIVEN,
 )  # fmt: skip
 # The headers of Amazon's that any change may have, and those that some may have besides. One that is not known may be a condition, or want something else than
@@ -84,7 +85,7 @@ class Endpoint:
         self.uploads = Uploads(self.objects, self.copies)
         self.tagging, self.forms = Tagging(self.objects, self.copies), Forms(self.objects)
         self.given = Given(gateway)
-        self.lifecycles, self.cors = Lifecycles(self.buckets, self.given), Cors(gateway, self.given)
+        self.lifecycles, self.cors, self.policies = Lifecycles(self.buckets, self.given), Cors(gateway, self.given), Policies(gateway, self.given)
         self.page = Page(gateway, self.listings)
         self.under_way, self.is_ending, self.is_over = 0, False, False
 
@@ -140,6 +141,8 @@ class Endpoint:
             return await self.cors.ask_for_leave(asked)
         if is_form(asked) and not self.is_signed(asked):
             return await self.put_by_form(asked)
+        if asked.method in READS and asked.bucket and asked.key and not self.is_signed(asked):
+            return await self.read_by_anybody(asked)
         asked.signed = signing.check(asked.method, asked.path, asked.raw_query, asked.all_headers(), self.gateway.keys)
         self.is_told_who(asked)
         if not asked.by_anybody:
@@ -170,6 +173,23 @@ class Endpoint:
         if "origin" in asked.headers:
             asked.cors = await self.cors.headers_for(asked)
         return await self.forms.post_object(asked, form)
+
+    async def read_by_anybody(self, asked: Asked) -> web.StreamResponse:
+        """A get or head of an object by who signs nothing. 403 AccessDenied, also where there is no such key: whether there is he is not to learn; 400
+        InvalidRequest."""
+        operation = self.objects.get_object if asked.method == "GET" else self.objects.head_object
+        asked.operation = "GetObject" if asked.method == "GET" else "HeadObject"
+        await self.policies.let_in(asked)
+        who_asks.set("anybody")
+        self.expect_known(asked)
+        if "origin" in asked.headers:
+            asked.cors = await self.cors.headers_for(asked)
+        try:
+            return await operation(asked)
+        except S3Error as fault:
+            if fault.code == "NoSuchKey":
+                raise S3Error("AccessDenied") from None
+            raise
 
     def expect_known(self, asked: Asked) -> None:
         """501 NotImplemented, 400 InvalidArgument, 403 AccessDenied."""
@@ -204,11 +224,13 @@ class Endpoint:
                     Change(self.buckets.put_bucket_versioning, {"versioning"}, elements=versions.ELEMENTS),
                     Change(self.lifecycles.put_bucket_lifecycle_configuration, {"lifecycle"}, elements=lifecycle.ELEMENTS),
                     Change(self.cors.put_bucket_cors, {"cors"}, elements=cors.ELEMENTS),
+                    Change(self.policies.put_bucket_policy, {"policy"}),
                 ],
                 "DELETE": [
                     Change(self.buckets.delete_bucket),
                     Change(self.lifecycles.delete_bucket_lifecycle, {"lifecycle"}),
                     Change(self.cors.delete_bucket_cors, {"cors"}),
+                    Change(self.policies.delete_bucket_policy, {"policy"}),
                 ],
                 "POST": [Change(self.objects.delete_objects, {"delete"}, elements=OF_REMOVALS)],
             }
@@ -264,6 +286,8 @@ class Endpoint:
             "versioning": self.buckets.get_bucket_versioning,
             "acl": self.buckets.get_bucket_acl,
             "cors": self.cors.get_bucket_cors,
+            "policy": self.policies.get_bucket_policy,
+            "policyStatus": self.policies.get_bucket_policy_status,
             "lifecycle": self.lifecycles.get_bucket_lifecycle_configuration,
             "uploads": self.listings.list_multipart_uploads,
             "versions": self.listings.list_object_versions,

@@ -1,0 +1,141 @@
+"""Policies of buckets: which objects anybody may read who signs no request. Of what
+https://docs.aws.amazon.com/AmazonS3/latest/userguide/bucket-policies.html has they say that alone; what else a policy would say is not taken."""
+
+import asyncio
+import json
+import re
+import time
+from dataclasses import dataclass
+from typing import Any
+
+from aiohttp import web
+
+from .errors import S3Error
+from .gateway import LONGEST_XML, Gateway, Operations
+from .given import Given
+from .keys import Key
+from .markup import document, element
+from .requests import Asked, answer
+from .signing import UNSIGNED, Signed, Signer
+
+KIND = "policy"
+LONGEST = 20 << 10  # bytes of a policy
+SURE_FOR = 2.0  # seconds for which a policy that was seen is taken to be in force
+MOST_KNOWN = 1_000  # buckets
+NOBODY = "-"  # in the place of an access key, which none is
+VERSIONS = ("2012-10-17", "2008-10-17")
+RESOURCE = re.compile(r"arn:aws:s3:::([^/*?]+)/([^*?]*)(\*?)")
+# Who signs nothing asks for an object as it is: for what other words of a query would change a signature is wanted.
+OF_ANYBODY = {"x-id", "X-Amz-Credential"}
+
+
+@dataclass(frozen=True)
+class Readable:
+    """Keys that anybody may read: this one, or all that begin so."""
+
+    text: str
+    is_beginning: bool
+
+    def has(self, key: str) -> bool:
+        return key.startswith(self.text) if self.is_beginning else key == self.text
+
+
+def policy_of(text: bytes, bucket: str) -> tuple[Readable, ...]:
+    """What a policy lets anybody read of the bucket. 400 MalformedPolicy; 501 NotImplemented for a policy that says anything else."""
+    try:
+        found = json.loads(text.decode())
+        statements = found["Statement"] if isinstance(found["Statement"], list) else [found["Statement"]]
+        if found.get("Version", VERSIONS[0]) not in VERSIONS or not statements or not all(isinstance(each, dict) for each in statements):
+            raise ValueError
+    except (ValueError, LookupError, TypeError, AttributeError, RecursionError):
+        raise S3Error("MalformedPolicy") from None
+    if others := found.keys() - {"Version", "Id", "Statement"}:
+        raise S3Error("MalformedPolicy", f"A policy has no {min(others)}.")
+    return tuple(each for statement in statements for each in readable_by(statement, bucket))
+
+
+def readable_by(statement: dict[str, Any], bucket: str) -> list[Readable]:
+    if others := statement.keys() - {"Sid", "Effect", "Principal", "Action", "Resource"}:
+        raise S3Error("NotImplemented", f"A statement with {min(others)} is not taken here.")
+    if statement.get("Effect") != "Allow" or statement.get("Principal") not in ("*", {"AWS": "*"}, {"AWS": ["*"]}) or several(statement, "Action") != ["s3:GetObject"]:
+        raise S3Error("NotImplemented", "All that a policy says here is that anybody may read objects: Effect Allow, Principal *, Action s3:GetObject.")
+    found = [RESOURCE.fullmatch(each) for each in several(statement, "Resource")]
+    if not found or not all(each and each[1] == bucket for each in found):
+        raise S3Error("MalformedPolicy", f"A Resource is arn:aws:s3:::{bucket}/KEY, or a beginning of keys with a * behind it.")
+    return [Readable(each[2], bool(each[3])) for each in found if each]
+
+
+def several(statement: dict[str, Any], name: str) -> list[str]:
+    """A text, or several. 400 MalformedPolicy."""
+    found = statement.get(name)
+    every = found if isinstance(found, list) else [found]
+    if not all(isinstance(each, str) for each in every):
+        raise S3Error("MalformedPolicy", f"{name} is a text, or a list of texts.")
+    return every
+
+
+class Policies(Operations):
+    def __init__(self, gateway: Gateway, given: Given):
+        super().__init__(gateway)
+        self.given, self.known = given, dict[str, tuple[float, tuple[Readable, ...]]]()
+        self.asking = asyncio.Lock()  # (whoever reads has signed nothing: one bucket at a time is looked for)
+
+    async def put_bucket_policy(self, asked: Asked) -> web.Response:
+        """204: what this policy lets anybody read he may. The errors of a body; 400 MalformedPolicy; 404 NoSuchBucket; 501 NotImplemented; 507
+        InsufficientStorage."""
+        made, _ = await self.given.made(asked.bucket)
+        text = await self.gateway.text(asked, min(LONGEST, LONGEST_XML))
+        policy_of(text, asked.bucket)
+        await self.given.give(asked.bucket, made, KIND, text)
+        self.known.pop(asked.bucket, None)
+        return answer(status=204)
+
+    async def get_bucket_policy(self, asked: Asked) -> web.Response:
+        """200, with the policy as it was given. 404 NoSuchBucket, NoSuchBucketPolicy."""
+        made, _ = await self.given.made(asked.bucket)
+        if not (found := await self.given.find(asked.bucket, made, KIND)):
+            raise S3Error("NoSuchBucketPolicy", BucketName=asked.bucket)
+        return answer(found[1], kind="application/json")
+
+    async def get_bucket_policy_status(self, asked: Asked) -> web.Response:
+        """200: whether anybody may read some of it. 404 NoSuchBucket, NoSuchBucketPolicy."""
+        made, _ = await self.given.made(asked.bucket)
+        if not await self.given.find(asked.bucket, made, KIND):
+            raise S3Error("NoSuchBucketPolicy", BucketName=asked.bucket)
+        return answer(document("PolicyStatus", element("IsPublic", "true")))
+
+    async def delete_bucket_policy(self, asked: Asked) -> web.Response:
+        """204, also where there is none. 404 NoSuchBucket."""
+        await self.given.take_away(asked.bucket, KIND)
+        self.known.pop(asked.bucket, None)
+        return answer(status=204)
+
+    async def in_force(self, bucket: str) -> tuple[Readable, ...]:
+        """What anybody may read of a bucket, as it was two seconds ago at the earliest; nothing where there is no such bucket."""
+        until, found = self.known.get(bucket, (0.0, ()))
+        if until > time.monotonic():
+            return found
+        try:
+            made, _ = await self.given.made(bucket)
+            told = await self.given.find(bucket, made, KIND)
+            found = policy_of(told[1], bucket) if told else ()
+        except S3Error as fault:
+            if fault.status >= 500 and fault.code != "NotImplemented":
+                raise
+            found = ()
+        if len(self.known) > MOST_KNOWN:
+            self.known.clear()
+        self.known[bucket] = time.monotonic() + SURE_FOR, found
+        return found
+
+    async def let_in(self, asked: Asked) -> None:
+        """Lets in who signs nothing and reads an object that anybody may: from then on he is one who may read this bucket alone. 403 AccessDenied. 400
+        InvalidRequest for words of a query, which want a signature."""
+        async with self.asking:
+            found = await self.in_force(asked.bucket)
+        if not any(each.has(asked.key) for each in found):
+            raise S3Error("AccessDenied", "The request is not signed.")
+        if words := sorted(asked.query.keys() - OF_ANYBODY):
+            raise S3Error("InvalidRequest", f"A request with {words[0]} is signed.")
+        key = Key(NOBODY, "", True, frozenset([asked.bucket]))
+        asked.signed = Signed(key, UNSIGNED, "", Signer(NOBODY, "", self.gateway.region, []), "")
