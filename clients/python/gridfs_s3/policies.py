@@ -61,7 +61,7 @@ def readable_by(statement: dict[str, Any], bucket: str) -> list[Readable]:
         raise S3Error("NotImplemented", "All that a policy says here is that anybody may read objects: Effect Allow, Principal *, Action s3:GetObject.")
     found = [RESOURCE.fullmatch(each) for each in several(statement, "Resource")]
     if not found or not all(each and each[1] == bucket for each in found):
-        raise S3Error("MalformedPolicy", f"A Resource is arn:aws:s3:::{bucket}/KEY, or a beginning of keys with a * behind it.")
+        raise S3Error("MalformedPolicy", f"A Resource is arn:aws:s3:::{bucket}/KEY, or the beginning of keys and a *.")
     return [Readable(each[2], bool(each[3])) for each in found if each]
 
 
