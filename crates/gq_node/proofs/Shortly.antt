@@ -313,7 +313,7 @@ confirms_by site local m lacks less = if lacks then wholly (silently local) else
 confirm_lacked : (tag : Tag) (site : Site) (local : Local) (m : OwnMessage) → local.lacks m.file ≡ true → confirms tag site local m ≡ wholly (silently local)
 confirm_lacked tag site local m lacks = rw lacks refl
 
-confirm_held : (tag : Tag) (site : Site) (local : Local) (m : OwnMessage) → local.lacks m.file ≡ false → is_less (copy_of local m.file).tag tag ≡ false → confirms tag site local m ≡ wholly (serves site local m)
+pub confirm_held : (tag : Tag) (site : Site) (local : Local) (m : OwnMessage) → local.lacks m.file ≡ false → is_less (copy_of local m.file).tag tag ≡ false → confirms tag site local m ≡ wholly (serves site local m)
 confirm_held tag site local m has held = ap (λ b. confirms_by site local m b (is_less (copy_of local m.file).tag tag)) has ∙ ap (λ b. has_by site local m (not b)) held
 
 confirm_own : (tag : Tag) (site : Site) (local : Local) (m : OwnMessage) → local.lacks m.file ≡ false → is_less (copy_of local m.file).tag tag ≡ true → (site.home m.session == site.here) ≡ true → confirms tag site local m ≡ stores_again site local m
