@@ -139,12 +139,7 @@ impl NodeMachine {
     }
 
     // Appends the line of a letter, in its short form where it goes in one.
-    fn put_line(
-        &self,
-        letter: &Message,
-        again: bool,
-        told: &mut Vec<u8>,
-    ) -> Result<(), OutOfMemory>
+    fn put_line(&self, letter: &Message, again: bool, told: &mut Vec<u8>) -> Result<(), OutOfMemory>
         requires { IsAddressed self.now.node.tables.plan letter.now }
         ensures { OnOk result (told.new.items ≡ told.old.items ++ table_line again self.now.node.tables.plan self.now.node.tables.here self.now.node.tables letter.now) }
     {

@@ -1,6 +1,6 @@
 -- What goes out in a short form stands for a letter that the law has as written.
-use Rattle.std.proofs.Common.{◌≡◌, ◌∙◌, ℕ, zero, suc, ◌+◌, ◌*◌, ◌<◌, ◌≤◌, Bool, true, false, List, [], ◌∷◌, length, map, refl, sym, ap, subst, Option, Some, None, inl, inr, arith, eqb, mul-zero, zero-mul}
-use Rattle.std.specs.Prelude.{option_map, filter, is_some, not, ◌==◌, ◌&&◌, ◌/◌, ◌%◌, Contains, if◌then◌else◌}
+use Rattle.std.proofs.Common.{◌≡◌, ◌∙◌, ℕ, zero, suc, ◌+◌, ◌*◌, ◌<◌, ◌≤◌, Bool, true, false, List, [], ◌∷◌, refl, sym, ap, subst, Option, Some, None, inl, inr, arith, eqb, mul-zero, zero-mul}
+use Rattle.std.specs.Prelude.{option_map, filter, is_some, not, ◌==◌, ◌&&◌, ◌/◌, ◌%◌, Contains}
 use Rattle.std.specs.List.{range_with_len}
 use Rattle.std.proofs.lemmas.Bool.{cases_Bool, cases_eq, and_parts, eqb-true, eq-eqb, not-true}
 use Rattle.std.proofs.lemmas.Nat.{div_below, div-add-mod', mod-mul-add}
@@ -9,7 +9,6 @@ use Rattle.gq_grid.specs.Grid.{Grid, Servers, server_at, is_full_column, least_c
 use Rattle.gq_grid.proofs.Inside.{one_of}
 use Rattle.gq_grid.proofs.Meeting.{all_at, any_from, found_passes, column_servers-column}
 use Rattle.gq_tag.specs.declared.Tag.{Tag}
-use Rattle.gq_tag.specs.declared.StoredCopy.{StoredCopy}
 use Rattle.gq_tag.specs.declared.Body.{Body}
 use Rattle.gq_tag.specs.declared.Body.TheVariants.{Ask, Copy, Store, Stored}
 use Rattle.gq_tag.specs.Tag.{File, is_file, OwnMessage, is_less}
@@ -23,9 +22,9 @@ use Rattle.gq_node.specs.declared.shorts.ShortBody.{ShortBody}
 use Rattle.gq_node.specs.declared.shorts.ShortBody.TheVariants.{AskAbove, Tagged, Confirm, Want}
 use Rattle.gq_node.specs.Forms.{IsFormOf, AllFormsStand, StandsAmong, IsWritten, AllShortsAreWritten}
 use Rattle.gq_node.specs.Local.{Local, Doing, silently, state_of, state_for, serves, hears, letter_fits}
-use Rattle.gq_node.specs.Shorts.{OwnShort, ShortDoing, letter_as, letter_with, short_as, wholly, copy_of, goes_short, takes_tag, asks_above, hears_tag, is_of_store, store_in, column_of, stores_again, confirms, takes_short, body_from, bound_for, short_form}
+use Rattle.gq_node.specs.Shorts.{OwnShort, letter_as, short_as, wholly, copy_of, goes_short, takes_tag, asks_above, hears_tag, is_of_store, store_in, column_of, stores_again, confirms, takes_short, body_from, bound_for, short_form}
 use Rattle.gq_node.specs.Sites.{Site, has_session}
-use Rattle.gq_node.proofs.Receiving.{Parts, parts}
+use Rattle.gq_node.proofs.Receiving.{parts}
 use Rattle.gq_node.proofs.Shortly.{asks_short, asks_whole}
 use Rattle.gq_node.proofs.Telling.{contains_map}
 

@@ -1,9 +1,7 @@
 -- A short letter is passed over, or is served or heard as the whole one, or has a store go out once more.
-use Rattle.std.proofs.Common.{◌≡◌, ◌∙◌, ℕ, Bool, true, false, List, [], refl, sym, ap, subst, Option, Some, None, inl, inr}
+use Rattle.std.proofs.Common.{◌≡◌, ℕ, true, false, List, [], refl, Option, Some, None, inl, inr}
 use Rattle.std.specs.Prelude.{◌==◌, ◌&&◌, ⊤, Contains}
-use Rattle.std.proofs.lemmas.Bool.{cases_Bool, and_parts, eqb-true, not-true}
-use Rattle.gq_tag.specs.declared.Tag.{Tag}
-use Rattle.gq_tag.specs.declared.StoredCopy.{StoredCopy}
+use Rattle.std.proofs.lemmas.Bool.{cases_Bool, and_parts, eqb-true}
 use Rattle.gq_tag.specs.declared.Body.{Body}
 use Rattle.gq_tag.specs.declared.Body.TheVariants.{Ask, Copy, Store, Stored}
 use Rattle.gq_tag.specs.Tag.{File, OwnMessage, to_server, is_less}

@@ -1,16 +1,15 @@
 -- What the tables do by a short letter is what the tenant's part does.
-use Rattle.std.proofs.Common.{◌≡◌, ◌∙◌, ℕ, ◌<◌, Bool, true, false, ◌&&◌, List, [], ◌∷◌, length, map, refl, sym, ap, subst, Option, Some, None, inl, inr}
+use Rattle.std.proofs.Common.{◌≡◌, ◌∙◌, ℕ, Bool, true, false, ◌&&◌, List, [], ◌∷◌, refl, sym, ap, subst, Option, Some, None, inl, inr}
 use Rattle.std.specs.Prelude.{◌/◌, option_map, is_some, not, ◌==◌, if◌then◌else◌}
-use Rattle.std.proofs.lemmas.Bool.{and_parts, cases_Bool}
+use Rattle.std.proofs.lemmas.Bool.{cases_Bool}
 use Rattle.gq_grid.specs.Grid.{Grid, Servers}
-use Rattle.gq_grid.specs.Sets.{servers}
 use Rattle.gq_tag.specs.declared.Tag.{Tag}
 use Rattle.gq_tag.specs.declared.StoredCopy.{StoredCopy}
 use Rattle.gq_tag.specs.declared.FileId.{FileId}
 use Rattle.gq_tag.specs.declared.Body.{Body}
 use Rattle.gq_tag.specs.declared.Body.TheVariants.{Ask, Copy, Store, Stored}
 use Rattle.gq_tag.specs.declared.Message.{Message}
-use Rattle.gq_tag.specs.Tag.{File, is_file, OwnMessage, own_message, message_of, file_of, file_place, is_less, first_copy, greatest, latest}
+use Rattle.gq_tag.specs.Tag.{File, OwnMessage, own_message, message_of, file_place, is_less, latest}
 use Rattle.gq_desk.specs.Volumes.{limit_of}
 use Rattle.gq_store.specs.Copies.{copy_at}
 use Rattle.gq_replace.specs.Plans.{place_of}
@@ -19,8 +18,8 @@ use Rattle.gq_phase.specs.Course.{round_of}
 use Rattle.gq_phase.specs.declared.operation.Operation.{Operation as Code}
 use Rattle.gq_phase.specs.declared.operation.Task.{Task as CodeTask}
 use Rattle.gq_phase.specs.declared.operation.Task.TheVariants.{Write, Read, List as ListFiles}
-use Rattle.gq_phase.specs.Phase.{Task, Reply, Operation, is_collect, round_file, stored_copy, heard_servers, heard_copies}
-use Rattle.gq_phase.specs.Standing.{StandsFor, SameFor, task_for, takes_by, takes_as, stored_as, reads, IsTaken}
+use Rattle.gq_phase.specs.Phase.{Reply, Operation, is_collect, round_file, stored_copy, heard_servers, heard_copies}
+use Rattle.gq_phase.specs.Standing.{StandsFor, SameFor, task_for, takes_by, takes_as, reads}
 use Rattle.gq_phase.proofs.Saying.{collects_is}
 use Rattle.gq_model.specs.Trace.{operation, limit_at}
 use Rattle.gq_model.specs.Lone.{retry_step}
@@ -30,13 +29,12 @@ use Rattle.gq_node.specs.declared.shorts.Short.{Short}
 use Rattle.gq_node.specs.declared.shorts.ShortBody.{ShortBody}
 use Rattle.gq_node.specs.declared.shorts.ShortBody.TheVariants.{AskAbove, Tagged, Confirm, Want}
 use Rattle.gq_node.specs.declared.shorts.ShortOutput.{ShortOutput}
-use Rattle.gq_node.specs.declared.session_states.SessionState.{SessionState}
 use Rattle.gq_node.specs.Local.{Local, Doing, silently, state_of, state_for, serves, hears, letter_fits}
 use Rattle.gq_node.specs.SessionStates.{GivesNothing}
 use Rattle.gq_node.specs.Shorts.{OwnShort, ShortDoing, own_short, short_with, short_as, letter_as, letter_with, body_with, wholly, copy_of, goes_short, asks_above, says_as_much, takes_tag, hears_tag, is_of_store, store_in, column_of, stores_again, confirms, takes_short, any_tag, bound_by, is_beside, bound_from, body_from, short_body, short_form}
 use Rattle.gq_node.specs.ShortSteps.{GivesOne, GivesShortly, ActsShortly, TakesContent, ShortFormIs, whole_of, reply_as, short_at, form_at, takes_in, stored_for, bound_in, is_beside_in, short_body_at}
 use Rattle.gq_node.specs.Sites.{Site, site_of, has_session}
-use Rattle.gq_node.specs.Tables.{Tables, Agrees, Acts, Gives, IsOfPlan, Sits, SessionStateAgrees, lacks_at, session_state_at}
+use Rattle.gq_node.specs.Tables.{Tables, Agrees, Acts, Gives, IsOfPlan, Sits, lacks_at, session_state_at}
 use Rattle.gq_node.proofs.Placing.{same_leads, session_state_of, placed}
 use Rattle.gq_node.proofs.Serving.{serve_acts, limit_is}
 

@@ -1,5 +1,5 @@
 -- What goes out in a short form stands for a letter that the law has as written.
-use Rattle.std.specs.Prelude.{◌≡◌, ℕ, List, ⊤, Contains, Option, Some}
+use Rattle.std.specs.Prelude.{◌≡◌, ℕ, List, ⊤, Contains, Some}
 use Rattle.gq_tag.specs.Tag.{OwnMessage}
 use Rattle.gq_node.specs.declared.shorts.ShortBody.{ShortBody}
 use Rattle.gq_node.specs.declared.shorts.ShortBody.TheVariants.{Want}

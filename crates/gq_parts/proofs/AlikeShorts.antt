@@ -5,18 +5,16 @@ use Rattle.std.proofs.lemmas.Bool.{cases_Bool}
 use Rattle.gq_grid.specs.Grid.{no_servers}
 use Rattle.gq_tag.specs.declared.Tag.{Tag}
 use Rattle.gq_tag.specs.declared.StoredCopy.{StoredCopy}
-use Rattle.gq_tag.specs.declared.Body.{Body}
 use Rattle.gq_tag.specs.declared.Body.TheVariants.{Ask, Copy, Store, Stored}
-use Rattle.gq_tag.specs.Tag.{File, OwnMessage, is_less}
+use Rattle.gq_tag.specs.Tag.{OwnMessage, is_less}
 use Rattle.gq_desk.specs.declared.volumes.VolumeRow.{VolumeRow}
-use Rattle.gq_phase.specs.Phase.{Operation}
-use Rattle.gq_model.specs.Trace.{State, operation, operation_with, limit_at}
+use Rattle.gq_model.specs.Trace.{operation, operation_with, limit_at}
 use Rattle.gq_model.specs.Lone.{retry_step}
 use Rattle.gq_cluster.specs.Cluster.{everyone}
 use Rattle.gq_node.specs.declared.shorts.ShortBody.{ShortBody}
 use Rattle.gq_node.specs.declared.shorts.ShortBody.TheVariants.{AskAbove, Tagged, Confirm, Want}
 use Rattle.gq_node.specs.declared.output.Answer.TheVariants.{Has}
-use Rattle.gq_node.specs.Inputs.{Input, Asked, AskedPlan, Brought, Shortened, Ticked, Looked, Joined, Fetching, Fetched, does}
+use Rattle.gq_node.specs.Inputs.{Input, Asked, AskedPlan, Brought, Shortened, Ticked, Looked, Joined, Fetching, Fetched}
 use Rattle.gq_node.specs.Local.{Local, Resident, Doing, silently, state_of, state_for, holding, letter_fits, serves, hears}
 use Rattle.gq_node.specs.Shorts.{OwnShort, ShortDoing, letter_as, letter_with, short_as, wholly, copy_of, goes_short, takes_tag, asks_above, hears_tag, store_in, column_of, stores_again, confirms, takes_short, bound_by, is_beside, bound_from, bound_for, body_from, short_form}
 use Rattle.gq_node.specs.Sites.{Site, has_session}

@@ -28,7 +28,7 @@ use Rattle.gq_facts.specs.Laws.{FitsFact}
 use Rattle.gq_parts.specs.declared.laws.TheConstants.{MOST_HOPS}
 use Rattle.gq_parts.specs.Within.{is_shared_store, letters_by, reply_by, own_letters, brought, hops, left_behind, after_taken}
 use Rattle.gq_parts.specs.Inputs.{inputs_with, line_inputs_with}
-use Rattle.gq_parts.specs.Texts.{formed_line, letters_text, reply_text, step_text, steps_text, own_facts, written_for, facts_for, written_by, facts_by, places, node_text, line_text_of}
+use Rattle.gq_parts.specs.Texts.{formed_line, letters_text, step_text, steps_text, own_facts, written_for, facts_for, written_by, facts_by, places, node_text, line_text_of}
 
 -- the tables have these parts of the node for the tenants
 abbrev pub AllAgree : Tables → (ℕ → Local) → Type 0

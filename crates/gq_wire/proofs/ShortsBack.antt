@@ -1,12 +1,12 @@
 -- The line of a short letter is read as that short letter, and as none that is whole.
-use Rattle.std.proofs.Common.{◌≡◌, ℕ, ◌^◌, ◌<◌, List, [], ◌∷◌, length, Some, None, true, false, refl, sym, ap, ◌∙◌, arith, append_assoc}
+use Rattle.std.proofs.Common.{◌≡◌, ℕ, List, [], ◌∷◌, length, Some, None, true, false, refl, sym, ap, ◌∙◌, arith, append_assoc}
 use Rattle.std.specs.Prelude.{decimal, codes, nat_lt}
 use Rattle.std.proofs.lemmas.Bool.{eq-eqb, lt-ltb, le-ltb}
 use Rattle.gq_tag.specs.declared.Tag.{Tag}
 use Rattle.gq_tag.specs.declared.Body.TheVariants.{Ask}
 use Rattle.gq_tag.specs.declared.Message.{Message}
 use Rattle.gq_desk.specs.CheckedPlan.{CheckedPlan, row_at}
-use Rattle.gq_text.specs.Words.{Word, words_of}
+use Rattle.gq_text.specs.Words.{Word}
 use Rattle.gq_text.specs.AnswerText.{spaced}
 use Rattle.gq_text.specs.Canonical.{IsPlan}
 use Rattle.gq_text.proofs.Numbers.{numbers_read_back, long_numbers_read_back}
@@ -19,7 +19,7 @@ use Rattle.gq_node.specs.declared.shorts.ShortBody.TheVariants.{AskAbove, Tagged
 use Rattle.gq_node.specs.ShortSteps.{whole_of}
 use Rattle.gq_wire.specs.declared.incoming.Incoming.TheVariants.{ShortLetter}
 use Rattle.gq_wire.specs.Letters.{body_of_words, letter_of_words, tag_of, short_of_words, short_from, short_letter_of}
-use Rattle.gq_wire.specs.Incoming.{longest_line, from_node, letter_or, short_or_nothing, incoming_of_words}
+use Rattle.gq_wire.specs.Incoming.{longest_line, from_node, short_or_nothing, incoming_of_words}
 use Rattle.gq_wire.specs.Texts.{tag_words, short_body_words, short_words}
 use Rattle.gq_wire.specs.Laws.{FitsTag, FitsShortBody, FitsShort, short_text, ShortsReadBack}
 use Rattle.gq_wire.proofs.ValuesBack.{byte_back, name_is_plain, place_back}

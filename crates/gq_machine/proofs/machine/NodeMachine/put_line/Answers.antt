@@ -1,5 +1,5 @@
 -- The line goes to the node that the letter goes to, in the letter's form.
-use Rattle.std.proofs.Common.{◌∙◌, ◌++◌, Option, Some, None, ap}
+use Rattle.std.proofs.Common.{◌∙◌, ◌++◌, Option, ap}
 use Rattle.gq_desk.specs.CheckedPlan.{CheckedPlan}
 use Rattle.gq_tag.specs.declared.Message.{Message}
 use Rattle.gq_node.specs.declared.shorts.Short.{Short}

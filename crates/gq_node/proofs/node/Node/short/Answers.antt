@@ -1,5 +1,5 @@
 -- The tables stand for something after the step.
-use Rattle.std.proofs.Common.{◌≡◌, ℕ, List, [], ap, subst}
+use Rattle.std.proofs.Common.{◌≡◌, [], ap, subst}
 use Rattle.gq_node.specs.Shorts.{own_short, takes_short}
 use Rattle.gq_node.specs.ShortSteps.{ActsShortly}
 use Rattle.gq_node.specs.Tables.{Tables, Whole}

@@ -2,11 +2,9 @@
 use Rattle.std.proofs.Common.{◌≡◌, ◌∙◌, true, false, ap, sym, subst, refl, Some, None}
 use Rattle.gq_tag.specs.declared.Message.{Message}
 use Rattle.gq_tag.specs.Tag.{own_message, file_place}
-use Rattle.gq_tag.specs.declared.Body.TheVariants.{Ask}
 use Rattle.gq_store.specs.Copies.{copy_at}
 use Rattle.gq_node.specs.declared.shorts.Short.{Short}
 use Rattle.gq_node.specs.Local.{serves}
-use Rattle.gq_node.specs.Shorts.{goes_short}
 use Rattle.gq_node.specs.Tables.{Tables, Acts, lacks_at}
 use Rattle.gq_node.proofs.Shortly.{ask_lacked, ask_short, ask_whole}
 use Rattle.gq_node.proofs.tables.Core.ask_above.Goals as goal

@@ -1,5 +1,5 @@
 -- Stored is what the server gives by the store, or it wants the store whole.
-use Rattle.std.proofs.Common.{◌≡◌, ◌≢◌, ◌∙◌, ℕ, Bool, true, false, List, ap, sym, subst, Some, None}
+use Rattle.std.proofs.Common.{◌≡◌, ◌∙◌, ℕ, true, false, List, ap, sym, subst, Some}
 use Rattle.std.specs.Prelude.{◌==◌}
 use Rattle.std.proofs.lemmas.Bool.{eq-eqb, ne_eqb}
 use Rattle.std.proofs.lemmas.Result.{IfOk-weaker}
@@ -9,10 +9,9 @@ use Rattle.gq_tag.specs.Tag.{is_less, file_place}
 use Rattle.gq_store.specs.Copies.{copy_at}
 use Rattle.gq_store.proofs.Changed.{lt_is_less}
 use Rattle.gq_node.specs.declared.shorts.Short.{Short}
-use Rattle.gq_node.specs.declared.shorts.ShortOutput.{ShortOutput}
 use Rattle.gq_node.specs.Shorts.{own_short, letter_as, stores_again}
-use Rattle.gq_node.specs.ShortSteps.{GivesOne, ActsShortly, whole_of}
-use Rattle.gq_node.specs.Sites.{site_of, home_of}
+use Rattle.gq_node.specs.ShortSteps.{GivesOne, ActsShortly}
+use Rattle.gq_node.specs.Sites.{site_of}
 use Rattle.gq_node.specs.Tables.{Tables, lacks_at}
 use Rattle.gq_node.proofs.Shortly.{confirm_step, lacked_confirm, held_confirm, own_confirm, other_confirm}
 use Rattle.gq_node.proofs.tables.Core.confirm.Goals as goal

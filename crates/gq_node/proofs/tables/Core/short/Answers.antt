@@ -1,5 +1,5 @@
 -- A short letter that fits goes to the server, or to its session.
-use Rattle.std.proofs.Common.{◌≡◌, ◌∙◌, ℕ, ◌*◌, ◌<◌, ◌≤◌, Bool, true, false, List, [], refl, ap, sym, subst, arith}
+use Rattle.std.proofs.Common.{◌≡◌, ◌∙◌, ℕ, ◌*◌, ◌<◌, ◌≤◌, true, false, List, [], refl, ap, sym, subst, arith}
 use Rattle.std.proofs.lemmas.Result.{IfOk-weaker}
 use Rattle.gq_grid.specs.declared.TheConstants.{MOST_SERVERS}
 use Rattle.gq_tag.specs.declared.Body.{Body}

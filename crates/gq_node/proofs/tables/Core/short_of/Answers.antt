@@ -1,8 +1,7 @@
 -- The form of a letter is the one that the part has it written in.
 use Rattle.std.proofs.Common.{◌≡◌, ◌∙◌, true, false, ap, sym, subst, refl, Some, None}
-use Rattle.std.specs.Prelude.{Option, option_map}
+use Rattle.std.specs.Prelude.{option_map}
 use Rattle.gq_tag.specs.declared.Message.{Message}
-use Rattle.gq_node.specs.declared.shorts.Short.{Short}
 use Rattle.gq_node.specs.ShortSteps.{ShortFormIs, form_at, short_at, short_body_at}
 use Rattle.gq_node.specs.Sites.{site_of, has_session}
 use Rattle.gq_node.specs.Tables.{Tables}

@@ -1,12 +1,11 @@
 -- The session's store goes out whole, to the server of the short letter.
-use Rattle.std.proofs.Common.{◌≡◌, ◌∙◌, ℕ, ap, sym, subst, Some, None}
+use Rattle.std.proofs.Common.{◌≡◌, ◌∙◌, ap, sym, subst, Some, None}
 use Rattle.std.proofs.lemmas.Result.{IfOk-weaker}
 use Rattle.gq_tag.specs.declared.Message.{Message}
-use Rattle.gq_tag.specs.declared.Body.TheVariants.{Store, Stored}
+use Rattle.gq_tag.specs.declared.Body.TheVariants.{Stored}
 use Rattle.gq_node.specs.declared.shorts.Short.{Short}
-use Rattle.gq_node.specs.declared.shorts.ShortOutput.{ShortOutput}
 use Rattle.gq_node.specs.Shorts.{own_short, letter_as, stores_again}
-use Rattle.gq_node.specs.ShortSteps.{GivesOne, ActsShortly, whole_of, stored_for}
+use Rattle.gq_node.specs.ShortSteps.{GivesOne, ActsShortly, stored_for}
 use Rattle.gq_node.specs.Tables.{Tables, session_state_at}
 use Rattle.gq_node.proofs.Placing.{placed}
 use Rattle.gq_node.proofs.Shortly.{again_given, again_not}

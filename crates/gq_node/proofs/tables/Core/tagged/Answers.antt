@@ -1,10 +1,10 @@
 -- The session hears the copy, whatever its content is, or the tag is lost.
-use Rattle.std.proofs.Common.{◌≡◌, ◌∙◌, ℕ, true, false, List, [], ap, sym, subst, refl, None}
+use Rattle.std.proofs.Common.{◌≡◌, ◌∙◌, true, false, [], ap, sym, subst, refl, None}
 use Rattle.gq_tag.specs.declared.Message.{Message}
 use Rattle.gq_tag.specs.declared.Body.TheVariants.{Copy}
 use Rattle.gq_node.specs.declared.shorts.Short.{Short}
 use Rattle.gq_node.specs.ShortSteps.{HearsAnyContent, whole_of, takes_in}
-use Rattle.gq_node.specs.Tables.{Tables, IsOfPlan, session_state_at}
+use Rattle.gq_node.specs.Tables.{Tables, session_state_at}
 use Rattle.gq_node.proofs.Placing.{placed}
 use Rattle.gq_node.proofs.Shortly.{any_content, tag_taken, tag_lost}
 use Rattle.gq_node.proofs.tables.Core.tagged.Goals as goal
