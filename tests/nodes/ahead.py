@@ -102,8 +102,8 @@ class Ahead:
         """A write of session 1, whose row tells that it has nothing: its lines, what is written, and the number of its tag."""
         head = b"0 ann 1 %d 1 0 %d " % (number, file)
         letter = b"0 ann 1 %d %%d 0 %d " % (number, file)
-        ask = b"1 " + letter % 1 + b"ask"
-        stores = [b"%d " % to + letter % 2 + in_bytes(b"store %d 1 aa" % tag) for to in (0, 2)]
+        ask = b"1 " + letter % 1 + b"ask 18446744073709551615 255"
+        stores = [b"0 " + letter % 2 + b"confirm %d 1" % tag, b"2 " + letter % 2 + in_bytes(b"store %d 1 aa" % tag)]
         return [b"0 ann write 1 %d 0 %d aa" % (number, file), b"0 " + head + b"copy 0 0 -", b"0 " + head.replace(b"0", b"1", 1) + b"copy 0 0 -"], [ask, *stores]
 
     def older(self):

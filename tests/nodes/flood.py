@@ -14,7 +14,7 @@ PLAN = f"grid 2 2\nblocks 64\ntenant ann 8 8 1\ntenant bob 8 4 1\n{MARKER}go\nan
 GREATEST = (1 << 64) - 1
 # How lines of the flood begin: they are from ann, from nobody of the plan, to another node, or letters of ann.
 HEADS = [b"0 ann", b"0 ann", b"0 0 ann", b"0 1 ann", b"0 2 ann", b"0 3 ann", b"0 eve", b"0 4 bob", b"1 bob"]
-KINDS = b"write read list abandon plan ask store copy stored tick done joins joined fetch fetched".split()
+KINDS = b"write read list abandon plan ask store copy stored tag confirm want tick done joins joined fetch fetched".split()
 NUMBERS = [0, 0, 0, 1, 1, 1, 2, 3, 5, 255, 256, (1 << 32) - 1, 1 << 32, GREATEST - 1, GREATEST, GREATEST + 1]
 WORDS = KINDS + [b"%d" % number for number in NUMBERS] + [b"bob", b"-", b"aabb", b"?", b""]
 # Lines with a form, as ann or a node would write them, with numbers at their limits.
@@ -43,30 +43,30 @@ SHARP = [
 # What bob and the nodes write for him, and ticks, each with what the node writes (but for the form of copies): a write that is done, asked for again, and read; a store and
 # an ask of session 2, whose home is node 1; a listing that goes on; and a question of a node of the column for a copy.
 LINES = [
-    (b"0 bob plan", b"bob 0 plan 4 0 4 8 16 2.1 lines=1\n"),
+    (b"0 bob plan", b"bob 0 plan 4 0 4 8 16 2.1 lines=2\n"),
     (b"0 1 joins 0", b"1 0 joined 0\n"),
-    (b"0 bob write 1 1 0 1 aabb", b"1 0 bob 1 1 1 0 1 ask\n"),
+    (b"0 bob write 1 1 0 1 aabb", b"1 0 bob 1 1 1 0 1 ask 18446744073709551615 255\n"),
     (b"0 bob write 1 1 0 1 aabb", b""),
     (b"0 0 tick", b""),
     (b"0 0 bob 1 1 1 0 1 copy 0 0 -", b""),
-    (b"0 1 bob 1 1 1 0 1 copy 3 2 0c", b"0 0 bob 1 1 2 0 1 store 4 1 aabb\n2 0 bob 1 1 2 0 1 store 4 1 aabb\n"),
+    (b"0 1 bob 1 1 1 0 1 copy 3 2 0c", b"0 0 bob 1 1 2 0 1 confirm 4 1\n2 0 bob 1 1 2 0 1 store 4 1 aabb\n"),
     (b"0 0 bob 1 1 2 0 1 store 4 1 aabb", b""),
     (b"0 0 bob 1 1 2 0 1 stored", b""),
     (b"0 0 tick", b""),
     (b"0 2 bob 1 1 2 0 1 stored", b"bob 0 done write 1 1 tag 4 1\n"),
     (b"0 bob read 1 1 0 1", b"bob 0 done write 1 1 tag 4 1\n"),
-    (b"0 bob read 1 2 0 1", b"1 0 bob 1 2 1 0 1 ask\n"),
+    (b"0 bob read 1 2 0 1", b"1 0 bob 1 2 1 0 1 ask 4 1\n"),
     (b"0 1 bob 2 9 2 0 0 store 7 2 0d0e", b"1 0 bob 2 9 2 0 0 stored\n"),
     (b"0 1 bob 2 10 1 0 0 ask", b"1 0 bob 2 10 1 0 0 copy 7 2 0d0e\n"),
     (b"0 0 bob 1 2 1 0 1 copy 4 1 aabb", b""),
-    (b"0 1 bob 1 2 1 0 1 copy 4 1 aabb", b"0 0 bob 1 2 2 0 1 store 4 1 aabb\n2 0 bob 1 2 2 0 1 store 4 1 aabb\n"),
+    (b"0 1 bob 1 2 1 0 1 copy 4 1 aabb", b"0 0 bob 1 2 2 0 1 confirm 4 1\n2 0 bob 1 2 2 0 1 store 4 1 aabb\n"),
     (b"0 bob list 1 3 0", b"bob 0 refused busy 1 3 2\n"),
     (b"0 0 tick", b""),
     (b"0 0 tick", b"1 0 bob 1 2 2 0 1 store 4 1 aabb\n3 0 bob 1 2 2 0 1 store 4 1 aabb\n"),
     (b"0 bob write 1 4 9 9 00", b"bob 0 refused early 1 4 2\n"),
     (b"0 bob nonsense", b"bob 0 refused bad\n"),
     (b"0 2 bob fetch 0 1", b"2 0 bob fetched 0 1 4 1 aabb\n"),
-    (b"0 bob plan", b"bob 0 plan 4 0 4 8 16 2.1 lines=1\n"),
+    (b"0 bob plan", b"bob 0 plan 4 0 4 8 16 2.1 lines=2\n"),
 ]
 # Two facts of each session that has its home here, 1 and 5 of ann and 1 of bob, and one of each file.
 MOST_FACTS = 2 * 3 + 4

@@ -118,9 +118,10 @@ def lengths(program, folder):
     alone, wrong = Alone(program, folder), []
     content, begun = digits(1), b"0 ann write 1 1 0 0 "
     read, asked = b"0 ann read 1 1 0 0\n", b"1 0 ann 1 1 1 0 0 ask\n"
+    asked_tag = asked[:-1] + b" 18446744073709551615 255\n"  # (a write uses tags alone)
     trials = {
-        "a content of one byte": (begun + b"a0\n", asked),
-        "a content of the most bytes": (begun + content + b"\n", asked),
+        "a content of one byte": (begun + b"a0\n", asked_tag),
+        "a content of the most bytes": (begun + content + b"\n", asked_tag),
         "a content of one byte more": (begun + content + b"00\n", b"ann 0 refused toolong 1 1 0 0 %d\n" % (MOST_BYTES + 1)),
         "a line of the most bytes": (begun.ljust(LONGEST, b"a") + b"\n" + read, b"ann 0 refused bad\n" + asked),
         "a line of one byte more": (begun.ljust(LONGEST + 1, b"a") + b"\n" + read, asked),

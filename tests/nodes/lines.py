@@ -8,6 +8,8 @@ from processes import ended, put, words_of
 
 READ, WRITE = b"0 ann read 1 1 0 0\n", b"0 ann write 1 1 0 0 "
 ASK = b"1 0 ann 1 1 1 0 0 ask\n"  # (that to the node itself is taken within, and is no line)
+ASK_TAG = b"1 0 ann 1 1 1 0 0 ask 18446744073709551615 255\n"  # a write uses tags alone
+CONFIRM = b"%d 0 ann 1 1 2 0 0 confirm %d %d\n"
 BAD = b"ann 0 refused bad\n"
 STORE, OWN = b"0 1 ann 2 1 2 0 0 store ", b"0 0 ann 1 1 2 0 0 store "  # of a session of node 1, and of one of this node
 STORED = b"1 0 ann 2 1 2 0 0 stored\n"
@@ -39,8 +41,8 @@ LINES = {
     "contents with no form": (WRITE + b"a\n" + WRITE + b"\n" + WRITE + b"ag\n" + WRITE + b"--\n", 4 * BAD),
     "contents in bytes with no form": (WRITE + b"=\\\n" + WRITE + b"=\\x\n" + WRITE + b"=a b\n" + WRITE + b"-=\n", 4 * BAD),
     "a content in bytes": (STORE + b"3 2 =a\\sb\\n\\bn\xff=\n0 1 ann 2 1 1 0 0 ask\n", STORED + b"1 0 ann 2 1 1 0 0 copy 3 2 6120620a5c6eff3d\n"),
-    "a content in bytes that is too long": (WRITE + b"=" + b"\\s" * 129 + b"\n" + WRITE + b"=" + b"\\s" * 128 + b"\n", b"ann 0 refused toolong 1 1 0 0 129\n" + ASK),
-    "what a tenant has": (b"0 ann plan\n0 bob plan\n0 ann plan 1\n0 zed plan\n", b"ann 0 plan 4 0 4 16 16 4.2 1.1 lines=1\nbob 0 plan 4 0 2 16 16 1.1 lines=1\n" + BAD),
+    "a content in bytes that is too long": (WRITE + b"=" + b"\\s" * 129 + b"\n" + WRITE + b"=" + b"\\s" * 128 + b"\n", b"ann 0 refused toolong 1 1 0 0 129\n" + ASK_TAG),
+    "what a tenant has": (b"0 ann plan\n0 bob plan\n0 ann plan 1\n0 zed plan\n", b"ann 0 plan 4 0 4 16 16 4.2 1.1 lines=2\nbob 0 plan 4 0 2 16 16 1.1 lines=2\n" + BAD),
     "refusals": (
         WRITE + b"aa" * 200 + b"\n0 ann list 1 1 5\n0 ann read 1 1 0 7\n0 ann read 9 1 0 0\n0 ann read 2 1 0 0\n0 ann read 1 0 0 0\n0 ann read 1 5 0 0\n0 ann abandon 1 1\n",
         b"ann 0 refused toolong 1 1 0 0 200\nann 0 refused novolume 1 1 5\nann 0 refused nofile 1 1 0 7\nann 0 refused nosession 9 1\n"
@@ -56,7 +58,7 @@ LINES = {
     ),
     "an answer that is asked for again": (
         READ + b"0 0 ann 1 1 1 0 0 copy 3 2 aB\n0 1 ann 1 1 1 0 0 copy 0 0 -\n0 0 ann 1 1 2 0 0 stored\n0 2 ann 1 1 2 0 0 stored\n" + READ + WRITE + b"cd\n0 ann abandon 1 1\n",
-        ASK + OWN + b"3 2 ab\n2 0 ann 1 1 2 0 0 store 3 2 ab\n" + 4 * b"ann 0 done read 1 1 tag 3 2 ab\n",
+        ASK + CONFIRM % (0, 3, 2) + b"2 0 ann 1 1 2 0 0 store 3 2 ab\n" + 4 * b"ann 0 done read 1 1 tag 3 2 ab\n",
     ),
     "the row that served stays": (
         READ + 2 * b"0 0 tick\n" + b"0 2 ann 1 1 1 0 0 copy 0 0 -\n0 3 ann 1 1 1 0 0 copy 0 0 -\n0 0 ann 1 1 2 0 0 stored\n0 2 ann 1 1 2 0 0 stored\n0 ann read 1 2 0 0\n",
@@ -66,7 +68,7 @@ LINES = {
     ),
     "a listing": (
         b"0 ann list 1 1 1\n0 0 ann 1 1 1 1 0 copy 3 2 aB\n0 1 ann 1 1 1 1 0 copy 0 0 -\n0 0 ann 1 1 2 1 0 stored\n0 2 ann 1 1 2 1 0 stored\n",
-        b"1 0 ann 1 1 1 1 0 ask\n0 0 ann 1 1 2 1 0 store 3 2 ab\n2 0 ann 1 1 2 1 0 store 3 2 ab\nann 0 done list 1 1 1:3.2\n",
+        b"1 0 ann 1 1 1 1 0 ask\n0 0 ann 1 1 2 1 0 confirm 3 2\n2 0 ann 1 1 2 1 0 store 3 2 ab\nann 0 done list 1 1 1:3.2\n",
     ),
     "ticks": (READ + 3 * b"0 0 tick\n", ASK + b"2 0 ann 1 1 1 0 0 ask\n3 0 ann 1 1 1 0 0 ask\n" + ASK),
     "a number of a tag at its limit": (
@@ -76,6 +78,31 @@ LINES = {
     "a session of a tag above 255": (STORE + b"1 256 aa\n" + STORE + b"1 255 aa\n", STORED),
     "a store from another node than its session's home": (b"0 1 ann 1 1 2 0 0 store 1 1 aa\n0 0 ann 2 1 2 0 0 store 1 1 aa\n", b""),
     "a store of a content that is too long": (STORE + b"1 1 " + b"aa" * 129 + b"\n" + STORE + b"1 1 " + b"aa" * 128 + b"\n", STORED),
+    "a tag in place of a copy": (
+        STORE + b"3 2 aa\n" + b"".join(b"0 1 ann 2 1 %s\n" % it for it in (b"1 0 0 ask 3 2", b"1 0 0 ask 3 1", b"1 0 0 ask 2 255", b"1 0 1 ask 9 9", b"1 0 0 ask 3", b"2 0 0 ask 3 2")),
+        STORED + b"1 0 ann 2 1 1 0 0 tag 3 2\n" + 2 * b"1 0 ann 2 1 1 0 0 copy 3 2 aa\n" + b"1 0 ann 2 1 1 0 1 copy 0 0 -\n",
+    ),
+    "a tag in place of a store": (
+        STORE + b"3 2 aa\n" + b"".join(b"0 1 ann 2 1 %s\n" % it for it in (b"2 0 0 confirm 3 2", b"2 0 0 confirm 2 9", b"2 0 0 confirm 3 3", b"1 0 0 confirm 3 2", b"2 0 0 confirm 3")),
+        3 * STORED + b"1 0 ann 2 1 2 0 0 want\n",
+    ),
+    "a write hears tags, and stores by one at its own node": (
+        WRITE + b"cd\n0 1 ann 1 1 1 0 0 tag 7 3\n0 0 ann 1 1 2 0 0 confirm 8 1\n0 2 ann 1 1 2 0 0 stored\n0 3 ann 4 1 1 0 0 ask\n",
+        ASK_TAG + CONFIRM % (0, 8, 1) + b"2 0 ann 1 1 2 0 0 store 8 1 cd\nann 0 done write 1 1 tag 8 1\n3 0 ann 4 1 1 0 0 copy 8 1 cd\n",
+    ),
+    "its own store, once it is over": (
+        WRITE + b"cd\n0 1 ann 1 1 1 0 0 tag 7 3\n0 ann abandon 1 1\n0 0 ann 1 1 2 0 0 confirm 8 1\n0 3 ann 4 1 1 0 0 ask\n",
+        ASK_TAG + CONFIRM % (0, 8, 1) + b"2 0 ann 1 1 2 0 0 store 8 1 cd\nann 0 gone 1 1\n3 0 ann 4 1 1 0 0 copy 0 0 -\n",
+    ),
+    "a read hears a greater tag alone": (READ + b"0 1 ann 1 1 1 0 0 tag 7 3\n0 0 ann 1 1 1 0 0 tag 7 3\n", ASK),
+    "a read hears a tag that it knows": (
+        b"0 0 ann 1 1 2 0 0 store 7 3 ee\n" + READ + b"0 1 ann 1 1 1 0 0 tag 7 3\n",
+        ASK[:-1] + b" 7 3\n" + CONFIRM % (0, 7, 3) + b"2 0 ann 1 1 2 0 0 store 7 3 ee\n",
+    ),
+    "a server wants the store whole": (
+        READ + b"0 1 ann 1 1 1 0 0 copy 3 2 aB\n0 3 ann 1 1 2 0 0 want\n0 3 ann 1 1 4 0 0 want\n0 3 ann 1 1 2 0 1 want\n0 3 ann 1 2 2 0 0 want\n0 4 ann 1 1 2 0 0 want\n",
+        ASK + CONFIRM % (0, 3, 2) + b"2 0 ann 1 1 2 0 0 store 3 2 ab\n3 0 ann 1 1 2 0 0 store 3 2 ab\n",
+    ),
     "more lines of nobody": (b" ?\n00 ann read 1 1 0 0\nann 0 gone 1 1\n0 960 ann 1 5 3 0 3 ask\n1 ann plan\n0 1 plan\n", b""),
     "requests with no form": (b"0 ann quorum 1 1\n0 ann retry 1 1\n0 ann write 1 7 0 3\n0 ann read 1 7 0 3 0\n0 ann read 01 7 0 3\n0 ann plan \n0 ann  plan\n0 ann plans\n", 8 * BAD),
     "letters with no form": (
@@ -96,13 +123,13 @@ ROOM_LINES = {
     "with room, a line of the most bytes": (filled(LONGEST) + READ, BAD + ASK),
     "with room, a line of one byte more": (filled(LONGEST + 1) + READ, ASK),
     "with room, a line of 300,000 bytes": (filled(300_000) + READ, ASK),
-    "with room, what a tenant has": (b"0 ann plan\n0 bob plan\n", b"ann 0 plan 4 0 1 80 40 2.40 lines=1\nbob 0 plan 4 1 2 16 16 1.1 lines=1\n"),
-    "with room, a content of the most bytes": (WRITE + b"ab" * 2560 + b"\n", ASK),
+    "with room, what a tenant has": (b"0 ann plan\n0 bob plan\n", b"ann 0 plan 4 0 1 80 40 2.40 lines=2\nbob 0 plan 4 1 2 16 16 1.1 lines=2\n"),
+    "with room, a content of the most bytes": (WRITE + b"ab" * 2560 + b"\n", ASK_TAG),
     "with room, a content of one byte more": (WRITE + b"ab" * 2561 + b"\n", b"ann 0 refused toolong 1 1 0 0 2561\n"),
-    "with room, a content in bytes of the most bytes": (WRITE + b"=" + b"\\b" * 2560 + b"\n", ASK),
+    "with room, a content in bytes of the most bytes": (WRITE + b"=" + b"\\b" * 2560 + b"\n", ASK_TAG),
     "with room, a content in bytes of one byte more": (WRITE + b"=" + b"\\b" * 2561 + b"\n", b"ann 0 refused toolong 1 1 0 0 2561\n"),
-    "with room, a store of the most bytes": (OWN + b"1 1 " + b"ab" * 2560 + b"\n" + HEARD, ASK + OWN + b"1 1 " + b"ab" * 2560 + b"\n2 0 ann 1 1 2 0 0 store 1 1 " + b"ab" * 2560 + b"\n"),
-    "with room, a store of one byte more": (OWN + b"1 1 " + b"ab" * 2561 + b"\n" + HEARD, ASK + OWN + b"0 0 -\n2 0 ann 1 1 2 0 0 store 0 0 -\n"),
+    "with room, a store of the most bytes": (OWN + b"1 1 " + b"ab" * 2560 + b"\n" + HEARD, ASK[:-1] + b" 1 1\n" + CONFIRM % (0, 1, 1) + b"2 0 ann 1 1 2 0 0 store 1 1 " + b"ab" * 2560 + b"\n"),
+    "with room, a store of one byte more": (OWN + b"1 1 " + b"ab" * 2561 + b"\n" + HEARD, ASK + CONFIRM % (0, 0, 0) + b"2 0 ann 1 1 2 0 0 store 0 0 -\n"),
 }
 
 
@@ -113,9 +140,9 @@ WIDE = (
     b"cat open 1 1 times 64\ncat open 1 1\ncat open 2 1 times 2\ncat open 1 1 times 4\ncat open 1 2\nreplace 3\n"
 )
 WIDE_LINES = {
-    "wide, what a tenant of 65 volumes has": (b"0 ann plan\n", b"ann 0 plan 4 0 1 200 16 1.1.64 1.2.1 67 lines=1\n"),
-    "wide, what one of 64 has": (b"0 bob plan\n", b"bob 0 plan 4 1 1 200 16 1.2" + 63 * b" 2.1" + b" 67 lines=1\n"),
-    "wide, what one of several runs has": (b"0 cat plan\n", b"cat 0 plan 4 2 1 100 16 1.1.65 2.1.2 1.1.4 1.2.1 67 lines=1\n"),
+    "wide, what a tenant of 65 volumes has": (b"0 ann plan\n", b"ann 0 plan 4 0 1 200 16 1.1.64 1.2.1 67 lines=2\n"),
+    "wide, what one of 64 has": (b"0 bob plan\n", b"bob 0 plan 4 1 1 200 16 1.2" + 63 * b" 2.1" + b" 67 lines=2\n"),
+    "wide, what one of several runs has": (b"0 cat plan\n", b"cat 0 plan 4 2 1 100 16 1.1.65 2.1.2 1.1.4 1.2.1 67 lines=2\n"),
     "wide, a file of the last volume": (b"0 ann read 1 1 64 0\n", b"1 0 ann 1 1 1 64 0 ask\n"),
     "wide, one of none": (b"0 ann read 1 1 65 0\n0 ann read 1 1 64 1\n", b"ann 0 refused novolume 1 1 65\nann 0 refused nofile 1 1 64 1\n"),
     "wide, a line of 4,096 bytes": (filled(4096) + READ, ASK),
@@ -142,14 +169,14 @@ NAMED = b"grid 2 2\nblocks 24\ntenant ann 8 2 10\ntenant tick 8 2 10\ngo\n"
 NAMED_LINES = {
     "a tenant named tick": (
         b"0 tick list 300 0 1\n0 tick abandon 1 4000000000\n0 tick plan\n0 tick\n0 0 tick\n",
-        b"tick 0 refused nosession 300 0\ntick 0 refused home 2 1 4000000000\ntick 0 plan 4 2 2 8 16 lines=1\ntick 0 refused bad\n",
+        b"tick 0 refused nosession 300 0\ntick 0 refused home 2 1 4000000000\ntick 0 plan 4 2 2 8 16 lines=2\ntick 0 refused bad\n",
     ),
 }
 COLUMN = b"grid 2 1\nblocks 16\ntenant ann 8 2 10\ntenant bob 8 2 10\ngo\nann open 2 1\n"
 COLUMN_LINES = {
     "a write to a column": (
         WRITE + b"4B\n0 0 ann 1 1 2 0 0 store 1 1 4b\n0 1 ann 1 1 2 0 0 stored\n",
-        OWN + b"1 1 4b\n1 0 ann 1 1 2 0 0 store 1 1 4b\nann 0 done write 1 1 tag 1 1\n",
+        CONFIRM % (0, 1, 1) + b"1 0 ann 1 1 2 0 0 store 1 1 4b\nann 0 done write 1 1 tag 1 1\n",
     ),
 }
 ROW = b"grid 1 2\nblocks 16\ntenant ann 8 3 10\ntenant bob 8 3 10\ngo\nann open 2 1\n"
@@ -160,8 +187,8 @@ ROW_LINES = {
         + b"0 ann write 1 2 0 0 4b\n0 0 tick\n0 0 tick\n0 0 ann 1 1 1 0 0 ask\n0 1 ann 1 1 1 0 0 copy 0 0 -\n0 1 ann 2 1 1 0 0 ask\n"
         + WRITE
         + b"4b\n",
-        TO_ONE
-        + b"ann 0 refused busy 1 2 1\n"
+        TO_ONE[:-1]
+        + b" 18446744073709551615 255\nann 0 refused busy 1 2 1\n"
         + TO_ONE
         + b"ann 0 done write 1 1 tag 1 1\n1 0 ann 2 1 1 0 0 copy 1 1 4b\nann 0 done write 1 1 tag 1 1\n",
     ),

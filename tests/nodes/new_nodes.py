@@ -57,11 +57,12 @@ COPY = b"0 67 ann 1 1 1 0 0 copy 5 1 aa\n"
 NEXT = b"1 67 ann fetch 0 1\n"
 READ = b"67 ann read 20 1 0 0\n"
 ASKS = b"2 67 ann 20 1 1 0 0 ask\n"
+TAGS = ASKS[:-1] + b" 18446744073709551615 255\n"  # a write uses tags alone
 ANN, BOB = [b"0 0", b"0 1", b"0 2", b"0 3", b"1 0"], [b"0 0"]
 ALL_GIVEN = b"".join(b"67 1 ann fetched %s 0 0 -\n" % file for file in ANN) + b"67 1 bob fetched 0 0 0 0 -\n"
 # Lines that a new node is given at its first start, and what it writes behind its first line.
 LINES = {
-    "what a tenant has": (b"67 ann plan\n", b"ann 67 plan 4 0 4 16 16 4.2 1.1 67 lines=1\n"),
+    "what a tenant has": (b"67 ann plan\n", b"ann 67 plan 4 0 4 16 16 4.2 1.1 67 lines=2\n"),
     "a tick": (TICK, JOINS),
     "some have joined": (b"67 1 joined 1\n" + TICK, b"0 67 joins 1\n2 67 joins 1\n"),
     "all have joined": (JOINED + TICK, FETCHES),
@@ -71,6 +72,7 @@ LINES = {
     "words without a form": (JOINED.replace(b"67 1 joined 1", b"67 1 joined 01\n67 1 joined\n67 1 joined 1 \n67 1 joined -1") + TICK, b"1 67 joins 1\n"),
     "it is asked whether it has joined": (b"67 0 joins 1\n67 0 joins 2\n67 0 joins 0\n67 3 joins 1\n67 131 joins 1\n", b"0 67 joined 1\n0 67 joined 0\n"),
     "a file that it lacks": (ASK + STORE + b"67 1 ann fetch 0 0\n", b""),
+    "tags of a file that it lacks": (ASK[:-1] + b" 1 1\n67 0 ann 1 1 2 0 0 confirm 0 0\n67 0 ann 1 1 2 0 0 confirm 9 1\n", b""),
     "a file that it was given": (GIVEN + ASK, NEXT + COPY),
     "a file that it was given, asked for by its peer": (GIVEN + b"67 1 ann fetch 0 0\n67 0 ann fetch 0 0\n67 2 ann fetch 0 0\n", NEXT + b"1 67 ann fetched 0 0 5 1 aa\n"),
     "a file that it was given twice": (GIVEN + b"67 1 ann fetched 0 0 6 1 bb\n" + ASK, NEXT + COPY),
@@ -87,13 +89,13 @@ LINES = {
     "one of the node that was lost": (b"67 ann read 4 1 0 0\n67 ann read 36 1 0 0\n", b"ann 67 refused nosession 4 1\nann 67 refused nosession 36 1\n"),
     "one whose home was not lost": (b"67 ann read 1 1 0 0\n67 ann read 17 1 0 0\n", b"ann 67 refused home 0 1 1\nann 67 refused nosession 17 1\n"),
     "a letter of the node that was lost": (GIVEN + b"67 3 ann 4 1 1 0 0 ask\n67 0 ann 4 1 1 0 0 ask\n67 67 ann 4 1 1 0 0 ask\n", NEXT),
-    "a letter of its own, brought by a line": (READ + GIVEN + b"67 67 ann 20 1 1 0 0 ask\n67 2 ann 20 1 1 0 0 copy 0 0 -\n", ASKS + NEXT + b"1 67 ann 20 1 2 0 0 store 5 1 aa\n67 67 ann 20 1 2 0 0 store 5 1 aa\n"),
+    "a letter of its own, brought by a line": (READ + GIVEN + b"67 67 ann 20 1 1 0 0 ask\n67 2 ann 20 1 1 0 0 copy 0 0 -\n", ASKS + NEXT + b"1 67 ann 20 1 2 0 0 store 5 1 aa\n67 67 ann 20 1 2 0 0 confirm 5 1\n"),
     "a late store": (GIVEN + STORE + b"67 0 ann 1 1 2 0 0 store 4 1 bb\n" + ASK, NEXT + 2 * b"0 67 ann 1 1 2 0 0 stored\n" + COPY.replace(b"5 1 aa", b"9 1 ff")),
     "lines for the node that was lost": (b"3 ann plan\n3 0 joins 1\n3 3 tick\n", b""),
 }
 # The same of an old node, 0, which is started with the plan that says that 3 was lost; and with the one that does not.
 OF_AN_OLD_ONE = {
-    "what a tenant has": (b"0 ann plan\n", b"ann 0 plan 4 0 4 16 16 4.2 1.1 67 lines=1\n"),
+    "what a tenant has": (b"0 ann plan\n", b"ann 0 plan 4 0 4 16 16 4.2 1.1 67 lines=2\n"),
     "a new node asks whether it has joined": (b"0 67 joins 1\n0 67 joins 0\n0 67 joins 2\n0 3 joins 1\n0 2 joins 1\n", b"67 0 joined 1\n67 0 joined 0\n2 0 joined 1\n"),
     "a tick": (b"0 0 tick\n", b""),
     "a node of another column wants a file": (b"0 67 ann fetch 0 0\n0 1 ann fetch 0 0\n0 2 ann fetch 0 0\n", b"2 0 ann fetched 0 0 0 0 -\n"),
@@ -130,7 +132,7 @@ NEEDED = [
 # A write at the new node, whose row has told their copies, and what comes of it.
 WRITE = b"67 ann write 20 1 0 0 aa\n"
 COPIES = b"67 2 ann 20 1 1 0 0 copy 0 0 -\n67 67 ann 20 1 1 0 0 copy 0 0 -\n"
-STORES = b"1 67 ann 20 1 2 0 0 store %d 20 aa\n67 67 ann 20 1 2 0 0 store %d 20 aa\n"
+STORES = b"1 67 ann 20 1 2 0 0 store %d 20 aa\n67 67 ann 20 1 2 0 0 confirm %d 20\n"
 
 
 def numbered(plan, number, losses):
@@ -202,7 +204,7 @@ class NewNodes(Faults):
         put(self.at("journal"), sealed(1, head + LOST) + sealed(2, head + LATER) + sealed(3, facts))
         put(self.at("plan"), LATER)
         status, told, wrote = self.node(b"67 0 ann 1 1 2 0 0 store 9 1 aa\n" + READ)
-        self.held("a long journal", (status, told, wrote), (0, LACKS % (2 + 2 * 2_590, FILES - 1), FIRST + b"0 67 ann 1 1 2 0 0 stored\n" + ASKS))
+        self.held("a long journal", (status, told, wrote), (0, LACKS % (2 + 2 * 2_590, FILES - 1), FIRST + b"0 67 ann 1 1 2 0 0 stored\n" + ASKS[:-1] + b" 2599 1\n"))
         found, _ = batches(get(self.at("journal")))
         self.held("it is written anew", len(get(self.at("journal"))) < 10_000, True)
         self.held("its plan, with the losses behind", found[0], head + LATER.replace(b"replace 3\n", b"") + b"replace 3\n")
@@ -214,7 +216,7 @@ class NewNodes(Faults):
     def numbers(self):
         """The tags of a new node's sessions begin above all that a lost node wrote, by the plan with which the node began."""
         stores = STORES % (OF_A_LOSS + 1, OF_A_LOSS + 1)
-        self.held("a write of a new node", self.begin(given=WRITE + COPIES), (0, LACKS % (0, FILES), FIRST + ASKS + in_bytes(stores)))
+        self.held("a write of a new node", self.begin(given=WRITE + COPIES), (0, LACKS % (0, FILES), FIRST + TAGS + in_bytes(stores)))
         facts = BASE + b"began ann 20 1024\nnumbered ann 20 %d\n" % (OF_A_LOSS + 1_024)
         self.held("its journal", b"".join(batches(get(self.at("journal")))[0][1:]), facts)
         put(self.at("plan"), LOST + b"replace 0\n")
@@ -225,10 +227,10 @@ class NewNodes(Faults):
         put(self.at("journal"), sealed(1, b"node 67 of 2 by 2\n" + LOST) + sealed(2, b"numbered ann 20 7\n"))
         put(self.at("plan"), LOST)
         status, told, wrote = self.node(WRITE + COPIES)
-        self.held("a journal from before, with numbers", (status, told, wrote), (0, LACKS % (1, FILES), FIRST + ASKS + in_bytes(STORES % (8, 8))))
+        self.held("a journal from before, with numbers", (status, told, wrote), (0, LACKS % (1, FILES), FIRST + TAGS + in_bytes(STORES % (8, 8))))
         put(self.at("journal"), sealed(1, b"node 67 of 2 by 2\n" + LOST))
         seen = self.node(WRITE + COPIES)
-        self.held("and with none", seen, (0, LACKS % (0, FILES), FIRST + ASKS + in_bytes(STORES % (OF_A_LOSS + 1, OF_A_LOSS + 1))))
+        self.held("and with none", seen, (0, LACKS % (0, FILES), FIRST + TAGS + in_bytes(STORES % (OF_A_LOSS + 1, OF_A_LOSS + 1))))
         for number, plan, losses in (131, LOST + b"replace 0\nreplace 3\n", 3), (64, LOST + b"replace 0\n", 2), (0, LOST, 0):
             self.begin(plan, number=number)
             facts = b"".join(batches(get(self.at("journal")))[0][1:])
@@ -276,7 +278,7 @@ class NewNodes(Faults):
         put(self.at("named"), named)
         told = LACKS % (0, FILES)
         seen = self.node(b"67 replace plan\n", plan="named", journal="named.journal", is_new=True)
-        self.held("a tenant with that name", seen, (0, told, FIRST + b"replace 67 plan 4 0 2 16 16 1.1 67 lines=1\n"))
+        self.held("a tenant with that name", seen, (0, told, FIRST + b"replace 67 plan 4 0 2 16 16 1.1 67 lines=2\n"))
         for name, text in ALIKE.items():
             self.begin(text)
             self.held(name, get(self.at("journal")), sealed(1, b"node 67 of 2 by 2\n" + LOST) + sealed(2, BASE))

@@ -133,10 +133,10 @@ class Watch:
         elif words[2] == b"joined":
             wrong = self.joined_of(number, int(words[0]), int(words[3]))
         elif words[2] == b"speaks":
-            wrong = None if words[3:] == [b"1"] and int(words[0]) != number else "and tells another form, or itself"
+            wrong = None if words[3:] == [b"2"] and int(words[0]) != number else "and tells another form, or itself"
         elif words[3] in (b"fetch", b"fetched"):
             wrong = self.fetch_of(number, int(words[0]), *words[2:6])
-        elif words[8] in (b"copy", b"stored"):
+        elif words[8] in (b"copy", b"stored", b"tag", b"want"):
             wrong = None if self.has(number, words[2], *words[6:8]) else "of a file that it lacks"
         else:
             wrong = self.session_of(number, words[3])

@@ -63,7 +63,7 @@ class Numbers:
     def see(self, node, line):
         """A whole line that a node wrote."""
         words = line.split(b" ")
-        if words[0].isdigit() and words[8:9] in ([b"ask"], [b"store"]):
+        if words[0].isdigit() and words[8:9] in ([b"ask"], [b"store"], [b"confirm"]):
             self.see_letter(node, words)
         elif words[2:3] == [b"done"]:
             self.see_end(node, words)
@@ -86,10 +86,11 @@ class Numbers:
         """An ask or a store of a session's home."""
         session, operation, place = (words[2], words[3]), int(words[4]), words[6:8]
         self.homes[session] = node
-        self.once(("the round", *words[2:6]), place + words[9:11])
+        # (what an ask has behind it says what its sender has)
+        self.once(("the round", *words[2:6]), place + (words[9:11] if words[8] in (b"store", b"confirm") else []))
         self.operations[session] = max(operation, self.operations.get(session, 0))
         self.last[node][session] = max(operation, self.last[node].get(session, 0))
-        if words[8] == b"store" and words[10] != b"0":
+        if words[8] in (b"store", b"confirm") and words[10] != b"0":
             self.once(("the tag", words[2], *words[9:11]), place)
             if words[10] == words[3] and int(words[9]) <= self.least.get(node, 0):
                 raise Wrong(f"node {node} writes {line_of(words)}, and its sessions begin above {self.least[node]}")

@@ -267,7 +267,7 @@ class Storm:
         draw = self.draw
         name, to = draw.choice(list(self.by_name)), draw.randrange(self.count)
         numbers = [draw.choice([b"0", b"1", b"2", b"7", b"255", b"4294967295", b"4294967296", b"01", b""]) for _ in range(4)]
-        kind = draw.choice([b"write", b"read", b"list", b"abandon", b"plan", b"done", b"%d ask" % to, b"?", name + b" 1 1 1 0 0 ask"])
+        kind = draw.choice([b"write", b"read", b"list", b"abandon", b"plan", b"done", b"%d ask" % to, b"?", name + b" 1 1 1 0 0 ask", name + b" 1 1 1 0 0 ask 1 1"])
         words = [kind, *numbers[: draw.randint(0, 4)]] + [draw.choice([b"aa", b"-", b"a", b"AB", b"aa" * 200])] * draw.randint(0, 1)
         if kind in (b"write", b"read", b"list", b"abandon") and words[1:2] in ([b"1"], [b"2"], [b"7"]):
             words[2:3] = [b"0"]  # (this number is old)
@@ -320,7 +320,7 @@ class Storm:
         for line in lines:
             self.numbers.see(number, line)
             # (a listing of several files may, where the node is the only server; and a store, where its column has others)
-            if self.count > 1 and line.startswith(b"%d %d " % (number, number)) and (self.has_one_row or b" store " not in line):
+            if self.count > 1 and line.startswith(b"%d %d " % (number, number)) and (self.has_one_row or not (b" store " in line or b" confirm " in line)):
                 raise Wrong(f"node {number} writes a line to itself: {line!r}")
             if line[:1].isdigit():
                 if b" store " in line or b" copy " in line:

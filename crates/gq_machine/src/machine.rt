@@ -17,9 +17,11 @@ ghost use Rattle.gq_wire.specs.declared.incoming.Incoming.TheVariants.{Tick};
 ghost use Rattle.gq_wire.specs.Incoming.{FitsPlan};
 ghost use Rattle.gq_facts.specs.Facts.{fact_text};
 ghost use Rattle.gq_facts.specs.Laws.{FitsFact};
+ghost use Rattle.gq_node.specs.Shorts.{own_short};
 ghost use Rattle.gq_parts.specs.Inputs.{session_ticks, ticks_of};
-ghost use Rattle.gq_parts.specs.Texts.{answer_text, sent_line, transfer_text, step_text, joins_text, joined_text, greeting_at, greeting_text};
-ghost use Rattle.gq_parts.specs.Steps.{AskedToJoin, fact_lines, HasAddress, IsOfPlan, IsOfTenant, goes_home, going_home, going_by_lines, Appended, TookHop, TookOwn, PutAll, TookOf, TookAll, TookIncoming, some_lacks, all_lacked};
+ghost use Rattle.gq_parts.specs.Within.{is_once_more};
+ghost use Rattle.gq_parts.specs.Texts.{answer_text, sent_line, reply_text, transfer_text, step_text, joins_text, joined_text, greeting_at, greeting_text};
+ghost use Rattle.gq_parts.specs.Steps.{AskedToJoin, fact_lines, HasAddress, IsAddressed, IsOfPlan, IsOfTenant, goes_home, going_home, table_form, table_line, table_lines, told_letters, Appended, TookHop, TookOwn, PutAll, TookOf, TookShort, TookAll, TookIncoming, some_lacks, all_lacked};
 
 use crate::ranges::{fact_fits, plan_is_sound};
 use gq_facts::{put_fact, read_fact};
@@ -27,12 +29,14 @@ use gq_grid::MOST_SERVERS;
 use gq_keeper::{Fault, Lasting, Machine, Unread};
 use gq_memory::{GrowVec, OutOfMemory};
 use gq_model::Line;
-use gq_node::{Answer, Ended, Fact, NeedRefused, Node, Output, Transfer, place_of};
+use gq_node::{
+    Answer, Ended, Fact, NeedRefused, Node, Output, Short, ShortBody, Transfer, place_of,
+};
 use gq_parts::laws::MOST_HOPS;
 use gq_tag::{Body, FileId, Message, StoredCopy};
 use gq_wire::{
-    Incoming, LINE_FORM, put_joined, put_joins, put_letter, put_speaks, put_told, put_transfer,
-    read_incoming,
+    Incoming, LINE_FORM, put_joined, put_joins, put_letter, put_short, put_speaks, put_told,
+    put_transfer, read_incoming,
 };
 use std::alloc::Global;
 
@@ -52,6 +56,13 @@ pub struct NodeMachine {
 fn no_memory(ended: Ended) -> OutOfMemory {
     let Ended(refused) = ended;
     refused
+}
+
+// Whether a short letter makes a store go out once more.
+fn is_once_more(body: ShortBody) -> bool
+    ensures { result ≡ is_once_more body }
+{
+    matches!(body, ShortBody::Confirm(_) | ShortBody::Want)
 }
 
 impl NodeMachine {
@@ -102,8 +113,8 @@ impl NodeMachine {
         }
     }
 
-    // Appends the line of a letter.
-    fn put_line(&self, letter: &Message, told: &mut Vec<u8>) -> Result<(), OutOfMemory>
+    // Appends the line of a letter that goes whole.
+    fn put_whole(&self, letter: &Message, told: &mut Vec<u8>) -> Result<(), OutOfMemory>
         requires { HasAddress self.now.node.tables.plan letter.now }
         ensures { OnOk result (told.new.items ≡ told.old.items ++ sent_line self.now.node.tables.plan self.now.node.tables.here letter.now) }
     {
@@ -116,41 +127,87 @@ impl NodeMachine {
         )
     }
 
-    // Appends the lines of the letters.
+    // The short form of a letter, if it goes in one: what goes out once more goes whole.
+    fn form(&self, letter: &Message, again: bool) -> Option<Short>
+        requires { IsAddressed self.now.node.tables.plan letter.now }
+        ensures { result ≡ table_form again self.now.node.tables letter.now }
+    {
+        if again {
+            return None;
+        }
+        self.node.short_of(letter)
+    }
+
+    // Appends the line of a letter, in its short form where it goes in one.
+    fn put_line(&self, letter: &Message, again: bool, told: &mut Vec<u8>) -> Result<(), OutOfMemory>
+        requires { IsAddressed self.now.node.tables.plan letter.now }
+        ensures { OnOk result (told.new.items ≡ told.old.items ++ table_line again self.now.node.tables.plan self.now.node.tables.here self.now.node.tables letter.now) }
+    {
+        match self.form(letter, again) {
+            Some(short) => put_short(
+                told,
+                self.node.plan(),
+                self.node.address(letter),
+                self.node.number(),
+                &short,
+            ),
+            None => self.put_whole(letter, told),
+        }
+    }
+
+    // Appends the line of a short reply, if there is one.
+    fn put_reply(&self, reply: &Option<Short>, told: &mut Vec<u8>) -> Result<(), OutOfMemory>
+        requires { IfSome reply.now (λ s. s.tenant < length self.now.node.tables.plan.rows) }
+        ensures { OnOk result (told.new.items ≡ told.old.items ++ reply_text self.now.node.tables.plan self.now.node.tables.here reply.now) }
+    {
+        match reply {
+            Some(short) => put_short(
+                told,
+                self.node.plan(),
+                self.node.address(&short.plain()),
+                self.node.number(),
+                short,
+            ),
+            None => Ok(()),
+        }
+    }
+
+    // Appends the lines of the letters, each in its form.
     fn put_lines(&self, letters: &[Message], told: &mut Vec<u8>) -> Result<(), OutOfMemory>
-        requires { All (HasAddress self.now.node.tables.plan) letters.now }
-        ensures { OnOk result (told.new.items ≡ told.old.items ++ flat_map (sent_line self.now.node.tables.plan self.now.node.tables.here) letters.now) }
+        requires { All (IsAddressed self.now.node.tables.plan) letters.now }
+        ensures { OnOk result (told.new.items ≡ told.old.items ++ table_lines false self.now.node.tables.plan self.now.node.tables.here self.now.node.tables letters.now) }
     {
         for letter in letters {
-            self.put_line(letter, told)?;
+            self.put_line(letter, false, told)?;
         }
         Ok(())
     }
 
     // Whether the node takes the letter itself, within the line that it now takes: it goes to this node, and is no store that other servers
-    // of the column have to sync too.
-    fn is_own(&self, letter: &Message) -> bool
+    // of the column have to sync too, unless it goes out once more.
+    fn is_own(&self, letter: &Message, again: bool) -> bool
         requires { HasAddress self.now.node.tables.plan letter.now }
-        ensures { result ≡ goes_home self.now.node.tables.plan self.now.node.tables.here letter.now }
+        ensures { result ≡ goes_home again self.now.node.tables.plan self.now.node.tables.here letter.now }
     {
         let is_shared_store = matches!(&letter.body, Body::Store(_))
             && self.node.plan().grid().rows() > 1;
-        !is_shared_store && self.node.address(letter) == self.node.number()
+        (again || !is_shared_store) && self.node.address(letter) == self.node.number()
     }
 
     // Appends the line of the letter, or puts it behind the node's own ones where the node takes it itself.
     fn put_letter(
         &self,
         letter: &Message,
+        again: bool,
         own: &mut Vec<Message>,
         told: &mut Vec<u8>,
     ) -> Result<(), OutOfMemory>
-        requires { HasAddress self.now.node.tables.plan letter.now }
-        ensures told { OnOk result (told.new.items ≡ told.old.items ++ flat_map (sent_line self.now.node.tables.plan self.now.node.tables.here) (going_by_lines self.now.node.tables.plan self.now.node.tables.here (letter.now ∷ []))) }
-        ensures own { OnOk result (own.new.items ≡ own.old.items ++ going_home self.now.node.tables.plan self.now.node.tables.here (letter.now ∷ [])) }
+        requires { IsAddressed self.now.node.tables.plan letter.now }
+        ensures told { OnOk result (told.new.items ≡ told.old.items ++ told_letters again self.now.node.tables.plan self.now.node.tables.here self.now.node.tables (letter.now ∷ [])) }
+        ensures own { OnOk result (own.new.items ≡ own.old.items ++ going_home again self.now.node.tables.plan self.now.node.tables.here (letter.now ∷ [])) }
     {
-        if !self.is_own(letter) {
-            return self.put_line(letter, told);
+        if !self.is_own(letter, again) {
+            return self.put_line(letter, again, told);
         }
         let shared = letter.share()?;
         own.grow(shared)
@@ -160,15 +217,16 @@ impl NodeMachine {
     fn put_letters(
         &self,
         letters: &[Message],
+        again: bool,
         own: &mut Vec<Message>,
         told: &mut Vec<u8>,
     ) -> Result<(), OutOfMemory>
-        requires { All (HasAddress self.now.node.tables.plan) letters.now }
-        ensures told { OnOk result (told.new.items ≡ told.old.items ++ flat_map (sent_line self.now.node.tables.plan self.now.node.tables.here) (going_by_lines self.now.node.tables.plan self.now.node.tables.here letters.now)) }
-        ensures own { OnOk result (own.new.items ≡ own.old.items ++ going_home self.now.node.tables.plan self.now.node.tables.here letters.now) }
+        requires { All (IsAddressed self.now.node.tables.plan) letters.now }
+        ensures told { OnOk result (told.new.items ≡ told.old.items ++ told_letters again self.now.node.tables.plan self.now.node.tables.here self.now.node.tables letters.now) }
+        ensures own { OnOk result (own.new.items ≡ own.old.items ++ going_home again self.now.node.tables.plan self.now.node.tables.here letters.now) }
     {
         for letter in letters {
-            self.put_letter(letter, own, told)?;
+            self.put_letter(letter, again, own, told)?;
         }
         Ok(())
     }
@@ -222,6 +280,7 @@ impl NodeMachine {
         tenant: u8,
         asked: &Line,
         out: &Output,
+        again: bool,
         own: &mut Vec<Message>,
         facts: &mut Vec<u8>,
         told: &mut Vec<u8>,
@@ -230,13 +289,13 @@ impl NodeMachine {
         requires fact { IfSome out.now.fact (λ fact. tenant_of fact < length self.now.node.tables.plan.rows) }
         requires letters { All (IsOfTenant tenant) out.now.letters.items }
         requires transfer { IsOfPlan self.now.node.tables.plan out.now.transfer }
-        ensures appended { OnOk result (Appended self.now.node.tables.plan (option_to_list out.now.fact) (step_text self.now.node.tables.plan self.now.node.tables.here tenant asked.now out.now.answer (going_by_lines self.now.node.tables.plan self.now.node.tables.here out.now.letters.items) out.now.transfer) facts.old.items facts.new.items told.old.items told.new.items) }
-        ensures own { OnOk result (own.new.items ≡ own.old.items ++ going_home self.now.node.tables.plan self.now.node.tables.here out.now.letters.items) }
+        ensures appended { OnOk result (Appended self.now.node.tables.plan (option_to_list out.now.fact) (step_text self.now.node.tables.plan self.now.node.tables.here tenant asked.now out.now.answer (told_letters again self.now.node.tables.plan self.now.node.tables.here self.now.node.tables out.now.letters.items) out.now.transfer) facts.old.items facts.new.items told.old.items told.new.items) }
+        ensures own { OnOk result (own.new.items ≡ own.old.items ++ going_home again self.now.node.tables.plan self.now.node.tables.here out.now.letters.items) }
         ensures fit { OnOk result (All (FitsFact self.now.node.tables.plan) (option_to_list out.now.fact)) }
     {
         self.put_fact(&out.fact, facts)?;
         self.put_answer(tenant, asked, &out.answer, told)?;
-        self.put_letters(out.letters.as_slice(), own, told)?;
+        self.put_letters(out.letters.as_slice(), again, own, told)?;
         self.put_transfer(&out.transfer, told)
     }
 
@@ -256,7 +315,7 @@ impl NodeMachine {
         self.has_memory()?;
         let here = self.node.number();
         match self.node.letter(here, letter) {
-            Ok(out) => Ok(self.put_step(tenant, &Line::Bad, &out, own, facts, told)?),
+            Ok(out) => Ok(self.put_step(tenant, &Line::Bad, &out, false, own, facts, told)?),
             Err(ended) => Err(no_memory(ended)),
         }
     }
@@ -307,6 +366,7 @@ impl NodeMachine {
         tenant: u8,
         asked: &Line,
         out: &Output,
+        again: bool,
         facts: &mut Vec<u8>,
         told: &mut Vec<u8>,
     ) -> Result<(), OutOfMemory>
@@ -314,10 +374,10 @@ impl NodeMachine {
         requires fact { IfSome out.now.fact (λ fact. tenant_of fact < length self.old.node.tables.plan.rows) }
         requires letters { All (IsOfTenant tenant) out.now.letters.items }
         requires transfer { IsOfPlan self.old.node.tables.plan out.now.transfer }
-        ensures { OnOk result (PutAll self.old.node.tables tenant asked.now out.now facts.old.items facts.new.items told.old.items told.new.items self.new.node.tables) }
+        ensures { OnOk result (PutAll self.old.node.tables tenant asked.now again out.now facts.old.items facts.new.items told.old.items told.new.items self.new.node.tables) }
     {
         let mut own = Vec::new(self.alloc);
-        self.put_step(tenant, asked, out, &mut own, facts, told)?;
+        self.put_step(tenant, asked, out, again, &mut own, facts, told)?;
         self.take_own(tenant, own, facts, told)
     }
 
@@ -335,7 +395,7 @@ impl NodeMachine {
     {
         self.has_memory()?;
         match self.node.request(tenant, op, line) {
-            Ok(out) => Ok(self.put(tenant, line, &out, facts, told)?),
+            Ok(out) => Ok(self.put(tenant, line, &out, false, facts, told)?),
             Err(ended) => Err(no_memory(ended)),
         }
     }
@@ -352,7 +412,7 @@ impl NodeMachine {
     {
         self.has_memory()?;
         match self.node.holding(tenant) {
-            Ok(out) => Ok(self.put(tenant, &Line::Bad, &out, facts, told)?),
+            Ok(out) => Ok(self.put(tenant, &Line::Bad, &out, false, facts, told)?),
             Err(ended) => Err(no_memory(ended)),
         }
     }
@@ -371,7 +431,30 @@ impl NodeMachine {
     {
         self.has_memory()?;
         match self.node.letter(from, message) {
-            Ok(out) => Ok(self.put(message.tenant, &Line::Bad, &out, facts, told)?),
+            Ok(out) => Ok(self.put(message.tenant, &Line::Bad, &out, false, facts, told)?),
+            Err(ended) => Err(no_memory(ended)),
+        }
+    }
+
+    // A letter comes in a short form.
+    fn short(
+        &mut self,
+        from: u16,
+        short: &Short,
+        facts: &mut Vec<u8>,
+        told: &mut Vec<u8>,
+    ) -> Result<(), OutOfMemory>
+        requires tenant { short.now.tenant < length self.old.node.tables.plan.rows }
+        requires own { short.now.file.tenant ≡ short.now.tenant }
+        ensures { OnOk result (TookShort self.old.node.tables short.now.tenant from (own_short short.now) facts.old.items facts.new.items told.old.items told.new.items self.new.node.tables) }
+    {
+        self.has_memory()?;
+        match self.node.short(from, short) {
+            Ok(given) => {
+                self.put_reply(&given.short, told)?;
+                let again = is_once_more(short.body);
+                Ok(self.put(short.tenant, &Line::Bad, &given.out, again, facts, told)?)
+            }
             Err(ended) => Err(no_memory(ended)),
         }
     }
@@ -389,7 +472,7 @@ impl NodeMachine {
     {
         self.has_memory()?;
         match self.node.fetch(from, file) {
-            Ok(out) => Ok(self.put(file.tenant, &Line::Bad, &out, facts, told)?),
+            Ok(out) => Ok(self.put(file.tenant, &Line::Bad, &out, false, facts, told)?),
             Err(ended) => Err(no_memory(ended)),
         }
     }
@@ -409,7 +492,7 @@ impl NodeMachine {
         self.has_memory()?;
         let shared = copy.share()?;
         match self.node.fetched(from, file, shared) {
-            Ok(out) => Ok(self.put(file.tenant, &Line::Bad, &out, facts, told)?),
+            Ok(out) => Ok(self.put(file.tenant, &Line::Bad, &out, false, facts, told)?),
             Err(ended) => Err(no_memory(ended)),
         }
     }
@@ -428,7 +511,7 @@ impl NodeMachine {
     {
         self.has_memory()?;
         match self.node.tick(tenant, place) {
-            Ok(out) => Ok(self.put(tenant, &Line::Bad, &out, facts, told)?),
+            Ok(out) => Ok(self.put(tenant, &Line::Bad, &out, true, facts, told)?),
             Err(ended) => Err(no_memory(ended)),
         }
     }
@@ -462,7 +545,7 @@ impl NodeMachine {
     {
         self.has_memory()?;
         match self.node.look(tenant) {
-            Ok(out) => Ok(self.put(tenant, &Line::Bad, &out, facts, told)?),
+            Ok(out) => Ok(self.put(tenant, &Line::Bad, &out, false, facts, told)?),
             Err(ended) => Err(no_memory(ended)),
         }
     }
@@ -640,6 +723,7 @@ impl NodeMachine {
             Incoming::Plan { tenant } => self.question(*tenant, facts, told),
             Incoming::Bad { tenant } => self.request(*tenant, 0, &Line::Bad, facts, told),
             Incoming::Letter { from, message } => self.letter(*from, message, facts, told),
+            Incoming::ShortLetter { from, short } => self.short(*from, short, facts, told),
             Incoming::Joins { from, losses } => self.asked_to_join(*from, *losses, told),
             Incoming::Joined { from, losses } => self.joined(*from, *losses),
             Incoming::Speaks { from, form } => {

@@ -16,7 +16,7 @@ use Rattle.gq_replace.specs.Plans.{place_of}
 use Rattle.gq_node.specs.declared.output.Answer.{Answer}
 use Rattle.gq_node.specs.Again.{TellsEnd, is_start, begun_at, NoneBegins, forgotten, end_after, AllEndsToldAgain, AllBeginLater}
 use Rattle.gq_node.specs.Bridge.{AtHome}
-use Rattle.gq_node.specs.Inputs.{Input, Asked, AskedPlan, Brought, Ticked, Looked, Joined, Fetching, Fetched, does}
+use Rattle.gq_node.specs.Inputs.{Input, Asked, AskedPlan, Brought, Shortened, Ticked, Looked, Joined, Fetching, Fetched, does}
 use Rattle.gq_node.specs.Joining.{tells_joined, hears_joined, all_joined, next_peer, asks_peer, looks, is_peer, has_file, gives, takes}
 use Rattle.gq_node.specs.Local.{Local, Resident, Doing, new_local, part_in, state_of, given, file_fits, recalled, fits_local}
 use Rattle.gq_node.specs.Nodes.{first_plan_in, NodeWorld, site_in, site_at, plan_volumes, Nodes, new_nodes, Event, Started, Came, AskedToJoin, node_in, started, first_of, fact_list, doing_of, takes_word, with_ready, after_doing, after_word, after_input, after_event, nodes_after}
@@ -25,7 +25,7 @@ use Rattle.gq_node.specs.Resting.{IsBare, begun_local, recall_one, recall_all}
 use Rattle.gq_node.specs.Sites.{Site, has_session}
 use Rattle.gq_node.proofs.Beginning.{Steps, moved_steps, none_begins, begun_next, begun_is}
 use Rattle.gq_node.proofs.Beginnings.{idle_is, ops_are, floors_are}
-use Rattle.gq_node.proofs.Bridging.{all_requests_act, all_letters_act, all_ticks_act}
+use Rattle.gq_node.proofs.Bridging.{all_requests_act, all_letters_act, shorts_act, all_ticks_act}
 use Rattle.gq_node.proofs.Journal.{FactIn, KeepsBy, Keeps, does_keep, stays_bare}
 use Rattle.gq_node.proofs.Moves.{AllNamed, end_of, HasEnded, ended_tells, Moves, moved_named, moved_ended, begun_here, moved_reserved, moved_tells, asks_quiet, all_move}
 use Rattle.gq_node.proofs.Recalling.{recalls_fits, recalls_not}
@@ -235,6 +235,7 @@ does_hold : (input : Input) (site : Site) (local : Local) → Holds site local �
 does_hold (Asked op line) site local holds = let b = all_requests_act op line site local holds.0 in (b.home, bridged_used site local _ _ _ _ b holds.1)
 does_hold AskedPlan site local holds = holds
 does_hold (Brought from letter) site local holds = let b = all_letters_act from letter site local holds.0 in (b.home, bridged_used site local _ _ _ _ b holds.1)
+does_hold (Shortened from short bytes) site local holds = let b = shorts_act from short bytes site local holds.0 in (b.home, bridged_used site local _ _ _ _ b holds.1)
 does_hold (Ticked session) site local holds = let b = all_ticks_act session site local holds.0 in (b.home, bridged_used site local _ _ _ _ b holds.1)
 does_hold Looked site local holds = same_holds site local (looks site local).local (looks_residents site local) holds
 does_hold (Joined from losses) site local holds = same_holds site local (hears_joined from losses site local).local (joined_residents from losses site local) holds
@@ -297,6 +298,7 @@ input_view : (w : NodeWorld) (nodes : Nodes) (n : ℕ) (input : Input) → view 
 input_view w nodes n (Asked op line) = refl
 input_view w nodes n AskedPlan = refl
 input_view w nodes n (Brought from letter) = refl
+input_view w nodes n (Shortened from short bytes) = refl
 input_view w nodes n (Ticked session) = refl
 input_view w nodes n Looked = refl
 input_view w nodes n (Joined from losses) = word_view w nodes n from losses (after_doing w nodes n (does (Joined from losses) (site_at w nodes n) (nodes.local n)))

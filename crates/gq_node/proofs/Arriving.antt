@@ -9,6 +9,7 @@ use Rattle.std.proofs.lemmas.Option.{slice_get_within}
 use Rattle.gq_grid.specs.Grid.{Servers}
 use Rattle.gq_tag.specs.Tag.{File, OwnMessage, to_server}
 use Rattle.gq_tag.specs.declared.Body.{Body}
+use Rattle.gq_tag.specs.declared.Body.TheVariants.{Stored}
 use Rattle.gq_desk.specs.declared.volumes.VolumeRow.{VolumeRow}
 use Rattle.gq_desk.specs.Volumes.{limit_in}
 use Rattle.gq_phase.specs.Phase.{is_collect, Operation, Heard, HeardStale, HeardNoted, HeardNext, HeardDone, hear}
@@ -20,15 +21,17 @@ use Rattle.gq_cluster.specs.Cluster.{Setting, Part, Act, Asks, Comes, everyone, 
 use Rattle.gq_replace.specs.Fleet.{World, Fleet, Posted, MayDo, MayCome, plan_of, has_file as fleet_has}
 use Rattle.gq_node.specs.declared.output.Admission.{Admission}
 use Rattle.gq_node.specs.declared.output.Admission.TheVariants.{Tells, Passes, Goes}
-use Rattle.gq_node.specs.Bridge.{setting_in, AtHome, request_act, letter_act, tick_act, waited_act}
+use Rattle.gq_node.specs.Bridge.{setting_in, AtHome, request_act, letter_act, hear_act, short_act, tick_act, waited_act}
 use Rattle.gq_node.specs.Local.{Local, part_in, state_of, state_for, aim_at, tries_next, asker, begins, admission_in, letter_fits, goes_between, file_fits, has_above, of_round}
-use Rattle.gq_node.specs.Nodes.{NodeWorld, site_at, plan_volumes, Nodes, IsAlike}
+use Rattle.gq_node.specs.Nodes.{NodeWorld, site_at, plan_volumes, Nodes, StoodFor, IsAlike}
+use Rattle.gq_node.specs.Shorts.{OwnShort, letter_with, column_of}
 use Rattle.gq_node.specs.Sites.{Site}
 use Rattle.gq_node.proofs.AlikeParts.{IsAct}
 use Rattle.gq_node.proofs.Asking.{goes_home}
 use Rattle.gq_node.proofs.Bridging.{tick_waits}
 use Rattle.gq_node.proofs.Following.{MayIf}
 use Rattle.gq_node.proofs.Receiving.{Parts, parts, session_here, its_server}
+use Rattle.gq_node.proofs.Shortening.{IsHeard, by_arms}
 
 -- ---- a request
 
@@ -166,3 +169,42 @@ letter_may w nodes u n from m begun alike volumes was = elim (cases_Bool (letter
     from_home between goes =
         let h : (m.server == site.place && site.home m.session == from) ≡ true = rw goes at between in
         eqb-true (site.home m.session) from (and_parts (m.server == site.place) (site.home m.session == from) h).1
+
+-- ---- a short letter
+
+none_is_some : (a : Act) → None ≡ Some a → ⊥
+none_is_some a is = cc
+
+pub short_may : (w : NodeWorld) (nodes : Nodes) (u : Fleet) (n from : ℕ) (s : OwnShort) (bytes : List ℕ) → nodes.begun n ≡ true → IsAlike w nodes u → (nodes.local n).volumes ≡ plan_volumes w (nodes.last_plan n) → StoodFor nodes n from s.body (letter_with bytes s) →
+    (a : Act) → short_act from s bytes (site_at w nodes n) (nodes.local n) ≡ Some a → MayDo w.world u n a × IsAct a
+short_may w nodes u n from s bytes begun alike volumes stood = by_arms (λ act doing. (a : Act) → act ≡ Some a → May a) from s bytes site local (record {
+  passed = λ a is. absurd (none_is_some a is);
+  served = λ h a is.
+      let come : MayCome w.world u from n m = (rw h.goes (record { place = sym h.server; home = h.home; has = has_it_there w nodes u n s.file Stored begun alike volumes h.there h.has })) in
+      subst May (some_act a (Comes m everyone) is) ((from, posted (h.was nodes n stood), come), tt);
+  heard = λ h. hears h (has_above (local.residents s.session).session.floor && of_round (operation (state_for site local s.session) s.session) s.file) refl;
+  again = λ h a is. subst May (some_act a (Asks (Retry s.session) (column_of site.grid s.server)) is) ((tt, h.home), tt);
+})
+  where
+    site : Site
+    site = site_at w nodes n
+
+    local : Local
+    local = nodes.local n
+
+    m : OwnMessage
+    m = letter_with bytes s
+
+    May : Act → Type 0
+    May a = MayDo w.world u n a × IsAct a
+
+    posted : Contains nodes.posted (record { from = from; to = n; letter = m }) → Contains u.posted (record { from = from; to = n; letter = m })
+    posted was = subst (λ (all : List Posted). Contains all (record { from = from; to = n; letter = m })) alike.posted was
+
+    hears : IsHeard site from s bytes → (b : Bool) → (has_above (local.residents s.session).session.floor && of_round (operation (state_for site local s.session) s.session) s.file) ≡ b → (a : Act) → hear_act site local m ≡ Some a → May a
+    hears h false deaf a is = let e : hear_act site local m ≡ None = rw deaf refl in absurd (none_is_some a (sym e ∙ is))
+    hears h true heard a is =
+        let act : Act = Comes m (aim_at site.grid (local.residents s.session)) in
+        let e : hear_act site local m ≡ Some act = rw heard refl in
+        let come : MayCome w.world u from n m = (rw h.goes h.home) in
+        subst May (some_act a act (sym e ∙ is)) ((from, posted (h.was nodes n stood), come), tt)

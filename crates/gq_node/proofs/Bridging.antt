@@ -24,12 +24,14 @@ use Rattle.gq_node.specs.declared.output.Answer.TheVariants.{Bad as IsBad}
 use Rattle.gq_node.specs.declared.output.Admission.{Admission}
 use Rattle.gq_node.specs.declared.output.Admission.TheVariants.{Tells, Passes, Goes}
 use Rattle.gq_node.specs.Local.{Local, Resident, Doing, part_in, state_of, state_for, aim_at, tries_next, answer_of, asker, begins, admission_in, asks, asked_by, goes_on, with_resident, tells, silently, session_fact, receives, serves, hears, brings, ticks, waits_on, outcome_after, waits_after, letter_fits, goes_between, has_above, of_round}
+use Rattle.gq_node.specs.Shorts.{OwnShort, letter_with, column_of, takes_short}
 use Rattle.gq_node.specs.Sites.{Site, has_session}
-use Rattle.gq_node.specs.Bridge.{setting_in, AtHome, request_act, request_answer, letter_act, waited_act, tick_act, Bridges, AllRequestsAct, AllQuestionsTell, AllLettersAct, AllTicksAct}
+use Rattle.gq_node.specs.Bridge.{setting_in, AtHome, request_act, request_answer, letter_act, waited_act, tick_act, hear_act, short_act, short_tell, Bridges, AllRequestsAct, AllQuestionsTell, AllLettersAct, AllTicksAct}
 use Rattle.gq_node.proofs.Placing.{is_number}
 use Rattle.gq_node.proofs.Asking.{goes_home}
 use Rattle.gq_node.proofs.Ticking.{busy_is}
 use Rattle.gq_node.proofs.Receiving.{Parts, parts, its_server, to_a_session}
+use Rattle.gq_node.proofs.Shortening.{by_arms}
 
 -- ---- the same with other words
 
@@ -518,3 +520,58 @@ all_ticks_act k site local home = elim (cases_Bool (is_some (local.residents k).
           home = home_with site local k (record (local.residents k) { waited = true }) inside here home;
         }
         by true inside here = retry_act site local k inside here home
+
+-- ---- a short letter
+
+-- the same, where the same is told
+retold : (site : Site) (local : Local) (act : Option Act) (tell other : Told → Option Answer) (doing : Doing) → ((told : Told) → tell told ≡ other told) → Bridges site local act None tell doing → Bridges site local act None other doing
+retold site local None tell other doing same b = record { does = record { part = b.does.part; letters = b.does.letters; told = b.does.told }; volumes = b.volumes; transfer = b.transfer; home = b.home }
+retold site local (Some act) tell other doing same b = record {
+  does = record { here = b.does.here; part = b.does.part; letters = b.does.letters; told = b.does.told ∙ same _ };
+  volumes = b.volumes;
+  transfer = b.transfer;
+  home = b.home;
+}
+
+hears_act : (site : Site) (local : Local) (m : OwnMessage) → to_server m.body ≡ false → has_session site m.session ≡ true → site.home m.session ≡ site.here → AtHome site local →
+    Bridges site local (hear_act site local m) None (answer_of m.session (local.residents m.session).session.op (local.residents m.session).session.op) (hears site local m)
+hears_act site local m goes inside here home = elim (cases_Bool (has_above (local.residents m.session).session.floor && of_round (operation (state_for site local m.session) m.session) m.file)) [
+  | inr deaf ↦ (passes site local (hear_act site local m) tell (hears site local m) (rw deaf refl) (rw deaf refl) home)
+  | inl hears' ↦ (
+      let k : ℕ = m.session in
+      let state : State = state_for site local k in
+      bridged_as site local (hear_act site local m) (Some (Comes m (aim_at site.grid (local.residents k)))) None None tell (hears site local m)
+      (goes_on local k (local.residents k).session.op (heard_servers (local.residents k).session.heard m.server) state (brings m (hear_step site.grid state m (operation state k))))
+      (rw hears' refl) refl (rw hears' refl) (heard_act site local m goes inside here home))
+]
+  where
+    tell : Told → Option Answer
+    tell = answer_of m.session (local.residents m.session).session.op (local.residents m.session).session.op
+
+pub shorts_act : (from : ℕ) (s : OwnShort) (bytes : List ℕ) (site : Site) (local : Local) → AtHome site local →
+    Bridges site local (short_act from s bytes site local) None (short_tell s.body s.session (local.residents s.session).session.op) (takes_short from s bytes site local).doing
+shorts_act from s bytes site local home = by_arms (λ act doing. Bridges site local act None tell doing) from s bytes site local (record {
+  passed = passes site local None tell (silently local) refl refl home;
+  served = λ h.
+      let b = served_act site local m (λ told. None) h.goes h.server h.has home in
+      record { does = record { here = b.does.here; part = b.does.part; letters = b.does.letters; told = sym (h.silent s.session last _) }; volumes = b.volumes; transfer = b.transfer; home = b.home };
+  heard = λ h. retold site local (hear_act site local m) (answer_of s.session last last) tell (hears site local m) (λ told. sym (h.tells s.session last told)) (hears_act site local m h.goes h.session h.home home);
+  again = λ h. record {
+    does = record { here = h.home; part = sym (retry_stays (setting_in site local) site.place (part_in local) s.session its_aim); letters = retried site local s.session its_aim h.session; told = sym (h.silent s.session last _) };
+    volumes = refl;
+    transfer = refl;
+    home = home;
+  };
+})
+  where
+    m : OwnMessage
+    m = letter_with bytes s
+
+    last : ℕ
+    last = (local.residents s.session).session.op
+
+    tell : Told → Option Answer
+    tell = short_tell s.body s.session last
+
+    its_aim : Servers
+    its_aim = column_of site.grid s.server

@@ -8,20 +8,21 @@ use Rattle.gq_replace.specs.Fleet.{Fleet, FleetStep, Hears, new_fleet, after_fle
 use Rattle.gq_replace.specs.Keeping.{KeptFiles}
 use Rattle.gq_replace.specs.Plans.{place_of}
 use Rattle.gq_replace.proofs.Following.{all_follow, all_right}
-use Rattle.gq_node.specs.Bridge.{request_act, request_answer, letter_act, tick_act}
-use Rattle.gq_node.specs.Inputs.{Input, Asked, AskedPlan, Brought, Ticked, Looked, Joined, Fetching, Fetched, does}
+use Rattle.gq_node.specs.Bridge.{request_act, request_answer, letter_act, short_act, tick_act}
+use Rattle.gq_node.specs.Inputs.{Input, Asked, AskedPlan, Brought, Shortened, Ticked, Looked, Joined, Fetching, Fetched, does}
 use Rattle.gq_node.specs.Joining.{hears_joined}
 use Rattle.gq_node.specs.Local.{Local, Doing, silently, asks, tells_holding, receives, ticks}
 use Rattle.gq_node.specs.Nodes.{NodeWorld, site_at, Nodes, new_nodes, Event, Started, Came, AskedToJoin, takes_word, after_doing, after_word, after_input, after_event, nodes_after, WasWritten, CanCome, AllCanCome, input_steps, steps_of, all_steps, fleet_behind, IsAlike, act_of, own_answer, answer_in, SaidBy, IsOwn, EventSaid, Follows, AllNodesFollow, nodes_of, AllNodesServe}
+use Rattle.gq_node.specs.Shorts.{takes_short}
 use Rattle.gq_node.specs.Sites.{Site}
-use Rattle.gq_node.proofs.Arriving.{request_may, tick_may, letter_may}
+use Rattle.gq_node.proofs.Arriving.{request_may, tick_may, letter_may, short_may}
 use Rattle.gq_node.proofs.Beginnings.{begins_follow, restarts_follow, idle_is, ops_are, floors_are}
-use Rattle.gq_node.proofs.Bridging.{all_requests_act, all_questions_tell, all_letters_act, all_ticks_act}
+use Rattle.gq_node.proofs.Bridging.{all_requests_act, all_questions_tell, all_letters_act, shorts_act, all_ticks_act}
 use Rattle.gq_node.proofs.Fetching.{idle_follows, looks_follow, gives_follow, takes_follow}
 use Rattle.gq_node.proofs.Following.{Sound, OneStep, does_follow, request_follows}
-use Rattle.gq_node.proofs.Journal.{all_requests_keep, all_letters_keep, all_ticks_keep}
+use Rattle.gq_node.proofs.Journal.{all_requests_keep, all_letters_keep, shorts_keep, all_ticks_keep}
 use Rattle.gq_node.proofs.Later.{Grows}
-use Rattle.gq_node.proofs.Staying.{asks_view, receives_view, ticks_view}
+use Rattle.gq_node.proofs.Staying.{asks_view, receives_view, shorts_view, ticks_view}
 use Rattle.gq_node.proofs.Telling.{hears_follow, answers_follow}
 
 -- ---- the word of another node
@@ -75,6 +76,12 @@ one_input w g nodes u n (Brought from letter) begun stays sound alike was =
     let local : Local = nodes.local n in
     does_follow w g nodes u n (letter_act from letter site local) None (answer_in local (Brought from letter)) (receives from letter site local) begun stays sound alike
     (all_letters_act from letter site local (sound.each n begun).home) (all_letters_keep from letter site local) (receives_view from letter site local) (letter_may w nodes u n from letter begun alike (sound.each n begun).volumes was)
+one_input w g nodes u n (Shortened from short bytes) begun stays sound alike was =
+    let site : Site = site_at w nodes n in
+    let local : Local = nodes.local n in
+    request_follows w g nodes u n (short_act from short bytes site local) None (answer_in local (Shortened from short bytes)) (takes_short from short bytes site local).doing begun stays sound alike
+    (shorts_act from short bytes site local (sound.each n begun).home) (shorts_keep from short bytes site local) (shorts_view from short bytes site local)
+    (short_may w nodes u n from short bytes begun alike (sound.each n begun).volumes was)
 one_input w g nodes u n (Ticked k) begun stays sound alike was =
     let site : Site = site_at w nodes n in
     let local : Local = nodes.local n in

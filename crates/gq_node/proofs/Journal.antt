@@ -23,15 +23,17 @@ use Rattle.gq_node.specs.declared.output.Admission.{Admission}
 use Rattle.gq_node.specs.declared.output.Admission.TheVariants.{Tells, Passes, Goes}
 use Rattle.gq_cluster.specs.Facts.{OwnFact, Begun, Numbered, Kept, Had, Reserved, greatest_op, greatest_number, last_of_run, reserving, reserved_by}
 use Rattle.gq_node.specs.Local.{Local, Resident, Doing, part_in, state_of, state_for, aim_at, tries_next, asker, begins, admission_in, asks, asked_by, goes_on, answer_of, with_resident, receives, serves, hears, brings, ticks, waits_on, letter_fits, file_fits, has_above, of_round, fits_local, given, recalls, recalled, rested}
-use Rattle.gq_node.specs.Inputs.{Input, Asked, AskedPlan, Brought, Ticked, Looked, Joined, Fetching, Fetched, does}
+use Rattle.gq_node.specs.Inputs.{Input, Asked, AskedPlan, Brought, Shortened, Ticked, Looked, Joined, Fetching, Fetched, does}
 use Rattle.gq_node.specs.Joining.{hears_joined, all_joined, next_peer, first_lacked, asks_peer, looks, is_peer, has_file, gives, takes}
 use Rattle.gq_node.specs.Resting.{IsBare}
+use Rattle.gq_node.specs.Shorts.{OwnShort, letter_with, takes_short}
 use Rattle.gq_node.specs.Sites.{Site, has_session, is_new, has_node}
 use Rattle.gq_node.proofs.Asking.{goes_home}
 use Rattle.gq_node.proofs.Recalling.{recalls_fits}
 use Rattle.gq_node.proofs.Ticking.{busy_is}
 use Rattle.gq_node.proofs.Bridging.{same_sessions, tried_session, tried_reserved}
 use Rattle.gq_node.proofs.Receiving.{Parts, parts, session_here, its_server, to_a_session, to_the_server, has_it, lacks_it}
+use Rattle.gq_node.proofs.Shortening.{IsOlder, by_arms}
 
 -- ---- what a fact says
 
@@ -201,6 +203,14 @@ stored_keeps site local session op round server file (Store copy) here fits has 
         now f true same = more f same ∙ ap (λ c. newer_of c copy) (in_file f same) ∙ (rw is refl) ∙ sym (in_file f same)
         now f false other = less f other
 
+hears_keep : (site : Site) (local : Local) (m : OwnMessage) → IsHome site m.session → Keeps site local (hears site local m)
+hears_keep site local m inside = by (has_above (local.residents m.session).session.floor && of_round (operation (state_for site local m.session) m.session) m.file) refl
+  where
+    by : (b : Bool) → (has_above (local.residents m.session).session.floor && of_round (operation (state_for site local m.session) m.session) m.file) ≡ b → Keeps site local (hears site local m)
+    by true is = let same : hears site local m ≡ goes_on local m.session (local.residents m.session).session.op (heard_servers (local.residents m.session).session.heard m.server) (state_for site local m.session) (brings m (hear_step site.grid (state_for site local m.session) m (operation (state_for site local m.session) m.session))) = rw is refl in
+        subst (Keeps site local) (sym same) (heard_keeps site local m inside)
+    by false is = rw is refl
+
 pub all_letters_keep : (from : ℕ) (m : OwnMessage) (site : Site) (local : Local) → Keeps site local (receives from m site local)
 all_letters_keep from m site local = elim (cases_Bool (letter_fits site (limit_at (state_of everyone local) m.file.volume m.file.place) from m)) [
   | inr not ↦ (rw not refl)
@@ -211,14 +221,41 @@ all_letters_keep from m site local = elim (cases_Bool (letter_fits site (limit_a
           | inl lacks ↦ (subst (Keeps site local) (sym (to_the_server from m site local fits goes ∙ lacks_it site local m lacks)) refl)
           | inr has ↦ (subst (Keeps site local) (sym (to_the_server from m site local fits goes ∙ has_it site local m has)) (stored_keeps site local m.session m.op m.round m.server m.file m.body (its_server site from m goes p.between) p.file has))
         ])
-        | inr goes ↦ (subst (Keeps site local) (sym (to_a_session from m site local fits goes)) (by (p.session, session_here site from m goes p.between) (has_above (local.residents m.session).session.floor && of_round (operation (state_for site local m.session) m.session) m.file) refl))
+        | inr goes ↦ (subst (Keeps site local) (sym (to_a_session from m site local fits goes)) (hears_keep site local m (p.session, session_here site from m goes p.between)))
       ])
 ]
+
+-- ---- a short letter
+
+-- a store that is not newer than the server's copy leaves it
+older_keeps : (site : Site) (local : Local) (session op round server : ℕ) (file : File) (body : Body) → server ≡ site.place → local.lacks file ≡ false → IsOlder local file body →
+    Keeps site local (serves site local (record { session = session; op = op; round = round; server = server; file = file; body = body }))
+older_keeps site local session op round server file Ask here has older = refl
+older_keeps site local session op round server file (Copy copy) here has older = refl
+older_keeps site local session op round server file Stored here has older = refl
+older_keeps site local session op round server file (Store copy) here has older = rw older (λ i. record { kept = record { copy = λ f. now f (is_file file f) refl i; op = λ k. (local.residents k).reserved.op; floor = λ k. (local.residents k).reserved.floor }; lacks = local.lacks })
   where
-    by : IsHome site m.session → (b : Bool) → (has_above (local.residents m.session).session.floor && of_round (operation (state_for site local m.session) m.session) m.file) ≡ b → Keeps site local (hears site local m)
-    by inside true is = let same : hears site local m ≡ goes_on local m.session (local.residents m.session).session.op (heard_servers (local.residents m.session).session.heard m.server) (state_for site local m.session) (brings m (hear_step site.grid (state_for site local m.session) m (operation (state_for site local m.session) m.session))) = rw is refl in
-        subst (Keeps site local) (sym same) (heard_keeps site local m inside)
-    by inside false is = rw is refl
+    m : OwnMessage
+    m = record { session = session; op = op; round = round; server = server; file = file; body = Store copy }
+
+    after : File → List StoredCopy
+    after f = stored_by (model_serves everyone (λ n. local.lacks)) (Some m) (λ n. local.brought) site.place f
+
+    now : (f : File) (b : Bool) → is_file file f ≡ b → greatest (first_copy ∷ after f) ≡ copy_in (part_in local) f
+    now f true same =
+        let whole : local.lacks f ≡ false = ap local.lacks (sym (same_file file f same)) ∙ has in
+        let one : after f ≡ local.brought f ++ copy ∷ [] = rw (eq-eqb server site.place here, same, whole) refl in
+        let in_file : copy_in (part_in local) f ≡ copy_in (part_in local) file = ap (copy_in (part_in local)) (sym (same_file file f same)) in
+        ap (λ xs. greatest (first_copy ∷ xs)) one ∙ greatest-push first_copy copy (local.brought f) ∙ ap (λ c. newer_of c copy) in_file ∙ (rw older refl) ∙ sym in_file
+    now f false other = let one : after f ≡ local.brought f = rw (eq-eqb server site.place here, other) refl in ap (λ xs. greatest (first_copy ∷ xs)) one
+
+pub shorts_keep : (from : ℕ) (s : OwnShort) (bytes : List ℕ) (site : Site) (local : Local) → Keeps site local (takes_short from s bytes site local).doing
+shorts_keep from s bytes site local = by_arms (λ act doing. Keeps site local doing) from s bytes site local (record {
+  passed = refl;
+  served = λ h. older_keeps site local s.session s.op s.round s.server s.file (letter_with bytes s).body h.server h.has h.older;
+  heard = λ h. hears_keep site local (letter_with bytes s) (h.session, eq-eqb (site.home s.session) site.here h.home);
+  again = λ h. refl;
+})
 
 -- ---- a tick
 
@@ -336,6 +373,7 @@ pub does_keep : (input : Input) (site : Site) (local : Local) → IsBare local �
 does_keep (Asked op line) site local bare = all_requests_keep op line site local
 does_keep AskedPlan site local bare = refl
 does_keep (Brought from letter) site local bare = all_letters_keep from letter site local
+does_keep (Shortened from short bytes) site local bare = shorts_keep from short bytes site local
 does_keep (Ticked session) site local bare = all_ticks_keep session site local
 does_keep Looked site local bare = looks_keep site local
 does_keep (Joined from losses) site local bare = joined_keeps from losses site local

@@ -33,6 +33,9 @@ pub mod Receiving
 pub mod Reserving
 pub mod Placing
 pub mod Serving
+pub mod Forming
+pub mod Shortening
+pub mod Shortly
 pub mod Sitting
 pub mod Starting
 pub mod Staying

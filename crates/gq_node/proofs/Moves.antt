@@ -26,16 +26,18 @@ use Rattle.gq_node.specs.declared.output.Answer.TheVariants.{Done as IsDone, Gon
 use Rattle.gq_node.specs.declared.output.Admission.{Admission}
 use Rattle.gq_node.specs.declared.output.Admission.TheVariants.{Tells, Passes, Goes}
 use Rattle.gq_node.specs.Again.{told_at_home, told_again, AllToldAgain, session_in, number_in, TellsEnd}
-use Rattle.gq_node.specs.Inputs.{Input, Asked, AskedPlan, Brought, Ticked, Looked, Joined, Fetching, Fetched, does}
+use Rattle.gq_node.specs.Inputs.{Input, Asked, AskedPlan, Brought, Shortened, Ticked, Looked, Joined, Fetching, Fetched, does}
 use Rattle.gq_node.specs.Joining.{hears_joined, all_joined, next_peer, first_lacked, asks_peer, looks, is_peer, has_file, gives, takes}
 use Rattle.gq_node.specs.Local.{Local, Resident, Doing, Brings, given, file_fits, part_in, silently, state_of, state_for, aim_at, with_resident, tries_next, asker, begins, ended, again, own_admission, admission, admission_in, asks, asks_in, asked_by, goes_on, answer_of, refused_with, outcome_after, receives, at_server, serves, hears, brings, ticks, waits_on, letter_fits, has_above, of_round}
 use Rattle.gq_node.specs.Once.{begun_by}
+use Rattle.gq_node.specs.Shorts.{OwnShort, letter_with, takes_short}
 use Rattle.gq_node.specs.Sites.{Site, has_session, is_new, has_node}
 use Rattle.gq_node.proofs.Asking.{goes_home, gives_up}
 use Rattle.gq_node.proofs.Bridging.{tried_reserved}
 use Rattle.gq_node.proofs.Journal.{not_refused}
 use Rattle.gq_node.proofs.Once.{never_goes}
 use Rattle.gq_node.proofs.Receiving.{parts, session_here, to_a_session, to_the_server, has_it, lacks_it}
+use Rattle.gq_node.proofs.Shortening.{by_arms, stored_again}
 use Rattle.gq_node.proofs.Ticking.{busy_is}
 
 -- ---- by what the node has of the session
@@ -664,6 +666,16 @@ letters_move from m site local = elim (cases_Bool (letter_fits site (limit_at (s
   ])
 ]
 
+-- ---- a short letter
+
+shorts_move : (from : ℕ) (s : OwnShort) (bytes : List ℕ) (site : Site) (local : Local) → Moves site local (takes_short from s bytes site local).doing
+shorts_move from s bytes site local = by_arms (λ act doing. Moves site local doing) from s bytes site local (record {
+  passed = Stays (quiet site local (silently local) refl refl);
+  served = λ h. Stays (quiet site local (serves site local (letter_with bytes s)) refl refl);
+  heard = λ h. hears_move site local (letter_with bytes s) h.goes (record { inside = h.session; home = eq-eqb (site.home s.session) site.here h.home });
+  again = λ h. Stays (quiet site local (stored_again site local s) refl refl);
+})
+
 -- ---- a tick
 
 tried_alike : (grid : Grid) (b : Bool) (r : Resident) → IsAlike r (tries_next grid b r).session (tries_next grid b r).outcome
@@ -751,6 +763,7 @@ pub all_move : (input : Input) (site : Site) (local : Local) → Moves site loca
 all_move (Asked op line) site local = requests_move op line site local
 all_move AskedPlan site local = Stays (says site local (does AskedPlan site local) _ refl refl (λ k op h. h))
 all_move (Brought from letter) site local = letters_move from letter site local
+all_move (Shortened from short bytes) site local = shorts_move from short bytes site local
 all_move (Ticked session) site local = ticks_move session site local
 all_move Looked site local = looks_move site local
 all_move (Joined from losses) site local = joins_move from losses site local

@@ -4,6 +4,7 @@ use Rattle.std.specs.Prelude.{◌&&◌, unwrap_or}
 use Rattle.std.proofs.lemmas.Bool.{lt-ltb}
 use Rattle.gq_grid.specs.Grid.{Grid, Servers}
 use Rattle.gq_grid.specs.Sets.{servers}
+use Rattle.gq_tag.specs.declared.StoredCopy.{StoredCopy}
 use Rattle.gq_tag.specs.declared.Message.{Message}
 use Rattle.gq_tag.specs.Tag.{File, OwnMessage, own_message, file_place}
 use Rattle.gq_phase.specs.declared.Outcome.{Outcome}
@@ -11,13 +12,14 @@ use Rattle.gq_phase.specs.declared.Heard.{Heard}
 use Rattle.gq_phase.specs.declared.Heard.TheVariants.{Stale, Noted, Next, Done}
 use Rattle.gq_phase.specs.declared.operation.Operation.{Operation as Code}
 use Rattle.gq_phase.specs.Phase.{Operation, Heard as Saying, HeardStale, HeardNoted, HeardNext, HeardDone, hear}
-use Rattle.gq_phase.specs.Standing.{StandsAfter, HearsAs, heard_as, floor_of}
+use Rattle.gq_phase.specs.Standing.{StandsAfter, HearsAs, DifferInContent, heard_as, floor_of}
 use Rattle.gq_node.specs.Heard.{heard_run, heard_outcome, heard_waits, HeardGives}
 use Rattle.gq_node.specs.Local.{has_above}
+use Rattle.gq_node.specs.ShortSteps.{TakesContent, with_content}
 use Rattle.gq_node.specs.Tables.{Sits}
 use Rattle.gq_node.specs.declared.output.Output.{Output}
 use Rattle.gq_node.specs.declared.session_states.SessionState.{SessionState}
-use Rattle.gq_node.specs.SessionStates.{has_heard, is_of_round, said_by, operation_after, last_of, last_in, session_state_aim, SessionStateHears, SessionStateAttends, SaysAndGives}
+use Rattle.gq_node.specs.SessionStates.{TakenIn, has_heard, is_of_round, said_by, operation_after, last_of, last_in, session_state_aim, SessionStateHears, SessionStateAttends, SaysAndGives}
 
 -- what the value says is what the operation says
 pub session_state_says : (old new : Code) (floor : ℕ) (up : Servers) (m : Message) (heard : Heard) → HearsAs old new up m heard →
@@ -151,6 +153,19 @@ session_state_attends t k grid old heard_by new up m heard run out fits aims hea
       gives = subst G run_is gives;
     } in
     rw fits (subst (λ (x : SessionState). SaysAndGives t k (session_state_aim grid old) old x m out) (sym after) says)
+
+-- ---- where the messages differ in content
+
+pub taken : (o : Option Code) (code : Code) (a b : Message) → o ≡ Some code → TakenIn o a b → DifferInContent code a b
+taken o code a b is d = (rw is at d).1
+
+pub taken_file : (o : Option Code) (a b : Message) → TakenIn o a b → file_place b.file ≡ file_place a.file
+taken_file None a b d = absurd d
+taken_file (Some code) a b d = d.0
+
+pub taken_in : (o : Option Code) (m : Message) (copy : StoredCopy) → TakesContent o m.body copy → TakenIn o m (with_content m copy)
+taken_in None m copy h = absurd h
+taken_in (Some code) m copy h = (refl, record { op = refl; round = refl; server = refl; body = h })
 
 -- ---- whether it hears
 

@@ -13,9 +13,11 @@ use Rattle.gq_cluster.specs.Cluster.{everyone}
 use Rattle.gq_node.specs.declared.output.Admission.{Admission}
 use Rattle.gq_node.specs.declared.output.Admission.TheVariants.{Tells, Passes, Goes}
 use Rattle.gq_node.specs.Local.{Local, Doing, state_of, state_for, asker, begins, admission_in, asks, asked_by, receives, hears, ticks, waits_on, letter_fits, has_above, of_round}
+use Rattle.gq_node.specs.Shorts.{OwnShort, letter_with, takes_short}
 use Rattle.gq_node.specs.Sites.{Site}
 use Rattle.gq_node.proofs.Ticking.{busy_is}
 use Rattle.gq_node.proofs.Receiving.{to_a_session, to_the_server, has_it, lacks_it}
+use Rattle.gq_node.proofs.Shortening.{by_arms}
 
 abbrev pub view : Local → List VolumeRow × Servers
 view local = (local.volumes, local.joined)
@@ -65,6 +67,10 @@ receives_view from m site local = elim (cases_Bool (letter_fits site (limit_at (
     | inr goes ↦ (subst (SameView local) (sym (to_a_session from m site local fits goes)) (hears_view site local m))
   ])
 ]
+
+pub shorts_view : (from : ℕ) (s : OwnShort) (bytes : List ℕ) (site : Site) (local : Local) → SameView local (takes_short from s bytes site local).doing
+shorts_view from s bytes site local =
+    by_arms (λ act doing. SameView local doing) from s bytes site local (record { passed = refl; served = λ h. refl; heard = λ h. hears_view site local (letter_with bytes s); again = λ h. refl })
 
 pub ticks_view : (k : ℕ) (site : Site) (local : Local) → SameView local (ticks k site local)
 ticks_view k site local = elim (cases_Bool (is_some (local.residents k).session.current)) [

@@ -1,6 +1,6 @@
 -- What a node does by a line, a letter or a tick is, in the tenant's part, an act of the law of clusters or nothing.
-use Rattle.std.specs.Prelude.{◌≡◌, ℕ, [], Bool, true, false, ◌&&◌, Option, Some, None, is_some, if◌then◌else◌}
-use Rattle.gq_tag.specs.Tag.{OwnMessage, to_server}
+use Rattle.std.specs.Prelude.{◌≡◌, ℕ, List, [], Bool, not, ◌==◌, true, false, ◌&&◌, Option, Some, None, is_some, if◌then◌else◌}
+use Rattle.gq_tag.specs.Tag.{OwnMessage, to_server, is_less}
 use Rattle.gq_phase.specs.Phase.{is_collect}
 use Rattle.gq_model.specs.declared.events.Line.{Line}
 use Rattle.gq_model.specs.declared.events.Line.TheVariants.{Retry}
@@ -12,6 +12,9 @@ use Rattle.gq_node.specs.declared.output.Answer.TheVariants.{Has, Bad as IsBad}
 use Rattle.gq_node.specs.declared.output.Admission.{Admission}
 use Rattle.gq_node.specs.declared.output.Admission.TheVariants.{Tells, Passes, Goes}
 use Rattle.gq_node.specs.Local.{Local, Doing, part_in, state_of, state_for, aim_at, tries_next, answer_of, asker, begins, admission_in, asks, holding, tells_holding, receives, ticks, letter_fits, has_above, of_round}
+use Rattle.gq_node.specs.declared.shorts.ShortBody.{ShortBody}
+use Rattle.gq_node.specs.declared.shorts.ShortBody.TheVariants.{AskAbove, Tagged, Confirm, Want}
+use Rattle.gq_node.specs.Shorts.{OwnShort, letter_with, copy_of, takes_tag, store_in, column_of}
 use Rattle.gq_node.specs.Sites.{Site, has_session}
 
 -- the tenant's run, as the law has it
@@ -65,6 +68,45 @@ letter_act from m site local = by (letter_fits site (limit_at (state_of everyone
     by : Bool → Option Act
     by false = None
     by true = to_its_end (to_server m.body)
+
+-- a session hears the letter, unless no number is above its own last one, or the letter is of another file than the round
+abbrev pub hear_act : Site → Local → OwnMessage → Option Act
+hear_act site local m =
+    if has_above (local.residents m.session).session.floor && of_round (operation (state_for site local m.session) m.session) m.file then Some (Comes m (aim_at site.grid (local.residents m.session))) else None
+
+-- a store that goes out once more is a retry at the column of that server
+abbrev pub again_act : Site → Local → OwnMessage → Option Act
+again_act site local m = by (store_in (operation (state_for site local m.session) m.session) m)
+  where
+    by : Option OwnMessage → Option Act
+    by None = None
+    by (Some letter) = Some (Asks (Retry m.session) (column_of site.grid m.server))
+
+-- a short letter is the act that the whole one is, whatever content its copy has, where it is not passed over; or such a retry
+abbrev pub short_act : (from : ℕ) → OwnShort → List ℕ → Site → Local → Option Act
+short_act from s bytes site local = by (letter_fits site (limit_at (state_of everyone local) s.file.volume s.file.place) from (letter_with [] s))
+  where
+    m : OwnMessage
+    m = letter_with bytes s
+
+    has : Bool → Option Act
+    has true = Some (Comes m everyone)
+    has false = if site.home m.session == site.here then again_act site local m else None
+
+    of_body : ShortBody → Option Act
+    of_body (AskAbove bound) = if local.lacks m.file then None else Some (Comes m everyone)
+    of_body (Tagged tag) = if takes_tag (operation (state_for site local m.session) m.session) tag then hear_act site local m else None
+    of_body (Confirm tag) = if local.lacks m.file then None else has (not (is_less (copy_of local m.file).tag tag))
+    of_body Want = again_act site local m
+
+    by : Bool → Option Act
+    by false = None
+    by true = of_body s.body
+
+-- what the tenant is told where the law tells its session this: the tag of a copy alone comes to a session's operation
+abbrev pub short_tell : ShortBody → (k op : ℕ) → Told → Option Answer
+short_tell (Tagged tag) k op told = answer_of k op op told
+short_tell _ k op told = None
 
 -- a tick is a retry, in a session that has an operation and has waited
 abbrev pub waited_act : Site → Local → ℕ → Bool → Option Act

@@ -5,6 +5,7 @@ use Rattle.gq_tag.specs.Tag.{File, OwnMessage}
 use Rattle.gq_model.specs.declared.events.Line.{Line}
 use Rattle.gq_node.specs.Joining.{hears_joined, looks, gives, takes}
 use Rattle.gq_node.specs.Local.{Local, Doing, asks, tells_holding, receives, ticks}
+use Rattle.gq_node.specs.Shorts.{OwnShort, takes_short}
 use Rattle.gq_node.specs.Sites.{Site}
 
 pub data Input : Type 0 where
@@ -14,6 +15,8 @@ pub data Input : Type 0 where
   AskedPlan : Input
   -- a letter from that node
   Brought : (from : ℕ) (letter : OwnMessage) → Input
+  -- a letter in a short form from that node, where the copy that it stands for has this content
+  Shortened : (from : ℕ) (short : OwnShort) (bytes : List ℕ) → Input
   -- a tick for this session
   Ticked : (session : ℕ) → Input
   -- a tick, behind those of the sessions
@@ -30,6 +33,7 @@ abbrev pub does : Input → Site → Local → Doing
 does (Asked op line) site local = asks op line site local
 does AskedPlan site local = tells_holding site local
 does (Brought from letter) site local = receives from letter site local
+does (Shortened from short bytes) site local = (takes_short from short bytes site local).doing
 does (Ticked session) site local = ticks session site local
 does Looked site local = looks site local
 does (Joined from losses) site local = hears_joined from losses site local

@@ -5,6 +5,7 @@ pub mod Asking
 pub mod Bounds
 pub mod Bridge
 pub mod Deciding
+pub mod Forms
 pub mod Heard
 pub mod Inputs
 pub mod Joining
@@ -20,5 +21,7 @@ pub mod Recalling
 pub mod Resting
 pub mod SessionStates
 pub mod Shape
+pub mod ShortSteps
+pub mod Shorts
 pub mod Sites
 pub mod Tables

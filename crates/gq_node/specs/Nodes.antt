@@ -17,11 +17,14 @@ use Rattle.gq_replace.specs.Keeping.{files_of_part}
 use Rattle.gq_replace.specs.Plans.{Plan, IsChain, place_of, node_at, has_node as plan_has, is_replaced, most_places}
 use Rattle.gq_node.specs.declared.output.Answer.{Answer}
 use Rattle.gq_node.specs.declared.output.Answer.TheVariants.{Has}
-use Rattle.gq_node.specs.Bridge.{setting_in, request_act, request_answer, letter_act, tick_act}
-use Rattle.gq_node.specs.Inputs.{Input, Asked, AskedPlan, Brought, Ticked, Joined, Fetching, Fetched, does}
+use Rattle.gq_node.specs.declared.shorts.ShortBody.{ShortBody}
+use Rattle.gq_node.specs.declared.shorts.ShortBody.TheVariants.{Want}
+use Rattle.gq_node.specs.Bridge.{setting_in, request_act, request_answer, letter_act, short_act, short_tell, tick_act}
+use Rattle.gq_node.specs.Inputs.{Input, Asked, AskedPlan, Brought, Shortened, Ticked, Joined, Fetching, Fetched, does}
 use Rattle.gq_node.specs.Joining.{tells_joined, all_joined, is_peer, has_file}
 use Rattle.gq_node.specs.Local.{Local, Doing, Transfer, Wants, Brings, new_local, part_in, state_of, file_fits, silently, answer_of, holding}
 use Rattle.gq_node.specs.Resting.{FirstPlan, begun_local, recall_all}
+use Rattle.gq_node.specs.Shorts.{letter_with}
 use Rattle.gq_node.specs.Sites.{Site, is_new, has_node}
 use Rattle.gq_tag.specs.declared.Body.TheVariants.{Store}
 
@@ -198,8 +201,14 @@ nodes_after w nodes events = fold (after_event w) nodes events
 
 -- ---- what may come
 
+-- the letter that a short one stands for was written, whole or short; that a server wants a store stands for none
+abbrev pub StoodFor : Nodes → (n from : ℕ) → ShortBody → OwnMessage → Type 0
+StoodFor nodes n from Want letter = ⊤
+StoodFor nodes n from _ letter = Contains nodes.posted (record { from = from; to = n; letter = letter })
+
 -- what comes from another node was written to this one
 abbrev pub WasWritten : Nodes → (n : ℕ) → Input → Type 0
+WasWritten nodes n (Shortened from short bytes) = StoodFor nodes n from short.body (letter_with bytes short)
 WasWritten nodes n (Brought from letter) = Contains nodes.posted (record { from = from; to = n; letter = letter })
 WasWritten nodes n (Joined from losses) = Contains nodes.joined (record { from = from; to = n; losses = losses })
 WasWritten nodes n (Fetching from file) = Contains nodes.wanted (record { from = from; to = n; file = file })
@@ -232,6 +241,7 @@ accepted site local (Some act) = if is_refusal (step_of (setting_in site local) 
 abbrev pub act_of : Input → Site → Local → Option Act
 act_of (Asked op line) site local = accepted site local (request_act op line site local)
 act_of (Brought from letter) site local = letter_act from letter site local
+act_of (Shortened from short bytes) site local = accepted site local (short_act from short bytes site local)
 act_of (Ticked session) site local = accepted site local (tick_act session site local)
 act_of _ site local = None
 
@@ -293,6 +303,7 @@ pub record IsAlike (w : NodeWorld) (nodes : Nodes) (u : Fleet) : Type 0 where
 abbrev pub answer_in : Local → Input → Told → Option Answer
 answer_in local (Asked op line) told = answer_of (session_named line) op (local.residents (session_named line)).session.op told
 answer_in local (Brought from m) told = answer_of m.session (local.residents m.session).session.op (local.residents m.session).session.op told
+answer_in local (Shortened from short bytes) told = short_tell short.body short.session (local.residents short.session).session.op told
 answer_in local _ told = None
 
 -- what a node tells by itself: by the number of a request alone, or what refuses it; or what the tenant has
@@ -303,6 +314,7 @@ refusal_answer site local (Some act) own tell = tell (step_of (setting_in site l
 abbrev pub own_answer : Site → Local → Input → Option Answer
 own_answer site local (Asked op line) = refusal_answer site local (request_act op line site local) (request_answer op line site local) (answer_in local (Asked op line))
 own_answer site local (Ticked session) = refusal_answer site local (tick_act session site local) None (λ told. None)
+own_answer site local (Shortened from short bytes) = refusal_answer site local (short_act from short bytes site local) None (answer_in local (Shortened from short bytes))
 own_answer site local AskedPlan = Some (Has (holding site local.volumes))
 own_answer site local _ = None
 

@@ -7,7 +7,7 @@ use Rattle.gq_phase.specs.declared.Heard.{Heard}
 use Rattle.gq_phase.specs.declared.ResendRefused.TheVariants.{NoQuorum}
 use Rattle.gq_phase.specs.declared.operation.Operation.{Operation as Code}
 use Rattle.gq_phase.specs.Phase.{Operation, Heard as Saying, HeardStale, HeardNoted, HeardNext, HeardDone, hear, with_reply, moved}
-use Rattle.gq_phase.specs.Standing.{heard_as, floor_of, heard_of, is_collecting, its_file, IsGoing, ResendsAs, RefusesAs, last_number}
+use Rattle.gq_phase.specs.Standing.{heard_as, floor_of, heard_of, is_collecting, its_file, IsGoing, ResendsAs, RefusesAs, DifferInContent, last_number}
 use Rattle.gq_node.specs.declared.session_states.SessionState.{SessionState}
 use Rattle.gq_node.specs.Sites.{aim, next_of}
 use Rattle.gq_node.specs.Tables.{Sits}
@@ -80,6 +80,11 @@ pub record SessionStateHears (old new : SessionState) (up : Servers) (message : 
   pub says : (grid : Grid) (t last : ℕ) (o : Option Operation) → Sits grid t old.floor old.operation last o → heard ≡ heard_as t (said_by grid up o (own_message message))
   pub sits : (grid : Grid) (t last : ℕ) (o : Option Operation) → Sits grid t old.floor old.operation last o →
       Sits grid t new.floor new.operation (last_of last o) (operation_after o (own_message message) (said_by grid up o (own_message message)))
+
+-- the session has an operation, and the two messages are of the same file and differ in the content of a copy at most, whose tag the operation takes
+abbrev pub TakenIn : Option Code → Message → Message → Type 0
+TakenIn None a b = ⊥
+TakenIn (Some code) a b = (file_place b.file ≡ file_place a.file) × DifferInContent code a b
 
 -- the operation of the session, if it has one, is not done
 abbrev pub Goes : Option Code → Type 0

@@ -1,9 +1,10 @@
 //! The laws, as clauses of functions that do nothing.
 
 ghost use Rattle.gq_node.specs.Again.{AllBeginLater, AllToldAgain, AllEndsToldAgain};
+ghost use Rattle.gq_node.specs.Forms.{AllFormsStand, AllShortsAreWritten};
 ghost use Rattle.gq_node.specs.Nodes.{AllNodesFollow, AllNodesServe, AllVolumesOpen};
 ghost use Rattle.gq_node.specs.Once.{AllAgainLeave, AllTakeOnce, AllBeginNamed, AllBeginOnce};
-ghost use Rattle.gq_node.specs.Apart.{AllCallsByParts, AllTenantsApart};
+ghost use Rattle.gq_node.specs.Apart.{AllCallsAct, AllCallsByParts, AllTenantsApart};
 ghost use Rattle.gq_node.specs.Progress.{AllRowsAreTried, AllColumnsAreTried};
 ghost use Rattle.gq_node.specs.Aims.{AllAimsHaveQuorums, AllRequestsHaveQuorums};
 ghost use Rattle.gq_node.specs.Bridge.{AllRequestsAct, AllQuestionsTell, AllLettersAct, AllTicksAct};
@@ -43,8 +44,9 @@ pub fn aims()
 
 /// A node gives for a tenant what the tenant's part of it does by what came for this tenant, one by one, whatever came
 /// for others between. So two nodes of one number that have the same part of a tenant give the same for it, where the
-/// same came for it.
+/// same came for it. Only a short letter is answered in short form.
 pub fn tenants_apart()
+    ensures calls { AllCallsAct }
     ensures parts { AllCallsByParts }
     ensures apart { AllTenantsApart }
 {}
@@ -80,4 +82,12 @@ pub fn told_again()
 pub fn ticks()
     ensures rows { AllRowsAreTried }
     ensures columns { AllColumnsAreTried }
+{}
+
+/// A letter that a node writes in a short form is that letter, where the copy that the form stands for has some content. And what a node
+/// gives by a short letter, whole or in short form, are letters that the law has as written; but for that a server wants a store whole,
+/// which is none.
+pub fn short_forms()
+    ensures forms { AllFormsStand }
+    ensures written { AllShortsAreWritten }
 {}

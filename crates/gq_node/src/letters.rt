@@ -11,6 +11,7 @@ ghost use Rattle.gq_cluster.specs.Facts.{replaced_in};
 ghost use Rattle.gq_node.specs.Local.{serves, at_server, hears, receives, ticks, goes_between, letter_fits, copy_fits, file_fits};
 ghost use Rattle.gq_node.specs.Sites.{site_of, has_session, session_at, address_of};
 ghost use Rattle.gq_replace.specs.Plans.{place_of};
+ghost use Rattle.gq_node.specs.ShortSteps.{HearsAnyContent};
 ghost use Rattle.gq_node.specs.Tables.{fact_of, Acts, Stands, lacks_at};
 
 use crate::homes::{home, session_state_place};
@@ -57,7 +58,7 @@ impl Core {
     }
 
     // Whether an honest node from there sends this letter to this one.
-    fn fits(&self, from: u16, message: &Message) -> bool
+    pub(crate) fn fits(&self, from: u16, message: &Message) -> bool
         requires { message.now.tenant < length self.now.plan.rows }
         ensures { result ≡ letter_fits (site_of self.now.plan self.now.here message.now.tenant)
             (limit_of self.now.desk message.now.file) from (own_message message.now) }
@@ -88,7 +89,7 @@ impl Core {
     }
 
     // The server serves the letter.
-    fn serve(&mut self, message: &Message) -> Result<Output, OutOfMemory>
+    pub(crate) fn serve(&mut self, message: &Message) -> Result<Output, OutOfMemory>
         requires tenant { message.now.tenant < length self.old.plan.rows }
         requires own { message.now.file.tenant ≡ message.now.tenant }
         requires goes { to_server message.now.body ≡ true }
@@ -129,13 +130,14 @@ impl Core {
     }
 
     // A session hears the letter.
-    fn hear(&mut self, message: &Message) -> Result<Output, OutOfMemory>
+    pub(crate) fn hear(&mut self, message: &Message) -> Result<Output, OutOfMemory>
         requires tenant { message.now.tenant < length self.old.plan.rows }
         requires has { has_session (site_of self.old.plan self.old.here message.now.tenant) message.now.session ≡ true }
         requires goes { to_server message.now.body ≡ false }
         requires server { message.now.server < MOST_SERVERS }
         requires number { copied_number message.now.body < u64.MAX }
         ensures acts { IfOk result (λ out. Acts self.old message.now.tenant (λ site local. hears site local (own_message message.now)) out self.new) }
+        ensures tags { IfOk result (λ out. HearsAnyContent self.old message.now out self.new) }
     {
         let alloc = self.alloc;
         let grid = *self.plan.grid();

@@ -15,10 +15,12 @@ mod node;
 mod output;
 mod requests;
 mod session_states;
+mod shorts;
 mod tables;
 
 pub use gq_model::{Line, Refusal};
 pub use lost::{Lost, LostRefused, MOST_NUMBERS, MOST_TIMES, NODE_NUMBERS};
 pub use node::{Ended, Node};
 pub use output::{Answer, Fact, Holding, NeedRefused, NodeNumbers, Output, Transfer};
+pub use shorts::{Short, ShortBody, ShortOutput};
 pub use tables::place_of;

@@ -1,6 +1,6 @@
 //! The node, until memory runs out.
 
-ghost use Rattle.std.specs.Prelude.{◌≡◌, ◌*◌, ◌<◌, ◌≤◌, ℕ, [], true, false, length, nat_lt, IfOk, IfErr, OnOk, OnErr, IsErr};
+ghost use Rattle.std.specs.Prelude.{◌≡◌, ◌*◌, ◌<◌, ◌≤◌, ℕ, List, [], true, false, length, nat_lt, IfOk, IfErr, OnOk, OnErr, IsErr};
 ghost use Rattle.gq_tag.specs.declared.TheConstants.{MOST_FILES};
 ghost use Rattle.gq_tag.specs.Tag.{own_message, file_place};
 ghost use Rattle.gq_grid.specs.Sets.{servers};
@@ -16,10 +16,13 @@ ghost use Rattle.gq_node.specs.Needing.{IsRefusedIn};
 ghost use Rattle.gq_node.specs.Resting.{Needed};
 ghost use Rattle.gq_node.specs.Opening.{Bereaves, Opens};
 ghost use Rattle.gq_node.specs.Joining.{tells_joined, hears_joined, awaited, lacked_files, looks, gives, takes};
+ghost use Rattle.gq_node.specs.Shorts.{own_short, takes_short};
+ghost use Rattle.gq_node.specs.ShortSteps.{ActsShortly, ShortFormIs, form_at};
 ghost use Rattle.gq_node.specs.Tables.{Acts, Leads, LeadsAll, Agrees, AllStand, lacks_at};
 
 use crate::lost::Lost;
 use crate::output::{Fact, NeedRefused, Output};
+use crate::shorts::{Short, ShortOutput};
 use crate::tables::Core;
 use gq_desk::{OpenRefused, Plan};
 use gq_memory::OutOfMemory;
@@ -251,6 +254,39 @@ impl Node {
                 Err(Ended(refused))
             }
         }
+    }
+
+    /// Takes a short letter from the node of that number. What it does by it, and gives, is so for each content that the letter's copy
+    /// may have.
+    pub fn short(&mut self, from: u16, short: &Short) -> Result<ShortOutput, Ended>
+        requires tenant { short.now.tenant < length self.old.tables.plan.rows }
+        requires own { short.now.file.tenant ≡ short.now.tenant }
+        ensures acts { IfOk result (λ given. (bytes : List ℕ) → ActsShortly self.old.tables short.now.tenant (takes_short from (own_short short.now) bytes) given self.new.tables) }
+        ensures ended { OnErr result (self.new.ended ≡ true) }
+        ensures after { self.old.ended ≡ true → IsErr result }
+        ensures still { self.old.ended ≡ true → self.new ≡ self.old }
+        ensures has_memory { OnOk result (self.new.ended ≡ false) }
+    {
+        if let Some(refused) = &self.ended {
+            return Err(Ended(refused.again()));
+        }
+        match self.tables.short(from, short) {
+            Ok(given) => Ok(given),
+            Err(refused) => {
+                self.ended = Some(refused.again());
+                Err(Ended(refused))
+            }
+        }
+    }
+
+    /// The short form of a letter from a session of this node, where it has one.
+    pub fn short_of(&self, message: &Message) -> Option<Short>
+        requires tenant { message.now.tenant < length self.now.tables.plan.rows }
+        requires own { message.now.file.tenant ≡ message.now.tenant }
+        ensures is { result ≡ form_at self.now.tables message.now }
+        ensures stands { ShortFormIs self.now.tables message.now result }
+    {
+        self.tables.short_of(message)
     }
 
     /// Whether a new node that asks is told that this one's plan has it, and so many losses or more.

@@ -4,6 +4,7 @@ ghost use Rattle.std.specs.Prelude.{◌&&◌, ◌≡◌, ◌≢◌, ℕ, ◌+◌
 ghost use Rattle.gq_grid.specs.Sets.{servers};
 ghost use Rattle.gq_grid.specs.declared.TheConstants.{MOST_SERVERS};
 ghost use Rattle.gq_tag.specs.Tag.{file_place};
+ghost use Rattle.gq_tag.specs.declared.Message.{Message};
 ghost use Rattle.gq_phase.specs.Best.{copied_number};
 ghost use Rattle.gq_cluster.specs.Facts.{greatest_op, greatest_number, last_of_run};
 
@@ -51,7 +52,7 @@ impl Model for SessionStates {
 impl SessionStates {
     ghost use Rattle.gq_node.specs.Tables.{first_session_state, session_state_in};
     ghost use Rattle.gq_node.specs.Heard.{new_run};
-    ghost use Rattle.gq_node.specs.SessionStates.{SessionStateAttends, SessionStateTicks, Goes, busy_session_state, rested_session_state, recalled_session_state};
+    ghost use Rattle.gq_node.specs.SessionStates.{SessionStateAttends, SessionStateTicks, TakenIn, Goes, busy_session_state, rested_session_state, recalled_session_state};
 
     // So many sessions that began nothing, at the node of the server.
     pub(crate) fn new(
@@ -123,6 +124,8 @@ impl SessionStates {
         requires number { copied_number message.now.body < u64.MAX }
         ensures attends { IfOk result (λ out. SessionStateAttends message.now.tenant message.now.session grid.now
             (session_state_in self.old place) (session_state_in self.new place) message.now out) }
+        ensures tags { IfOk result (λ out. (m : Message) → TakenIn (session_state_in self.old place).operation message.now m → SessionStateAttends message.now.tenant message.now.session grid.now
+            (session_state_in self.old place) (session_state_in self.new place) m out) }
         ensures others { self.new ≡ slice_set self.old place (session_state_in self.new place) }
     {
         self.items[place].attend(alloc, grid, message)
@@ -159,7 +162,7 @@ fn last_number_of_run(first: u64) -> u64
 
 impl SessionState {
     ghost use Rattle.gq_node.specs.Heard.{new_run, heard_run};
-    ghost use Rattle.gq_node.specs.SessionStates.{SessionStateHears, SessionStateAttends, SessionStateTicks, ResendsIn, FloorIsBelow, Goes, last_in, busy_session_state, rested_session_state, recalled_session_state, is_of_round, collects_in, session_state_tries};
+    ghost use Rattle.gq_node.specs.SessionStates.{SessionStateHears, SessionStateAttends, SessionStateTicks, TakenIn, ResendsIn, FloorIsBelow, Goes, last_in, busy_session_state, rested_session_state, recalled_session_state, is_of_round, collects_in, session_state_tries};
     ghost use Rattle.gq_node.specs.Local.{again, own_admission};
 
     // The number of the session's last operation is reserved from now on. Answers the last number of the run that had to be
@@ -241,6 +244,7 @@ impl SessionState {
         requires number { copied_number message.now.body < u64.MAX }
         requires floor { FloorIsBelow self.old.operation }
         ensures hears { IfOk result (λ heard. SessionStateHears self.old self.new (servers up) message.now heard) }
+        ensures tags { IfOk result (λ heard. (m : Message) → TakenIn self.old.operation message.now m → SessionStateHears self.old self.new (servers up) m heard) }
         ensures reserved { self.new.reserved_floor ≡ self.old.reserved_floor }
     {
         let Some(operation) = &mut self.operation else {
@@ -290,6 +294,7 @@ impl SessionState {
         requires server { message.now.server < MOST_SERVERS }
         requires number { copied_number message.now.body < u64.MAX }
         ensures attends { IfOk result (λ out. SessionStateAttends message.now.tenant message.now.session grid.now self.old self.new message.now out) }
+        ensures tags { IfOk result (λ out. (m : Message) → TakenIn self.old.operation message.now m → SessionStateAttends message.now.tenant message.now.session grid.now self.old self.new m out) }
     {
         if self.last() == u64::MAX || !self.is_of_round(message.file) {
             return Ok(Output::nothing(alloc));

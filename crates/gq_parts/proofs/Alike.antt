@@ -20,11 +20,10 @@ use Rattle.gq_cluster.specs.Cluster.{everyone, copy_in}
 use Rattle.gq_cluster.specs.Facts.{Had, reserving, reserved_by, replaced_in}
 use Rattle.gq_replace.specs.Plans.{place_of}
 use Rattle.gq_node.specs.declared.output.Answer.{Answer}
-use Rattle.gq_node.specs.declared.output.Answer.TheVariants.{Refused as IsRefused, Away, Old, Early, Bad as IsBad, Has}
+use Rattle.gq_node.specs.declared.output.Answer.TheVariants.{Refused as IsRefused, Away, Old, Early, Bad as IsBad}
 use Rattle.gq_model.specs.declared.events.Refusal.TheVariants.{NoSession}
-use Rattle.gq_node.specs.Inputs.{Input, Asked, AskedPlan, Brought, Ticked, Looked, Joined, Fetching, Fetched, does}
 use Rattle.gq_node.specs.Joining.{all_files, files_in_volume, lacked_files, hears_joined, all_joined, first_lacked, next_peer, asks_peer, looks, is_peer, has_file, gives, takes}
-use Rattle.gq_node.specs.Local.{Local, Resident, Doing, Wants, Brings, part_in, state_of, state_for, aim_at, tries_next, with_resident, silently, tells, answer_of, outcome_after, waits_after, goes_on, asker, begins, ended, asked_by, asks, holding, letter_fits, file_fits, has_above, of_round, brings, serves, hears, receives, waits_on, ticks, with_copy, given}
+use Rattle.gq_node.specs.Local.{Local, Resident, Doing, Wants, Brings, part_in, state_of, state_for, aim_at, tries_next, with_resident, silently, tells, answer_of, outcome_after, waits_after, goes_on, asker, begins, ended, asked_by, asks, letter_fits, file_fits, has_above, of_round, brings, serves, hears, receives, waits_on, ticks, with_copy, given}
 use Rattle.gq_node.specs.Sites.{Site, has_session, is_new, has_node}
 use Rattle.gq_node.proofs.Receiving.{Parts, parts, session_here, to_a_session, to_the_server, has_it, lacks_it}
 use Rattle.gq_parts.specs.Alike.{is_own_session, is_file_in, AreAlike, DoSame}
@@ -36,7 +35,7 @@ same_as : (site : Site) (p p' q q' : Doing) → p ≡ p' → q ≡ q' → DoSame
 same_as site p p' q q' left right same = subst (λ x. DoSame site x q) (sym left) (subst (DoSame site p') (sym right) same)
 
 -- nothing is done; and the same is told alone
-silent_same : (site : Site) (a b : Local) → AreAlike site a b → DoSame site (silently a) (silently b)
+pub silent_same : (site : Site) (a b : Local) → AreAlike site a b → DoSame site (silently a) (silently b)
 silent_same site a b alike = record { local = alike; answer = refl; letters = refl; transfer = refl; fact = refl }
 
 told_same : (site : Site) (a b : Local) (answer : Answer) → AreAlike site a b → DoSame site (tells a answer) (tells b answer)
@@ -46,7 +45,7 @@ told_same site a b answer alike = record { local = alike; answer = refl; letters
 pub same_limits : (site : Site) (a b : Local) (file : File) → AreAlike site a b → limit_at (state_of everyone a) file.volume file.place ≡ limit_at (state_of everyone b) file.volume file.place
 same_limits site a b file alike = ap (λ (vs : List VolumeRow). limit_at (state_of everyone (record b { volumes = vs })) file.volume file.place) alike.volumes
 
-fits_there : (limit : Option ℕ) (body : Body) → file_fits limit body ≡ true → is_some limit ≡ true
+pub fits_there : (limit : Option ℕ) (body : Body) → file_fits limit body ≡ true → is_some limit ≡ true
 fits_there None body fits = fits
 fits_there (Some limit) body fits = refl
 
@@ -93,7 +92,7 @@ goes_same site a b k m n g h sa sb ea eb own ops heards sessions tolds news alik
 -- ---- a request
 
 -- the answers of a part of which only this is known
-abbrev lone : List VolumeRow → Servers → Resident → State
+abbrev pub lone : List VolumeRow → Servers → Resident → State
 lone volumes up r = state_of up (record { volumes = volumes; brought = λ file. []; lacks = λ file. false; joined = no_servers; peer = 0; residents = λ k. r })
 
 abbrev alone : Site → List VolumeRow → Resident → State
@@ -232,7 +231,7 @@ request_same op line k site a b its says alike = elim (cases_Bool (has_session s
           | inr other ↦ (next is other (begins line && op == last b + 1) refl)
         ]
 
-asks_same : (op : ℕ) (line : Line) (site : Site) (a b : Local) → AreAlike site a b → DoSame site (asks op line site a) (asks op line site b)
+pub asks_same : (op : ℕ) (line : Line) (site : Site) (a b : Local) → AreAlike site a b → DoSame site (asks op line site a) (asks op line site b)
 asks_same op (Write k v f bytes) site a b alike = request_same op (Write k v f bytes) k site a b refl (write_says site k v f bytes a b alike.volumes) alike
 asks_same op (Read k v f) site a b alike = request_same op (Read k v f) k site a b refl (read_says site k v f a b alike.volumes) alike
 asks_same op (ListFiles k v) site a b alike = request_same op (ListFiles k v) k site a b refl (list_says site k v a b alike.volumes) alike
@@ -242,7 +241,7 @@ asks_same op line site a b alike = told_same site a b IsBad alike
 -- ---- a letter
 
 -- the server takes the copy, or answers
-served_same : (site : Site) (a b : Local) (m : OwnMessage) → AreAlike site a b → is_file_in b m.file ≡ true → a.lacks m.file ≡ false → b.lacks m.file ≡ false → DoSame site (serves site a m) (serves site b m)
+pub served_same : (site : Site) (a b : Local) (m : OwnMessage) → AreAlike site a b → is_file_in b m.file ≡ true → a.lacks m.file ≡ false → b.lacks m.file ≡ false → DoSame site (serves site a m) (serves site b m)
 served_same site a b m alike there has also = of m.session m.op m.round m.server m.file m.body alike there has also
   where
     of : (session op round server : ℕ) (file : File) (body : Body) →
@@ -310,7 +309,7 @@ abbrev hearing : Site → OwnMessage → List VolumeRow → Resident → Step
 hearing site m volumes r = hear_step site.grid (alone site volumes r) m (operation (alone site volumes r) m.session)
 
 -- a session hears it
-heard_same : (site : Site) (a b : Local) (m : OwnMessage) → is_own_session site m.session ≡ true → AreAlike site a b → DoSame site (hears site a m) (hears site b m)
+pub heard_same : (site : Site) (a b : Local) (m : OwnMessage) → is_own_session site m.session ≡ true → AreAlike site a b → DoSame site (hears site a m) (hears site b m)
 heard_same site a b m own alike = by (hears_it site m (b.residents m.session)) refl
   where
     r : a.residents m.session ≡ b.residents m.session
@@ -336,7 +335,7 @@ heard_same site a b m own alike = by (hears_it site m (b.residents m.session)) r
         (λ i. (r i).session.op) (λ i. heard_servers (r i).session.heard m.server)
         (λ i. (changed (brings m (hearing site m (vs i) (r i))) (alone site (vs i) (r i))).session m.session) (λ i. (hearing site m (vs i) (r i)).told) (λ i. (hearing site m (vs i) (r i)).new) alike)
 
-receives_same : (from : ℕ) (m : OwnMessage) (site : Site) (a b : Local) → AreAlike site a b → DoSame site (receives from m site a) (receives from m site b)
+pub receives_same : (from : ℕ) (m : OwnMessage) (site : Site) (a b : Local) → AreAlike site a b → DoSame site (receives from m site a) (receives from m site b)
 receives_same from m site a b alike = by (letter_fits site (limit b) from m) refl
   where
     limit : Local → Option ℕ
@@ -379,7 +378,7 @@ asking_next site volumes r = lone volumes (aim_at site.grid (next_tried site r))
 abbrev sent_again : Site → (k : ℕ) → List VolumeRow → Resident → List OwnMessage
 sent_again site k volumes r = (retry_step site.grid (asking_next site volumes r) (operation (asking_next site volumes r) k)).new
 
-ticks_same : (k : ℕ) (site : Site) (a b : Local) → AreAlike site a b → DoSame site (ticks k site a) (ticks k site b)
+pub ticks_same : (k : ℕ) (site : Site) (a b : Local) → AreAlike site a b → DoSame site (ticks k site a) (ticks k site b)
 ticks_same k site a b alike = elim (cases_Bool (is_own_session site k)) [
   | inr not' ↦ (
       let one : (a.residents k).session.current ≡ None = (alike.idle k not').0 in
@@ -478,7 +477,7 @@ asked_same site a b place alike = by (first_lacked b) refl
           fact = refl;
         })
 
-looks_same : (site : Site) (a b : Local) → AreAlike site a b → DoSame site (looks site a) (looks site b)
+pub looks_same : (site : Site) (a b : Local) → AreAlike site a b → DoSame site (looks site a) (looks site b)
 looks_same site a b alike = by (all_joined site b.joined) refl
   where
     by : (c : Bool) → all_joined site b.joined ≡ c → DoSame site (looks site a) (looks site b)
@@ -487,7 +486,7 @@ looks_same site a b alike = by (all_joined site b.joined) refl
         let also : all_joined site a.joined ≡ true = ap (all_joined site) alike.joined ∙ is in
         same_as site (looks site a) (asks_peer site a (next_peer site b.peer)) (looks site b) (asks_peer site b (next_peer site b.peer)) (rw also (ap (λ p. asks_peer site a (next_peer site p)) alike.peer)) (rw is refl) (asked_same site a b (next_peer site b.peer) alike)
 
-joins_same : (from losses : ℕ) (site : Site) (a b : Local) → AreAlike site a b → DoSame site (hears_joined from losses site a) (hears_joined from losses site b)
+pub joins_same : (from losses : ℕ) (site : Site) (a b : Local) → AreAlike site a b → DoSame site (hears_joined from losses site a) (hears_joined from losses site b)
 joins_same from losses site a b alike = by (is_new site && has_node site from && losses == site.losses) refl
   where
     by : (c : Bool) → (is_new site && has_node site from && losses == site.losses) ≡ c → DoSame site (hears_joined from losses site a) (hears_joined from losses site b)
@@ -506,7 +505,7 @@ has_same site a b file alike = elim (cases_Bool (is_file_in b file)) [
   | inr none ↦ (let also : is_file_in a file ≡ false = ap is_some (same_limits site a b file alike) ∙ none in rw (also, none) refl)
 ]
 
-gives_same : (from : ℕ) (file : File) (site : Site) (a b : Local) → AreAlike site a b → DoSame site (gives from file site a) (gives from file site b)
+pub gives_same : (from : ℕ) (file : File) (site : Site) (a b : Local) → AreAlike site a b → DoSame site (gives from file site a) (gives from file site b)
 gives_same from file site a b alike = by (is_peer site from && has_file b file) refl
   where
     by : (c : Bool) → (is_peer site from && has_file b file) ≡ c → DoSame site (gives from file site a) (gives from file site b)
@@ -562,7 +561,7 @@ took_same from file copy site a b alike = elim (cases_Bool (file_fits (limit_at 
     off true false = refl
     off false l = refl
 
-takes_same : (from : ℕ) (file : File) (copy : StoredCopy) (site : Site) (a b : Local) → AreAlike site a b → DoSame site (takes from file copy site a) (takes from file copy site b)
+pub takes_same : (from : ℕ) (file : File) (copy : StoredCopy) (site : Site) (a b : Local) → AreAlike site a b → DoSame site (takes from file copy site a) (takes from file copy site b)
 takes_same from file copy site a b alike = by (takes_it site b from file copy) refl
   where
     by : (c : Bool) → takes_it site b from file copy ≡ c → DoSame site (takes from file copy site a) (takes from file copy site b)
@@ -575,15 +574,3 @@ takes_same from file copy site a b alike = by (takes_it site b from file copy) r
         let asks : DoSame site (asks_peer site (given file copy a) (place_of from)) (asks_peer site (given file copy b) (place_of from)) = asked_same site (given file copy a) (given file copy b) (place_of from) (given_same site a b file copy alike) in
         same_as site (takes from file copy site a) (take a) (takes from file copy site b) (take b) (rw also refl) (rw is refl)
         (record { local = asks.local; answer = asks.answer; letters = asks.letters; transfer = asks.transfer; fact = refl })
-
--- ---- whatever comes
-
-pub does_same : (input : Input) (site : Site) (a b : Local) → AreAlike site a b → DoSame site (does input site a) (does input site b)
-does_same (Asked op line) site a b alike = asks_same op line site a b alike
-does_same AskedPlan site a b alike = record { local = alike; answer = ap (λ (vs : List VolumeRow). Some (Has (holding site vs))) alike.volumes; letters = refl; transfer = refl; fact = refl }
-does_same (Brought from letter) site a b alike = receives_same from letter site a b alike
-does_same (Ticked session) site a b alike = ticks_same session site a b alike
-does_same Looked site a b alike = looks_same site a b alike
-does_same (Joined from losses) site a b alike = joins_same from losses site a b alike
-does_same (Fetching from file) site a b alike = gives_same from file site a b alike
-does_same (Fetched from file copy) site a b alike = takes_same from file copy site a b alike

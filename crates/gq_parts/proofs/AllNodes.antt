@@ -13,7 +13,7 @@ use Rattle.gq_facts.specs.Laws.{FitsFact}
 use Rattle.gq_replace.specs.Fleet.{new_fleet, all_node_steps}
 use Rattle.gq_replace.specs.Laws.{IsRight, Follows as FleetFollows}
 use Rattle.gq_node.specs.declared.lost.TheConstants.{MOST_NUMBERS}
-use Rattle.gq_node.specs.Inputs.{Input, Asked, AskedPlan, Brought, Ticked, Looked, Joined as HeardJoined, Fetching, Fetched as WasFetched, does, after_all}
+use Rattle.gq_node.specs.Inputs.{Input, Asked, AskedPlan, Brought, Shortened, Ticked, Looked, Joined as HeardJoined, Fetching, Fetched as WasFetched, does, after_all}
 use Rattle.gq_node.specs.Joining.{all_joined, tells_joined}
 use Rattle.gq_node.specs.Local.{Local, Doing}
 use Rattle.gq_node.specs.Nodes.{NodeWorld, Nodes, Event, Came, Started, site_in, site_at, new_nodes, takes_word, with_ready, after_word, after_doing, after_start, after_event, nodes_after, first_of as law_first, fact_list, all_steps, AllCanCome, AllOpen}
@@ -25,11 +25,11 @@ use Rattle.gq_node.proofs.Recalling.{all_behind}
 use Rattle.gq_node.proofs.Using.{recall_volumes}
 use Rattle.gq_node.proofs.Volumes.{all_volumes_open}
 use Rattle.gq_wire.specs.declared.incoming.Incoming.{Incoming}
-use Rattle.gq_wire.specs.declared.incoming.Incoming.TheVariants.{Request, Plan as AsksPlan, Bad, Letter, Joins, Joined, Speaks, Fetch, Fetched, Tick, Greet, Nothing}
+use Rattle.gq_wire.specs.declared.incoming.Incoming.TheVariants.{Request, Plan as AsksPlan, Bad, Letter, ShortLetter, Joins, Joined, Speaks, Fetch, Fetched, Tick, Greet, Nothing}
 use Rattle.gq_wire.specs.Incoming.{incoming_of}
 use Rattle.gq_parts.specs.Alike.{AreAlike}
 use Rattle.gq_parts.specs.AllNodes.{first_in, GridPlans, here_in, volumes_in, plans_of, world_with, world_at, HasNode, AreSound, AllNodes, Happening, Took, Starts, Renews, StartsBy, first_of, IsStarted, TakesStep, TakesStart, TakesNewJournal, Stays, Happens, AllHappen, came_events, events_of, events_from, all_events, nodes_at, InputsCanCome, IncomingCanCome, HappeningCanCome, LinesCanCome, start_in, HasAlike, TellsAt, TellsAll, fleet_steps, cluster_steps, row_for, IsOneRegister, AllByLaw, AllFollowLaw, AllStepsHappen, AllStartsHappen, AllRenewalsHappen}
-use Rattle.gq_parts.specs.Inputs.{inputs_of, line_inputs}
+use Rattle.gq_parts.specs.Inputs.{inputs_with, line_inputs_with}
 use Rattle.gq_parts.specs.Recalls.{facts_said}
 use Rattle.gq_parts.specs.Resting.{IsNodeOf}
 use Rattle.gq_parts.specs.Steps.{AllAgree, StepsTo, fact_lines}
@@ -82,6 +82,7 @@ one_event : (w : NodeWorld) (nodes : Nodes) (n : ℕ) (a : Input) → AfterOne n
 one_event w nodes n (Asked op line) = doing_one w nodes n (does (Asked op line) (site_at w nodes n) (nodes.local n))
 one_event w nodes n AskedPlan = doing_one w nodes n (does AskedPlan (site_at w nodes n) (nodes.local n))
 one_event w nodes n (Brought from letter) = doing_one w nodes n (does (Brought from letter) (site_at w nodes n) (nodes.local n))
+one_event w nodes n (Shortened from short bytes) = doing_one w nodes n (does (Shortened from short bytes) (site_at w nodes n) (nodes.local n))
 one_event w nodes n (Ticked session) = doing_one w nodes n (does (Ticked session) (site_at w nodes n) (nodes.local n))
 one_event w nodes n Looked = doing_one w nodes n (does Looked (site_at w nodes n) (nodes.local n))
 one_event w nodes n (HeardJoined from losses) =
@@ -120,28 +121,29 @@ after_inputs w p n nodes (a ∷ inputs) plan =
     }
 
 -- all that the node takes by a line that brings this
-abbrev all_taken : GridPlans → (p n t : ℕ) → Nodes → Incoming → List Input
-all_taken g p n t nodes incoming = taken (site_at (world_at g t) nodes n) (nodes.local n) (inputs_of g.plan (here_in g p n) incoming t)
+abbrev all_taken : GridPlans → (p n : ℕ) → (bytes : List ℕ) → (t : ℕ) → Nodes → Incoming → List Input
+all_taken g p n bytes t nodes incoming = taken (site_at (world_at g t) nodes n) (nodes.local n) (inputs_with bytes g.plan (here_in g p n) incoming t)
 
 -- a line to the node that brings this
-after_came : (g : GridPlans) (p n t : ℕ) (nodes : Nodes) (incoming : Incoming) → nodes.last_plan n ≡ p →
-    AfterAll (world_at g t) p n nodes (nodes_after (world_at g t) nodes (came_events g p n t nodes incoming)) (all_taken g p n t nodes incoming)
-after_came g p n t nodes (Request tenant op line) plan = after_inputs (world_at g t) p n nodes (all_taken g p n t nodes (Request tenant op line)) plan
-after_came g p n t nodes (AsksPlan tenant) plan = after_inputs (world_at g t) p n nodes (all_taken g p n t nodes (AsksPlan tenant)) plan
-after_came g p n t nodes (Bad tenant) plan = after_inputs (world_at g t) p n nodes (all_taken g p n t nodes (Bad tenant)) plan
-after_came g p n t nodes (Letter from m) plan = after_inputs (world_at g t) p n nodes (all_taken g p n t nodes (Letter from m)) plan
-after_came g p n t nodes (Joins from losses) plan = by (tells_joined from losses (site_at (world_at g t) nodes n))
+after_came : (g : GridPlans) (p n : ℕ) (bytes : List ℕ) (t : ℕ) (nodes : Nodes) (incoming : Incoming) → nodes.last_plan n ≡ p →
+    AfterAll (world_at g t) p n nodes (nodes_after (world_at g t) nodes (came_events g p n bytes t nodes incoming)) (all_taken g p n bytes t nodes incoming)
+after_came g p n bytes t nodes (Request tenant op line) plan = after_inputs (world_at g t) p n nodes (all_taken g p n bytes t nodes (Request tenant op line)) plan
+after_came g p n bytes t nodes (AsksPlan tenant) plan = after_inputs (world_at g t) p n nodes (all_taken g p n bytes t nodes (AsksPlan tenant)) plan
+after_came g p n bytes t nodes (Bad tenant) plan = after_inputs (world_at g t) p n nodes (all_taken g p n bytes t nodes (Bad tenant)) plan
+after_came g p n bytes t nodes (Letter from m) plan = after_inputs (world_at g t) p n nodes (all_taken g p n bytes t nodes (Letter from m)) plan
+after_came g p n bytes t nodes (ShortLetter from short) plan = after_inputs (world_at g t) p n nodes (all_taken g p n bytes t nodes (ShortLetter from short)) plan
+after_came g p n bytes t nodes (Joins from losses) plan = by (tells_joined from losses (site_at (world_at g t) nodes n))
   where
     by : (b : Bool) → AfterAll (world_at g t) p n nodes (cond b (record nodes { joined = nodes.joined ++ record { from = n; to = from; losses = losses } ∷ [] }) nodes) []
     by true = record { local = refl; facts = sym (append-nil (nodes.facts n)); others = λ m other. (refl, refl); plans = λ m. record { begun = refl; first_plan = refl; last_plan = refl } }
     by false = record { local = refl; facts = sym (append-nil (nodes.facts n)); others = λ m other. (refl, refl); plans = λ m. record { begun = refl; first_plan = refl; last_plan = refl } }
-after_came g p n t nodes (Joined from losses) plan = after_inputs (world_at g t) p n nodes (all_taken g p n t nodes (Joined from losses)) plan
-after_came g p n t nodes (Speaks from form) plan = after_inputs (world_at g t) p n nodes (all_taken g p n t nodes (Speaks from form)) plan
-after_came g p n t nodes (Fetch from file) plan = after_inputs (world_at g t) p n nodes (all_taken g p n t nodes (Fetch from file)) plan
-after_came g p n t nodes (Fetched from file copy) plan = after_inputs (world_at g t) p n nodes (all_taken g p n t nodes (Fetched from file copy)) plan
-after_came g p n t nodes Tick plan = after_inputs (world_at g t) p n nodes (all_taken g p n t nodes Tick) plan
-after_came g p n t nodes Greet plan = after_inputs (world_at g t) p n nodes (all_taken g p n t nodes Greet) plan
-after_came g p n t nodes Nothing plan = after_inputs (world_at g t) p n nodes (all_taken g p n t nodes Nothing) plan
+after_came g p n bytes t nodes (Joined from losses) plan = after_inputs (world_at g t) p n nodes (all_taken g p n bytes t nodes (Joined from losses)) plan
+after_came g p n bytes t nodes (Speaks from form) plan = after_inputs (world_at g t) p n nodes (all_taken g p n bytes t nodes (Speaks from form)) plan
+after_came g p n bytes t nodes (Fetch from file) plan = after_inputs (world_at g t) p n nodes (all_taken g p n bytes t nodes (Fetch from file)) plan
+after_came g p n bytes t nodes (Fetched from file copy) plan = after_inputs (world_at g t) p n nodes (all_taken g p n bytes t nodes (Fetched from file copy)) plan
+after_came g p n bytes t nodes Tick plan = after_inputs (world_at g t) p n nodes (all_taken g p n bytes t nodes Tick) plan
+after_came g p n bytes t nodes Greet plan = after_inputs (world_at g t) p n nodes (all_taken g p n bytes t nodes Greet) plan
+after_came g p n bytes t nodes Nothing plan = after_inputs (world_at g t) p n nodes (all_taken g p n bytes t nodes Nothing) plan
 
 -- ---- more happenings
 
@@ -290,10 +292,10 @@ record StartsAlike (g : GridPlans) (t n p first ever : ℕ) (facts all : List Ow
   low_ever : ever ≤ p
 
 one_holds : (g : GridPlans) (before : List Happening) (h : Happening) (old new : AllNodes) → AreSound g → Holds g before old → Happens g old h new → OneHolds g before h new
-one_holds g before (Took n p did) old new sound holds happens = record {
+one_holds g before (Took n p bytes did) old new sound holds happens = record {
   holds = record {
     node = other_nodes g n old new holds.node happens.others (subst (λ q. IsNodeOf g.plan (here_in g q n) (new.tables n)) (sym goes.still.last_plan) one.node);
-    are = λ t within. subst (AreKnown g new t) (sym (more_nodes g before (Took n p did) t)) (at t within);
+    are = λ t within. subst (AreKnown g new t) (sym (more_nodes g before (Took n p bytes did) t)) (at t within);
   };
   told = one.told_is
       ∙ ap (λ z. z ++ line_text_of g.plan here did.line (parts_after g.plan here ones inputs)) (all_written_same g.plan here ones parts inputs alike)
@@ -308,7 +310,7 @@ one_holds g before (Took n p did) old new sound holds happens = record {
     here = here_in g p n
 
     inputs : ℕ → List Input
-    inputs = line_inputs g.plan here did.line
+    inputs = line_inputs_with bytes g.plan here did.line
 
     parts : ℕ → Local
     parts t = (nodes_at g before t).local n
@@ -334,22 +336,22 @@ one_holds g before (Took n p did) old new sound holds happens = record {
     agree : AllAgree (old.tables n) ones
     agree t within = (has t (subst (λ (plan : CheckedPlan). t < length plan.rows) was.plan_is within)).0
 
-    one : StepByParts g.plan here ones did.line did.facts did.told (new.tables n)
-    one = step_by_parts g.plan here (old.tables n) (new.tables n) ones did.line did.facts did.told was agree goes.step
+    one : StepByParts g.plan here bytes ones did.line did.facts did.told (new.tables n)
+    one = step_by_parts g.plan here (old.tables n) (new.tables n) bytes ones did.line did.facts did.told was agree goes.step
 
-    at : (t : ℕ) → t < length g.plan.rows → AreKnown g new t (nodes_after (world_at g t) (nodes_at g before t) (events_of g t (nodes_at g before t) (Took n p did)))
+    at : (t : ℕ) → t < length g.plan.rows → AreKnown g new t (nodes_after (world_at g t) (nodes_at g before t) (events_of g t (nodes_at g before t) (Took n p bytes did)))
     at t within =
         let w : NodeWorld = world_at g t in
         let nodes : Nodes = nodes_at g before t in
         let are : AreKnown g old t nodes = holds.are t within in
         let x : IsKnown g t n (record (at_node old nodes n) { last = p }) = before_it t within in
-        let after : Nodes = nodes_after w nodes (events_of g t nodes (Took n p did)) in
+        let after : Nodes = nodes_after w nodes (events_of g t nodes (Took n p bytes did)) in
         let site : Site = site_of g.plan here t in
         let last : nodes.last_plan n ≡ p = sym (are.last_plan n goes.begun) ∙ goes.plan in
         let same : site_at w nodes n ≡ site = ap (λ q. site_in w q n) last in
         let by_law : List Input = taken (site_at w nodes n) (parts t) (inputs t) in
         let all : List Input = taken site (parts t) (inputs t) in
-        let a : AfterAll w p n nodes after by_law = after_came g p n t nodes (incoming_of g.plan n did.line) last in
+        let a : AfterAll w p n nodes after by_law = after_came g p n bytes t nodes (incoming_of g.plan n did.line) last in
         let gave : List OwnFact = own_facts site (parts t) all in
         let now : Agrees (new.tables n) t (after_taken site (ones t) (inputs t)) = one.agree t (subst (λ (plan : CheckedPlan). t < length plan.rows) (sym one.node.plan_is) within) in
         let own : its_facts g t did.facts ≡ gave =
@@ -619,26 +621,28 @@ goes_on w n nodes xs =
     let a : AfterAll w (nodes.last_plan n) n nodes (nodes_after w nodes (map (λ a. Came n a) xs)) xs = after_inputs w (nodes.last_plan n) n nodes xs refl in
     (a.local, ap (λ q. site_in w q n) (a.plans n).last_plan)
 
-some_can : (g : GridPlans) (p n t : ℕ) (nodes : Nodes) (incoming : Incoming) → InputsCanCome (world_at g t) n nodes (inputs_of g.plan (here_in g p n) incoming t) → AllCanCome (world_at g t) nodes (map (λ a. Came n a) (all_taken g p n t nodes incoming))
-some_can g p n t nodes incoming can =
-    taken_can (world_at g t) n nodes (site_at (world_at g t) nodes n) (inputs_of g.plan (here_in g p n) incoming t) refl can (λ ns xs. goes_on (world_at g t) n ns xs)
+some_can : (g : GridPlans) (p n : ℕ) (bytes : List ℕ) (t : ℕ) (nodes : Nodes) (incoming : Incoming) → InputsCanCome (world_at g t) n nodes (inputs_with bytes g.plan (here_in g p n) incoming t) →
+    AllCanCome (world_at g t) nodes (map (λ a. Came n a) (all_taken g p n bytes t nodes incoming))
+some_can g p n bytes t nodes incoming can =
+    taken_can (world_at g t) n nodes (site_at (world_at g t) nodes n) (inputs_with bytes g.plan (here_in g p n) incoming t) refl can (λ ns xs. goes_on (world_at g t) n ns xs)
 
-came_can : (g : GridPlans) (p n t : ℕ) (nodes : Nodes) (incoming : Incoming) → IncomingCanCome g p n t nodes incoming → AllCanCome (world_at g t) nodes (came_events g p n t nodes incoming)
-came_can g p n t nodes (Request tenant op line) can = some_can g p n t nodes (Request tenant op line) can
-came_can g p n t nodes (AsksPlan tenant) can = some_can g p n t nodes (AsksPlan tenant) can
-came_can g p n t nodes (Bad tenant) can = some_can g p n t nodes (Bad tenant) can
-came_can g p n t nodes (Letter from m) can = some_can g p n t nodes (Letter from m) can
-came_can g p n t nodes (Joins from losses) can = (can, tt)
-came_can g p n t nodes (Joined from losses) can = some_can g p n t nodes (Joined from losses) can
-came_can g p n t nodes (Speaks from form) can = some_can g p n t nodes (Speaks from form) can
-came_can g p n t nodes (Fetch from file) can = some_can g p n t nodes (Fetch from file) can
-came_can g p n t nodes (Fetched from file copy) can = some_can g p n t nodes (Fetched from file copy) can
-came_can g p n t nodes Tick can = some_can g p n t nodes Tick can
-came_can g p n t nodes Greet can = some_can g p n t nodes Greet can
-came_can g p n t nodes Nothing can = some_can g p n t nodes Nothing can
+came_can : (g : GridPlans) (p n : ℕ) (bytes : List ℕ) (t : ℕ) (nodes : Nodes) (incoming : Incoming) → IncomingCanCome g p n bytes t nodes incoming → AllCanCome (world_at g t) nodes (came_events g p n bytes t nodes incoming)
+came_can g p n bytes t nodes (Request tenant op line) can = some_can g p n bytes t nodes (Request tenant op line) can
+came_can g p n bytes t nodes (AsksPlan tenant) can = some_can g p n bytes t nodes (AsksPlan tenant) can
+came_can g p n bytes t nodes (Bad tenant) can = some_can g p n bytes t nodes (Bad tenant) can
+came_can g p n bytes t nodes (Letter from m) can = some_can g p n bytes t nodes (Letter from m) can
+came_can g p n bytes t nodes (ShortLetter from short) can = some_can g p n bytes t nodes (ShortLetter from short) can
+came_can g p n bytes t nodes (Joins from losses) can = (can, tt)
+came_can g p n bytes t nodes (Joined from losses) can = some_can g p n bytes t nodes (Joined from losses) can
+came_can g p n bytes t nodes (Speaks from form) can = some_can g p n bytes t nodes (Speaks from form) can
+came_can g p n bytes t nodes (Fetch from file) can = some_can g p n bytes t nodes (Fetch from file) can
+came_can g p n bytes t nodes (Fetched from file copy) can = some_can g p n bytes t nodes (Fetched from file copy) can
+came_can g p n bytes t nodes Tick can = some_can g p n bytes t nodes Tick can
+came_can g p n bytes t nodes Greet can = some_can g p n bytes t nodes Greet can
+came_can g p n bytes t nodes Nothing can = some_can g p n bytes t nodes Nothing can
 
 of_happening : (g : GridPlans) (t : ℕ) (nodes : Nodes) (h : Happening) → HappeningCanCome g t nodes h → AllCanCome (world_at g t) nodes (events_of g t nodes h)
-of_happening g t nodes (Took n p did) can = came_can g p n t nodes (incoming_of g.plan n did.line) can
+of_happening g t nodes (Took n p bytes did) can = came_can g p n bytes t nodes (incoming_of g.plan n did.line) can
 of_happening g t nodes (Starts n p) can = (can, tt)
 of_happening g t nodes (Renews n facts) can = tt
 
@@ -708,7 +712,7 @@ has_these : (old : AllNodes) (n first p : ℕ) (tables : Tables) (kept : List (L
 has_these old n first p tables kept = let its : (n == n) ≡ true = eq-eqb n n refl in (rw its refl, rw its refl)
 
 pub all_steps_happen : AllStepsHappen
-all_steps_happen g old n did tables begun step =
+all_steps_happen g old n bytes did tables begun step =
     let kept : List (List ℕ) = old.kept n ++ did.facts in
     let has = has_these old n (old.first_plan n) (old.last_plan n) tables kept in
     record {

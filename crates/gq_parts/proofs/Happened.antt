@@ -103,8 +103,8 @@ takes_line m n first p v w kept line incoming facts has read s =
     let did : Did = record { line = line; facts = fact_lines grid_worked.plan facts; told = s.told ++ s.own } in
     let step : StepsTo (m.tables n) line did.facts did.told (tables_of n p w) =
     subst (λ x. StepsTo x line did.facts did.told (tables_of n p w)) (sym has.tables) (steps_to n p v w line incoming facts has.some read has.sees s) in
-    let can : CanHappen grid_worked m (Took n (m.last_plan n) did) (tables_of n p w) = all_steps_happen grid_worked m n did (tables_of n p w) has.begun step in
-    let happens : Happens grid_worked m (Took n p did) can.new = subst (λ q. Happens grid_worked m (Took n q did) can.new) has.last_plan can.happens in
+    let can : CanHappen grid_worked m (Took n (m.last_plan n) [] did) (tables_of n p w) = all_steps_happen grid_worked m n [] did (tables_of n p w) has.begun step in
+    let happens : Happens grid_worked m (Took n p [] did) can.new = subst (λ q. Happens grid_worked m (Took n q [] did) can.new) has.last_plan can.happens in
     let goes : TakesStep n p did m can.new = happens.goes in
     record {
       next = can.new;
@@ -116,7 +116,7 @@ takes_line m n first p v w kept line incoming facts has read s =
         tables = can.tables_are;
         journal = goes.kept ∙ ap (λ z. z ++ did.facts) has.journal;
         some = after_taken (site n p) has.some (inputs_of grid_worked.plan (here_in grid_worked p n) incoming 0);
-        sees = (s.leads has.some has.sees).after;
+        sees = (s.leads [] has.some has.sees).after;
       };
       others = happens.others;
     }

@@ -15,7 +15,7 @@ use Rattle.gq_cluster.specs.Facts.{OwnFact, Begun, Numbered, Kept, Had, Reserved
 use Rattle.gq_cluster.specs.Keeping.{KeptPart, kept_of, with_fact}
 use Rattle.gq_replace.specs.Keeping.{KeptFiles, files_of_part, with_fleet_fact, lacks_behind}
 use Rattle.gq_replace.specs.Plans.{place_of}
-use Rattle.gq_node.specs.Inputs.{Input, Asked, AskedPlan, Brought, Ticked, Looked, Joined, Fetching, Fetched, does, after_one, after_all}
+use Rattle.gq_node.specs.Inputs.{Input, Asked, AskedPlan, Brought, Shortened, Ticked, Looked, Joined, Fetching, Fetched, does, after_one, after_all}
 use Rattle.gq_node.specs.Joining.{hears_joined, all_joined, first_lacked, next_peer, asks_peer, looks, is_peer, has_file, gives, takes}
 use Rattle.gq_node.specs.Local.{Local, Doing, part_in, state_of, file_fits, fits_local, with_copy, given, recalled}
 use Rattle.gq_node.specs.Resting.{GoesBehind, recall_one, recall_all, IsAtRest, IsBare}
@@ -23,7 +23,7 @@ use Rattle.gq_node.specs.Sites.{Site, is_new, has_node}
 use Rattle.gq_node.proofs.Journal.{FactIn, KeepsBy, Keeps, does_keep, stays_bare, recall_keeps}
 use Rattle.gq_node.proofs.Recalling.{one_behind, recalls_fits, recalls_not}
 use Rattle.gq_node.proofs.Reserving.{same_reserved}
-use Rattle.gq_node.proofs.Staying.{asks_view, receives_view, ticks_view}
+use Rattle.gq_node.proofs.Staying.{asks_view, receives_view, shorts_view, ticks_view}
 use Rattle.gq_node.proofs.Using.{recall_idle, recall_volumes}
 use Rattle.gq_parts.specs.Texts.{own_facts}
 
@@ -44,6 +44,7 @@ pub does_volumes : (input : Input) (site : Site) (local : Local) → (does input
 does_volumes (Asked op line) site local = ap (λ (v : List VolumeRow × Servers). v.0) (asks_view op line site local)
 does_volumes AskedPlan site local = refl
 does_volumes (Brought from letter) site local = ap (λ (v : List VolumeRow × Servers). v.0) (receives_view from letter site local)
+does_volumes (Shortened from short bytes) site local = ap (λ (v : List VolumeRow × Servers). v.0) (shorts_view from short bytes site local)
 does_volumes (Ticked session) site local = ap (λ (v : List VolumeRow × Servers). v.0) (ticks_view session site local)
 does_volumes Looked site local = by (all_joined site local.joined) refl
   where

@@ -2,6 +2,7 @@ pub mod Apart
 pub mod Within
 pub mod Hops
 pub mod Alike
+pub mod AlikeShorts
 pub mod AlikeTexts
 pub mod AlikeStarts
 pub mod Homes

@@ -1,7 +1,6 @@
 -- What the code does with letters that are taken within: one letter more, one hop more, and the end.
-use Rattle.std.proofs.Common.{◌≡◌, ◌≢◌, ◌∙◌, ℕ, suc, ◌+◌, ◌<◌, List, [], ◌∷◌, ◌++◌, length, get_or, take, map, refl, sym, ap, subst, arith, append_assoc, append-nil, add-one}
+use Rattle.std.proofs.Common.{◌≡◌, ◌≢◌, ◌∙◌, ℕ, suc, Bool, false, None, ◌+◌, ◌<◌, List, [], ◌∷◌, ◌++◌, length, get_or, take, map, refl, sym, ap, subst, arith, append_assoc, append-nil, add-one}
 use Rattle.std.specs.Prelude.{All, not}
-use Rattle.std.specs.List.{flat_map}
 use Rattle.std.specs.Option.{option_to_list}
 use Rattle.std.proofs.lemmas.List.{map-append, take_more}
 use Rattle.std.proofs.lemmas.List.Concat.{flat_map-append}
@@ -19,9 +18,9 @@ use Rattle.gq_node.specs.Tables.{Tables, Agrees, Acts, fact_of}
 use Rattle.gq_facts.specs.Laws.{FitsFact}
 use Rattle.gq_parts.specs.declared.laws.TheConstants.{MOST_HOPS}
 use Rattle.gq_parts.specs.Within.{own_of, own_letters, brought, hops, left_behind}
-use Rattle.gq_parts.specs.Texts.{sent_line, step_text, doing_text, steps_text, own_facts}
-use Rattle.gq_parts.specs.Steps.{IsOfTenant, Appended, goes_home, going_home, going_by_lines, TakesHop, TookHop, TookOwn}
-use Rattle.gq_parts.proofs.Taking.{after_more, own_more, steps_more, doings_more, map_option, text_is, home_is, appended_more, appended_none}
+use Rattle.gq_parts.specs.Texts.{step_text, doing_text, steps_text, own_facts}
+use Rattle.gq_parts.specs.Steps.{IsOfTenant, Appended, goes_home, going_home, going_by_lines, table_line, table_lines, told_letters, TakesHop, TookHop, TookOwn}
+use Rattle.gq_parts.proofs.Taking.{after_more, own_more, steps_more, doings_more, map_option, gave_plain, text_is, formed_is, home_is, appended_more, appended_none}
 use Rattle.gq_parts.proofs.Hops.{hops_more, left_more}
 
 -- ---- letters one by one
@@ -33,13 +32,13 @@ one_piece g pieces old mid new xs i x within is before now =
     let one : take (i + 1) xs ≡ take i xs ++ x ∷ [] = take_more xs i x within ∙ ap (λ y. take i xs ++ y ∷ []) (sym is) in
     now ∙ ap (λ z. z ++ g (x ∷ [])) before ∙ append_assoc old (g (take i xs)) (g (x ∷ [])) ∙ ap (λ z. old ++ z) (sym (ap g one ∙ pieces (take i xs) (x ∷ [])))
 
-pub lines_pieces : (plan : CheckedPlan) (here : Here) (a b : List Message) →
-    flat_map (sent_line plan here) (going_by_lines plan here (a ++ b)) ≡ flat_map (sent_line plan here) (going_by_lines plan here a) ++ flat_map (sent_line plan here) (going_by_lines plan here b)
-lines_pieces plan here a b =
-    ap (flat_map (sent_line plan here)) (filter-append (λ m. not (goes_home plan here m)) a b) ∙ flat_map-append (sent_line plan here) (going_by_lines plan here a) (going_by_lines plan here b)
+pub lines_pieces : (again : Bool) (plan : CheckedPlan) (here : Here) (w : Tables) (a b : List Message) →
+    told_letters again plan here w (a ++ b) ≡ told_letters again plan here w a ++ told_letters again plan here w b
+lines_pieces again plan here w a b =
+    ap (table_lines again plan here w) (filter-append (λ m. not (goes_home again plan here m)) a b) ∙ flat_map-append (table_line again plan here w) (going_by_lines again plan here a) (going_by_lines again plan here b)
 
-pub own_pieces : (plan : CheckedPlan) (here : Here) (a b : List Message) → going_home plan here (a ++ b) ≡ going_home plan here a ++ going_home plan here b
-own_pieces plan here a b = filter-append (goes_home plan here) a b
+pub own_pieces : (again : Bool) (plan : CheckedPlan) (here : Here) (a b : List Message) → going_home again plan here (a ++ b) ≡ going_home again plan here a ++ going_home again plan here b
+own_pieces again plan here a b = filter-append (goes_home again plan here) a b
 
 -- letters of one tenant, without it and with it again
 letters_back : (t : ℕ) (ms : List Message) → All (IsOfTenant t) ms → map (message_of t) (map own_message ms) ≡ ms
@@ -56,7 +55,7 @@ letters_back t (m ∷ ms) theirs =
 
 -- one letter alone
 hop_alone : (old new : Tables) (t : ℕ) (letter : OwnMessage) (out : Output) → Acts old t (does (Brought old.here.node letter)) out new → All (IsOfTenant t) out.letters.items → All (FitsFact old.plan) (option_to_list out.fact) →
-    TakesHop old t (letter ∷ []) (option_to_list out.fact) (step_text old.plan old.here t NoLine out.answer (going_by_lines old.plan old.here out.letters.items) out.transfer) (going_home old.plan old.here out.letters.items) new
+    TakesHop old t (letter ∷ []) (option_to_list out.fact) (step_text old.plan old.here t NoLine out.answer (told_letters false old.plan old.here new out.letters.items) out.transfer) (going_home false old.plan old.here out.letters.items) new
 hop_alone old new t letter out acts theirs fit = record {
   plan = acts.leads.plan;
   here = acts.leads.here;
@@ -65,13 +64,11 @@ hop_alone old new t letter out acts theirs fit = record {
   gives = λ local agrees. (
       let doing : Doing = does one site local in
       ap option_to_list (acts.gives local agrees).fact ∙ map_option (fact_of t) doing.fact ∙ ap (map (fact_of t)) (sym (append-nil (option_to_list doing.fact))));
-  tells = λ local agrees. (
-      let doing : Doing = does one site local in
-      text_is old.plan old.here t one doing out (acts.gives local agrees) ∙ sym (append-nil (doing_text old.plan old.here t one doing)));
+  tells = λ local agrees. text_is old t one out None new local (gave_plain old t one out new (λ site local. (refl, refl)) acts) agrees ∙ sym (append-nil (doing_text old.plan old.here t local one));
   writes = λ local agrees. (
       let doing : Doing = does one site local in
-      ap (λ z. map own_message (going_home old.plan old.here z)) (acts.gives local agrees).letters ∙ home_is old.plan old.here t doing.letters ∙ sym (append-nil (own_of site doing.letters)));
-  theirs = All-filter (goes_home old.plan old.here) (IsOfTenant t) out.letters.items theirs;
+      ap (λ z. map own_message (going_home false old.plan old.here z)) (acts.gives local agrees).letters ∙ home_is false old.plan old.here t doing.letters ∙ sym (append-nil (own_of site doing.letters)));
+  theirs = All-filter (goes_home false old.plan old.here) (IsOfTenant t) out.letters.items theirs;
   fit = fit;
 }
   where
@@ -83,18 +80,18 @@ hop_alone old new t letter out acts theirs fit = record {
 
 -- and what that appends
 pub took_letter : (old new : Tables) (t : ℕ) (letter : OwnMessage) (out : Output) (o0 o1 : List Message) (f0 f1 t0 t1 : List ℕ) → Acts old t (does (Brought old.here.node letter)) out new → All (IsOfTenant t) out.letters.items →
-    All (FitsFact new.plan) (option_to_list out.fact) → Appended new.plan (option_to_list out.fact) (step_text new.plan new.here t NoLine out.answer (going_by_lines new.plan new.here out.letters.items) out.transfer) f0 f1 t0 t1 →
-    o1 ≡ o0 ++ going_home new.plan new.here out.letters.items → TookHop old t (letter ∷ []) o0 o1 f0 f1 t0 t1 new
+    All (FitsFact new.plan) (option_to_list out.fact) → Appended new.plan (option_to_list out.fact) (step_text new.plan new.here t NoLine out.answer (told_letters false new.plan new.here new out.letters.items) out.transfer) f0 f1 t0 t1 →
+    o1 ≡ o0 ++ going_home false new.plan new.here out.letters.items → TookHop old t (letter ∷ []) o0 o1 f0 f1 t0 t1 new
 took_letter old new t letter out o0 o1 f0 f1 t0 t1 acts theirs fit appended own =
     let P : CheckedPlan → Here → Type 0 = λ p s.
     All (FitsFact p) (option_to_list out.fact)
-    × Appended p (option_to_list out.fact) (step_text p s t NoLine out.answer (going_by_lines p s out.letters.items) out.transfer) f0 f1 t0 t1
-    × (o1 ≡ o0 ++ going_home p s out.letters.items) in
+    × Appended p (option_to_list out.fact) (step_text p s t NoLine out.answer (told_letters false p s new out.letters.items) out.transfer) f0 f1 t0 t1
+    × (o1 ≡ o0 ++ going_home false p s out.letters.items) in
     let h : P old.plan old.here = subst (λ p. P p old.here) acts.leads.plan (subst (λ s. P new.plan s) acts.leads.here (fit, appended, own)) in
     record {
       facts = option_to_list out.fact;
-      told = step_text old.plan old.here t NoLine out.answer (going_by_lines old.plan old.here out.letters.items) out.transfer;
-      own = going_home old.plan old.here out.letters.items;
+      told = step_text old.plan old.here t NoLine out.answer (told_letters false old.plan old.here new out.letters.items) out.transfer;
+      own = going_home false old.plan old.here out.letters.items;
       takes = hop_alone old new t letter out acts theirs h.0;
       appended = h.1;
       own_is = h.2;
@@ -294,12 +291,13 @@ took_hop n old m new t letters own next f0 f1 f2 t0 t1 t2 p q =
 
 -- behind the most hops what is left goes by lines
 pub took_own : (old new : Tables) (t : ℕ) (letters : List OwnMessage) (own : List Message) (f0 f1 t0 t1 t2 : List ℕ) → TookHops MOST_HOPS old t letters own f0 f1 t0 t1 new →
-    t2 ≡ t1 ++ flat_map (sent_line new.plan new.here) own → TookOwn MOST_HOPS old t letters f0 f1 t0 t2 new
+    t2 ≡ t1 ++ table_lines false new.plan new.here new own → TookOwn MOST_HOPS old t letters f0 f1 t0 t2 new
 took_own old new t letters own f0 f1 t0 t1 t2 p lines =
     let its : TakesHops MOST_HOPS old t letters p.facts p.told own new = p.takes in
-    let P : CheckedPlan → Here → Type 0 = λ plan here. t2 ≡ t1 ++ flat_map (sent_line plan here) own in
+    let site : Site = site_of old.plan old.here t in
+    let P : CheckedPlan → Here → Type 0 = λ plan here. t2 ≡ t1 ++ table_lines false plan here new own in
     let left : P old.plan old.here = subst (λ plan. P plan old.here) its.plan (subst (λ here. P new.plan here) its.here lines) in
-    let gone : List ℕ = flat_map (sent_line old.plan old.here) own in
+    let gone : List ℕ = table_lines false old.plan old.here new own in
     record {
       facts = p.facts;
       told = p.told ++ gone;
@@ -309,10 +307,12 @@ took_own old new t letters own f0 f1 t0 t1 t2 p lines =
         own = its.part;
         others = its.others;
         gives = its.gives;
-        tells = λ local agrees.
+        tells = λ local agrees. (
+            let behind : List OwnMessage = left_behind MOST_HOPS site local letters in
             ap (λ z. z ++ gone) (its.tells local agrees)
-            ∙ ap (λ ms. steps_text old.plan old.here t local (hops MOST_HOPS (site_of old.plan old.here t) local letters) ++ flat_map (sent_line old.plan old.here) ms)
-            (sym (letters_back t own p.theirs) ∙ ap (map (message_of t)) (its.left local agrees));
+            ∙ ap (λ ms. steps_text old.plan old.here t local (hops MOST_HOPS site local letters) ++ table_lines false old.plan old.here new ms) (sym (letters_back t own p.theirs) ∙ ap (map (message_of t)) (its.left local agrees))
+            ∙ ap (λ z. steps_text old.plan old.here t local (hops MOST_HOPS site local letters) ++ z)
+            (formed_is false old.plan old.here new t (after_all site local (hops MOST_HOPS site local letters)) behind its.plan its.here (its.part local agrees)));
         fit = its.fit;
       };
       appended = record { facts_are = p.appended.facts_are; told_is = left ∙ ap (λ z. z ++ gone) p.appended.told_is ∙ append_assoc t0 p.told gone };

@@ -27,7 +27,7 @@ pub record TakesSent (g : GridPlans) (n p : ℕ) (line : List ℕ) (old new : Al
   pub did : Did
   pub line_is : did.line ≡ line
   pub node : IsNodeOf g.plan (here_in g p n) (old.tables n)
-  pub happens : Happens g old (Took n p did) new
+  pub happens : Happens g old (Took n p [] did) new
 
 abbrev pub Goes : GridPlans → Sent → (old new : AllNodes) → Type 0
 Goes g (Starting n p) old new = Happens g old (Starts n p) new
@@ -84,8 +84,8 @@ did_is g before first old new n p line sound fresh happen takes = λ i. record {
     agree : AllAgree (old.tables n) ones
     agree t within = (has t (subst (λ (plan : CheckedPlan). t < length plan.rows) takes.node.plan_is within)).0
 
-    one : StepByParts g.plan here ones did.line did.facts did.told (new.tables n)
-    one = step_by_parts g.plan here (old.tables n) (new.tables n) ones did.line did.facts did.told takes.node agree goes.step
+    one : StepByParts g.plan here [] ones did.line did.facts did.told (new.tables n)
+    one = step_by_parts g.plan here (old.tables n) (new.tables n) [] ones did.line did.facts did.told takes.node agree goes.step
 
     gave : did.facts ≡ fact_lines g.plan (facts_by g.plan here parts (line_inputs g.plan here line))
     gave =
@@ -104,7 +104,7 @@ did_is g before first old new n p line sound fresh happen takes = λ i. record {
 
 one_goes : (g : GridPlans) (before : List Happening) (s : Sent) (first old new : AllNodes) → AreSound g → AllNew first → AllHappen g first before old → Goes g s old new → Happens g old (happened g before s) new
 one_goes g before (Starting n p) first old new sound fresh happen goes = goes
-one_goes g before (Sends n p line) first old new sound fresh happen goes = subst (λ did. Happens g old (Took n p did) new) (did_is g before first old new n p line sound fresh happen goes) goes.happens
+one_goes g before (Sends n p line) first old new sound fresh happen goes = subst (λ did. Happens g old (Took n p [] did) new) (did_is g before first old new n p line sound fresh happen goes) goes.happens
 
 -- so all that happens is the run
 pub all_go : (g : GridPlans) (sent : List Sent) (before : List Happening) (first old last : AllNodes) → AreSound g → AllNew first → AllHappen g first before old → AllGo g old sent last → AllHappen g old (all_happened g before sent) last

@@ -15,14 +15,15 @@ use Rattle.gq_cluster.specs.Facts.{OwnFact, Begun, Numbered, Kept, Had}
 use Rattle.gq_tag.specs.declared.Body.TheVariants.{Store}
 use Rattle.gq_keeper.specs.Starting.{RecallsAll}
 use Rattle.gq_node.specs.declared.output.Fact.{Fact}
-use Rattle.gq_node.specs.Inputs.{Input, Asked, AskedPlan, Brought, Ticked, Looked, Joined, Fetching, Fetched, does}
+use Rattle.gq_node.specs.Inputs.{Input, Asked, AskedPlan, Brought, Shortened, Ticked, Looked, Joined, Fetching, Fetched, does}
 use Rattle.gq_node.specs.Joining.{hears_joined, all_joined, next_peer, looks, is_peer, has_file, gives, takes}
 use Rattle.gq_node.specs.Local.{Local, Doing, asks, receives, ticks, fact_fits, file_fits, file_in, part_in, state_of}
 use Rattle.gq_node.specs.Resting.{FirstPlan, begun_local}
 use Rattle.gq_node.specs.Recalling.{tenant_of, own_fact, fits_in}
+use Rattle.gq_node.specs.Shorts.{takes_short}
 use Rattle.gq_node.specs.Sites.{Here, Site, site_of}
 use Rattle.gq_node.specs.Tables.{Tables, Agrees, fact_of}
-use Rattle.gq_node.proofs.Journal.{FactIn, KeepsBy, all_requests_keep, all_letters_keep, all_ticks_keep, asked_peer}
+use Rattle.gq_node.proofs.Journal.{FactIn, KeepsBy, all_requests_keep, all_letters_keep, shorts_keep, all_ticks_keep, asked_peer}
 use Rattle.gq_facts.specs.Facts.{fact_line, fact_of_line}
 use Rattle.gq_facts.specs.Laws.{FitsFact}
 use Rattle.gq_facts.proofs.FactsBack.{facts_read_back}
@@ -153,6 +154,8 @@ doing_fits : (input : Input) (site : Site) (local : Local) → list_all (fits_pa
 doing_fits (Asked op line) site local = kept_fits site local (asks op line site local).fact (part_in (asks op line site local).local) (all_requests_keep op line site local)
 doing_fits AskedPlan site local = refl
 doing_fits (Brought from letter) site local = kept_fits site local (receives from letter site local).fact (part_in (receives from letter site local).local) (all_letters_keep from letter site local)
+doing_fits (Shortened from short bytes) site local =
+    kept_fits site local (takes_short from short bytes site local).doing.fact (part_in (takes_short from short bytes site local).doing.local) (shorts_keep from short bytes site local)
 doing_fits (Ticked session) site local = kept_fits site local (ticks session site local).fact (part_in (ticks session site local).local) (all_ticks_keep session site local)
 doing_fits Looked site local = no_fact site local (looks site local) (by (all_joined site local.joined) refl)
   where
@@ -192,7 +195,7 @@ tenants_fit w g a (suc n) each =
     rw (list_all-append (fits_in w) (g a) (flat_map g (range_with_len (a + 1) n)), each a (omega arith) (omega arith), tenants_fit w g (a + 1) n (λ t low high. each t (omega arith) (omega arith))) refl
 
 step_fits : (old : Tables) (line : List ℕ) (facts : List (List ℕ)) (told : List ℕ) (new : Tables) (step : StepsTo old line facts told new) → list_all (fits_in old) step.facts ≡ true
-step_fits old line facts told new step = ap (list_all (fits_in old)) (step.takes.gives parts agree) ∙ tenants_fit old (λ t. facts_for old.plan old.here t (parts t) (inputs t)) 0 n each
+step_fits old line facts told new step = ap (list_all (fits_in old)) ((step.takes []).gives parts agree) ∙ tenants_fit old (λ t. facts_for old.plan old.here t (parts t) (inputs t)) 0 n each
   where
     n : ℕ
     n = length old.plan.rows
@@ -216,4 +219,4 @@ step_fits old line facts told new step = ap (list_all (fits_in old)) (step.takes
 
 pub gives_readable : (lost : ℕ → FirstPlan) (old : Tables) (line : List ℕ) (facts : List (List ℕ)) (told : List ℕ) (new other : Tables) → StepsTo old line facts told new → IsBlank lost old other → list_all (reads_line other) facts ≡ true
 gives_readable lost old line facts told new other step blank =
-    ap (list_all (reads_line other)) step.lines_are ∙ lines_read lost old other blank step.sound step.facts step.takes.fit (step_fits old line facts told new step)
+    ap (list_all (reads_line other)) step.lines_are ∙ lines_read lost old other blank step.sound step.facts (step.takes []).fit (step_fits old line facts told new step)

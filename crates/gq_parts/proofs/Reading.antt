@@ -124,7 +124,7 @@ lines_are_facts plan is (fact ∷ facts) fit =
     rw (facts_stand_in_batches plan fact is (fit 0 fact (omega arith)), no_head (own_fact fact) (spaced (fact_words plan fact)), lines_are_facts plan is facts (λ i d below. fit (suc i) d (omega arith))) refl
 
 pub gives_facts : (old : Tables) (line : List ℕ) (facts : List (List ℕ)) (told : List ℕ) (new : Tables) → StepsTo old line facts told new → are_facts facts ≡ true
-gives_facts old line facts told new step = ap are_facts step.lines_are ∙ lines_are_facts old.plan step.sound step.facts step.takes.fit
+gives_facts old line facts told new step = ap are_facts step.lines_are ∙ lines_are_facts old.plan step.sound step.facts (step.takes []).fit
 
 -- ---- a start reads lines
 

@@ -57,7 +57,7 @@ AreRead g _ _ = ⊥
 -- the events of it for the tenant at place t
 abbrev pub known_events : GridPlans → (t : ℕ) → Nodes → Known → List Event
 known_events g t nodes (Begun n p) = Started n p ∷ []
-known_events g t nodes (Gets n p incoming) = came_events g p n t nodes incoming
+known_events g t nodes (Gets n p incoming) = came_events g p n [] t nodes incoming
 
 abbrev pub known_after : GridPlans → (t : ℕ) → Nodes → List Known → Nodes
 known_after g t nodes [] = nodes
@@ -65,7 +65,7 @@ known_after g t nodes (k ∷ known) = known_after g t (nodes_after (world_at g t
 
 abbrev pub KnownCan : GridPlans → (t : ℕ) → Nodes → Known → Type 0
 KnownCan g t nodes (Begun n p) = CanCome (world_at g t) nodes (Started n p)
-KnownCan g t nodes (Gets n p incoming) = IncomingCanCome g p n t nodes incoming
+KnownCan g t nodes (Gets n p incoming) = IncomingCanCome g p n [] t nodes incoming
 
 abbrev pub AllKnownCan : GridPlans → (t : ℕ) → Nodes → List Known → Type 0
 AllKnownCan g t nodes [] = ⊤
@@ -73,15 +73,15 @@ AllKnownCan g t nodes (k ∷ known) = KnownCan g t nodes k × AllKnownCan g t (n
 
 same_events : (g : GridPlans) (t : ℕ) (nodes : Nodes) (before : List Happening) (s : Sent) (k : Known) → IsRead g s k → events_of g t nodes (happened g before s) ≡ known_events g t nodes k
 same_events g t nodes before (Starting n p) (Begun m q) read = λ i. Started (read.0 i) (read.1 i) ∷ []
-same_events g t nodes before (Sends n p line) (Gets m q incoming) read = λ i. came_events g (read.1 i) (read.0 i) t nodes (read.2 i)
+same_events g t nodes before (Sends n p line) (Gets m q incoming) read = λ i. came_events g (read.1 i) (read.0 i) [] t nodes (read.2 i)
 same_events g t nodes before (Starting n p) (Gets m q incoming) read = absurd read
 same_events g t nodes before (Sends n p line) (Begun m q) read = absurd read
 
 same_can : (g : GridPlans) (t : ℕ) (nodes : Nodes) (before : List Happening) (s : Sent) (k : Known) → IsRead g s k → KnownCan g t nodes k → HappeningCanCome g t nodes (happened g before s)
 same_can g t nodes before (Starting n p) (Begun m q) read can = let P : ℕ → ℕ → Type 0 = λ n p. CanCome (world_at g t) nodes (Started n p) in subst (λ x. P x p) (sym read.0) (subst (P m) (sym read.1) can)
 same_can g t nodes before (Sends n p line) (Gets m q incoming) read can =
-    subst (λ x. IncomingCanCome g p x t nodes (incoming_of g.plan n line)) (sym read.0)
-    (subst (λ x. IncomingCanCome g x m t nodes (incoming_of g.plan n line)) (sym read.1) (subst (IncomingCanCome g q m t nodes) (sym read.2) can))
+    subst (λ x. IncomingCanCome g p x [] t nodes (incoming_of g.plan n line)) (sym read.0)
+    (subst (λ x. IncomingCanCome g x m [] t nodes (incoming_of g.plan n line)) (sym read.1) (subst (IncomingCanCome g q m [] t nodes) (sym read.2) can))
 same_can g t nodes before (Starting n p) (Gets m q incoming) read can = absurd read
 same_can g t nodes before (Sends n p line) (Begun m q) read can = absurd read
 

@@ -61,18 +61,18 @@ step_volumes old line facts told new step t within =
     let inputs : List Input = line_inputs old.plan old.here line t in
     let site : Site = site_of old.plan old.here t in
     let s : Stands old t = step.stand t within in
-    its_volumes new t (after_taken site s.local inputs) (step.takes.parts t within s.local s.agrees)
+    its_volumes new t (after_taken site s.local inputs) ((step.takes []).parts t within s.local s.agrees)
     ∙ all_volumes site s.local (taken site s.local inputs)
     ∙ sym (its_volumes old t s.local s.agrees)
 
 pub keeps_blank : (lost : ℕ → FirstPlan) (old : Tables) (line : List ℕ) (facts : List (List ℕ)) (told : List ℕ) (new other : Tables) → StepsTo old line facts told new → IsBlank lost new other → IsBlank lost old other
 keeps_blank lost old line facts told new other step blank =
-    same_blank lost old new other (record { plan_is = step.takes.plan; here_is = step.takes.here }) (step_volumes old line facts told new step) blank
+    same_blank lost old new other (record { plan_is = (step.takes []).plan; here_is = (step.takes []).here }) (step_volumes old line facts told new step) blank
 
 pub keeps_volumes : (count : ℕ → FirstPlan) (old : Tables) (line : List ℕ) (facts : List (List ℕ)) (told : List ℕ) (new : Tables) → StepsTo old line facts told new → HasFirst count old → HasFirst count new
 keeps_volumes count old line facts told new step has t within =
-    let inside : t < length old.plan.rows = subst (λ (p : CheckedPlan). t < length p.rows) step.takes.plan within in
-    (λ i. record { volumes = length (step_volumes old line facts told new step t inside i); losses = length (step.takes.here i).lost }) ∙ has t inside
+    let inside : t < length old.plan.rows = subst (λ (p : CheckedPlan). t < length p.rows) (step.takes []).plan within in
+    (λ i. record { volumes = length (step_volumes old line facts told new step t inside i); losses = length ((step.takes []).here i).lost }) ∙ has t inside
 
 pub recalls_volumes : (count : ℕ → FirstPlan) (old : Tables) (line : List ℕ) (new : Tables) → RecallsTo old line new → HasFirst count old → HasFirst count new
 recalls_volumes count old line new read has = by (fact_of_line old.plan line) read
@@ -107,8 +107,8 @@ record AtRest (w rest : Tables) (t : ℕ) (local : Local) : Type 0 where
 pub keeps_rest : (old : Tables) (line : List ℕ) (facts : List (List ℕ)) (told : List ℕ) (new before after : Tables) → StepsTo old line facts told new → Rests old before →
     RecallsAll RecallsTo before facts after → Rests new after
 keeps_rest old line facts told new before after step r reads = record {
-  node = record { plan_is = node.plan_is ∙ r.node.plan_is ∙ sym step.takes.plan; here_is = node.here_is ∙ r.node.here_is ∙ sym step.takes.here };
-  parts = λ t inside. at t (subst (λ (p : CheckedPlan). t < length p.rows) step.takes.plan inside);
+  node = record { plan_is = node.plan_is ∙ r.node.plan_is ∙ sym (step.takes []).plan; here_is = node.here_is ∙ r.node.here_is ∙ sym (step.takes []).here };
+  parts = λ t inside. at t (subst (λ (p : CheckedPlan). t < length p.rows) (step.takes []).plan inside);
 }
   where
     n : ℕ
@@ -135,7 +135,7 @@ keeps_rest old line facts told new before after step r reads = record {
     node = same_node facts before after reads
 
     said : facts_said old.plan facts ≡ facts_by old.plan old.here parts inputs
-    said = ap (facts_said old.plan) step.lines_are ∙ said_back old.plan step.sound step.facts step.takes.fit ∙ step.takes.gives parts agree
+    said = ap (facts_said old.plan) step.lines_are ∙ said_back old.plan step.sound step.facts (step.takes []).fit ∙ (step.takes []).gives parts agree
 
     at : (t : ℕ) → t < n → RestsIn new after t
     at t within =
@@ -146,12 +146,12 @@ keeps_rest old line facts told new before after step r reads = record {
         record {
           local = after_all site (parts t) (own t);
           again = recall_all site p.again (own_facts site (parts t) (own t));
-          was = step.takes.parts t within (parts t) p.was;
+          was = (step.takes []).parts t within (parts t) p.was;
           is = subst (λ z. Agrees after t (recall_all site p.again z)) its read.agrees;
           bare = all_bare site (parts t) (own t) p.bare;
           rests =
               let R : CheckedPlan → Here → Type 0 = λ plan here. IsAtRest (site_of plan here t) (recall_all site p.again (own_facts site (parts t) (own t))) (after_all site (parts t) (own t)) in
-              subst (λ plan. R plan new.here) (sym step.takes.plan) (subst (λ here. R old.plan here) (sym step.takes.here) (all_rest site p.again (parts t) (own t) p.bare p.rests));
+              subst (λ plan. R plan new.here) (sym (step.takes []).plan) (subst (λ here. R old.plan here) (sym (step.takes []).here) (all_rest site p.again (parts t) (own t) p.bare p.rests));
         }
 
 pub starts_again : (lost : ℕ → FirstPlan) (first last new again : Tables) (lines : List (List ℕ)) → IsBlank lost first first → RecallsAll RecallsTo first lines last → IsBlank lost last new →

@@ -1,16 +1,18 @@
 -- What is taken within was written before, in the same step: nothing is asked of it.
-use Rattle.std.proofs.Common.{◌≡◌, ◌∙◌, ℕ, zero, suc, true, false, List, [], ◌∷◌, ◌++◌, map, refl, sym, ap, subst, arith, inl, inr, append-nil}
+use Rattle.std.proofs.Common.{◌≡◌, ◌∙◌, ℕ, zero, suc, Bool, true, false, List, [], ◌∷◌, ◌++◌, map, refl, sym, ap, subst, arith, inl, inr, append-nil}
 use Rattle.std.specs.Prelude.{Contains, ⊤}
 use Rattle.std.proofs.lemmas.Bool.{cases_Bool, and_parts, eq-eqb, eqb-true}
 use Rattle.std.proofs.lemmas.List.{map-append}
 use Rattle.std.proofs.lemmas.List.Elements.{Contains-append_left, Contains-append_right}
 use Rattle.gq_tag.specs.Tag.{OwnMessage}
 use Rattle.gq_replace.specs.Fleet.{Posted}
-use Rattle.gq_node.specs.Inputs.{Input, Asked, AskedPlan, Brought, Ticked, Looked, Joined as HeardJoined, Fetching, Fetched as WasFetched, does, after_one, after_all, doings}
-use Rattle.gq_node.specs.Local.{Doing}
-use Rattle.gq_node.specs.Nodes.{NodeWorld, Nodes, Event, Came, site_in, site_at, posts, after_doing, after_event, nodes_after, CanCome, AllCanCome}
+use Rattle.gq_node.specs.Inputs.{Input, Asked, AskedPlan, Brought, Shortened, Ticked, Looked, Joined as HeardJoined, Fetching, Fetched as WasFetched, does, after_one, after_all, doings}
+use Rattle.gq_node.specs.Local.{Local, Doing}
+use Rattle.gq_node.specs.Nodes.{NodeWorld, Nodes, Event, Came, site_in, site_at, address, posts, after_doing, after_event, nodes_after, CanCome, AllCanCome}
 use Rattle.gq_node.specs.Sites.{Site}
-use Rattle.gq_parts.specs.Within.{address_in, is_own, own_of, own_letters, brought, hops, within, taken}
+use Rattle.gq_node.proofs.Forming.{shorts_are_written}
+use Rattle.gq_node.proofs.Telling.{contains_map}
+use Rattle.gq_parts.specs.Within.{address_in, is_own, gives_again, letters_by, is_own_by, own_by, first_own, own_of, own_letters, brought, hops, within, taken}
 use Rattle.gq_parts.specs.AllNodes.{InputsCanCome}
 use Rattle.gq_parts.specs.declared.laws.TheConstants.{MOST_HOPS}
 use Rattle.gq_parts.proofs.Taking.{joined_silent, hops_none}
@@ -47,6 +49,38 @@ own_written w nodes n (m ∷ ms) =
       | inl is ↦ (rw is ((0, omega arith, ap (λ z. record { from = n; to = z; letter = m }) (eqb-true (address_in site m) n (and_parts _ _ is).1)), later))
       | inr is ↦ (rw is later)
     ]
+
+-- so are those of a short letter, of what goes out whole: that is among what the law has as written
+posted_among : (w : NodeWorld) (nodes : Nodes) (n : ℕ) (letters : List OwnMessage) (m : OwnMessage) → Contains letters m → address_in (site_at w nodes n) m ≡ n → Contains (posts w nodes n letters) (record { from = n; to = n; letter = m })
+posted_among w nodes n letters m c to =
+    subst (λ z. Contains (posts w nodes n letters) (record { from = n; to = z; letter = m })) to (contains_map (λ letter. record { from = n; to = address w nodes n letter; letter = letter }) letters m c)
+
+own_among : (w : NodeWorld) (nodes : Nodes) (n : ℕ) (again : Bool) (some letters : List OwnMessage) → ((m : OwnMessage) → Contains some m → Contains letters m) → OwnIn (posts w nodes n letters) n (own_by again (site_at w nodes n) some)
+unfolding OwnIn
+own_among w nodes n again [] letters among = tt
+own_among w nodes n again (m ∷ ms) letters among =
+    let site : Site = site_at w nodes n in
+    let later : OwnIn (posts w nodes n letters) n (own_by again site ms) = own_among w nodes n again ms letters (λ x c. among x (Contains-append_right (m ∷ []) ms x c)) in
+    elim (cases_Bool (is_own_by again site m)) [
+      | inl is ↦ (rw is (posted_among w nodes n letters m (among m (0, omega arith, refl)) (goes again is), later))
+      | inr is ↦ (rw is later)
+    ]
+  where
+    goes : (again : Bool) → is_own_by again (site_at w nodes n) m ≡ true → address_in (site_at w nodes n) m ≡ n
+    goes true is = eqb-true (address_in (site_at w nodes n) m) n is
+    goes false is = eqb-true (address_in (site_at w nodes n) m) n (and_parts _ _ is).1
+
+-- what an input gives that is taken within
+first_among : (site : Site) (local : Local) (input : Input) → (m : OwnMessage) → Contains (letters_by site local input) m → Contains (does input site local).letters m
+first_among site local (Asked op line) m c = c
+first_among site local AskedPlan m c = c
+first_among site local (Brought from letter) m c = c
+first_among site local (Shortened from short bytes) m c = (shorts_are_written from short bytes site local).whole m c
+first_among site local (Ticked session) m c = c
+first_among site local Looked m c = c
+first_among site local (HeardJoined from losses) m c = c
+first_among site local (Fetching from file) m c = c
+first_among site local (WasFetched from file copy) m c = c
 
 -- ---- what stays, and what was written, behind inputs of the node
 
@@ -139,22 +173,28 @@ hops_can (suc k) w p n nodes letters plan begun gone own =
 
 -- the word of another node gives no letter; by all else the node stays as it is to others
 first_can : (k : ℕ) (w : NodeWorld) (p n : ℕ) (nodes : Nodes) (input : Input) → nodes.last_plan n ≡ p → CanCome w nodes (Came n input) → after_event w nodes (Came n input) ≡ after_doing w nodes n (does input (site_at w nodes n) (nodes.local n)) →
-    AllCanCome w (after_event w nodes (Came n input)) (map (λ a. Came n a) (hops k (site_in w p n) (after_one (site_in w p n) (nodes.local n) input) (own_letters (site_in w p n) (doings (site_in w p n) (nodes.local n) (input ∷ [])))))
+    AllCanCome w (after_event w nodes (Came n input)) (map (λ a. Came n a) (hops k (site_in w p n) (after_one (site_in w p n) (nodes.local n) input) (first_own (site_in w p n) (nodes.local n) input)))
 first_can k w p n nodes input plan can is =
     let next : Nodes = after_doing w nodes n (does input (site_at w nodes n) (nodes.local n)) in
     let site : Site = site_in w p n in
-    let letters : List OwnMessage = own_letters site (doings site (nodes.local n) (input ∷ [])) in
+    let letters : List OwnMessage = first_own site (nodes.local n) input in
     let one : Behind w p n nodes next (input ∷ []) = behind_doing w p n nodes input plan in
+    let doing : Doing = does input (site_at w nodes n) (nodes.local n) in
+    let posted : OwnIn next.posted n (first_own (site_at w nodes n) (nodes.local n) input) =
+    own_more (posts w nodes n doing.letters) next.posted n (first_own (site_at w nodes n) (nodes.local n) input) (λ x c. Contains-append_right nodes.posted (posts w nodes n doing.letters) x c)
+    (own_among w nodes n (gives_again input) (letters_by (site_at w nodes n) (nodes.local n) input) doing.letters (first_among (site_at w nodes n) (nodes.local n) input)) in
+    let own : OwnIn next.posted n letters = subst (λ q. OwnIn next.posted n (first_own (site_in w q n) (nodes.local n) input)) plan posted in
     let all : AllCanCome w next (map (λ a. Came n a) (hops k site (next.local n) letters)) =
-    hops_can k w p n next letters (one.plan ∙ plan) (one.begun ∙ can.0) (one.gone ∙ can.1) one.own in
+    hops_can k w p n next letters (one.plan ∙ plan) (one.begun ∙ can.0) (one.gone ∙ can.1) own in
     subst (λ x. AllCanCome w x (map (λ a. Came n a) (hops k site (after_one site (nodes.local n) input) letters))) (sym is)
     (subst (λ l. AllCanCome w next (map (λ a. Came n a) (hops k site l letters))) one.local all)
 
 rest_can : (k : ℕ) (w : NodeWorld) (p n : ℕ) (nodes : Nodes) (input : Input) → nodes.last_plan n ≡ p → CanCome w nodes (Came n input) →
-    AllCanCome w (after_event w nodes (Came n input)) (map (λ a. Came n a) (hops k (site_in w p n) (after_one (site_in w p n) (nodes.local n) input) (own_letters (site_in w p n) (doings (site_in w p n) (nodes.local n) (input ∷ [])))))
+    AllCanCome w (after_event w nodes (Came n input)) (map (λ a. Came n a) (hops k (site_in w p n) (after_one (site_in w p n) (nodes.local n) input) (first_own (site_in w p n) (nodes.local n) input)))
 rest_can k w p n nodes (Asked op line) plan can = first_can k w p n nodes (Asked op line) plan can refl
 rest_can k w p n nodes AskedPlan plan can = first_can k w p n nodes AskedPlan plan can refl
 rest_can k w p n nodes (Brought from letter) plan can = first_can k w p n nodes (Brought from letter) plan can refl
+rest_can k w p n nodes (Shortened from short bytes) plan can = first_can k w p n nodes (Shortened from short bytes) plan can refl
 rest_can k w p n nodes (Ticked session) plan can = first_can k w p n nodes (Ticked session) plan can refl
 rest_can k w p n nodes Looked plan can = first_can k w p n nodes Looked plan can refl
 rest_can k w p n nodes (HeardJoined from losses) plan can =
@@ -162,8 +202,8 @@ rest_can k w p n nodes (HeardJoined from losses) plan can =
     let input : Input = HeardJoined from losses in
     let doing : Doing = does input site (nodes.local n) in
     let next : Nodes = after_event w nodes (Came n input) in
-    let none : own_letters site (doings site (nodes.local n) (input ∷ [])) ≡ [] = ap (λ ms. own_of site ms ++ []) (joined_silent from losses site (nodes.local n)).letters in
-    let still : hops k site doing.local (own_letters site (doings site (nodes.local n) (input ∷ []))) ≡ [] = ap (hops k site doing.local) none ∙ hops_none k site doing.local in
+    let none : first_own site (nodes.local n) input ≡ [] = ap (own_of site) (joined_silent from losses site (nodes.local n)).letters in
+    let still : hops k site doing.local (first_own site (nodes.local n) input) ≡ [] = ap (hops k site doing.local) none ∙ hops_none k site doing.local in
     subst (λ xs. AllCanCome w next (map (λ a. Came n a) xs)) (sym still) tt
 rest_can k w p n nodes (Fetching from file) plan can = first_can k w p n nodes (Fetching from file) plan can refl
 rest_can k w p n nodes (WasFetched from file copy) plan can = first_can k w p n nodes (WasFetched from file copy) plan can refl

@@ -214,7 +214,7 @@ asked_goes s i low stands = record {
       let next : Input = Brought 0 (ask (i + 1)) in
       let last : Input = Brought 0 (copy (i + 1) (held_here s)) in
       ap (λ inputs. nodes_after world (nodes_of s i) (came 0 inputs))
-      (within_three home_site (home_of s i) one (ask (i + 1)) (copy (i + 1) (held_here s)) (asked_doing s i) (served_doing s i) (storing_doing s i) (asked_is s i) refl (served_is s i) refl (storing_is s i low stands) refl)
+      (within_three home_site (home_of s i) one (ask (i + 1)) (copy (i + 1) (held_here s)) (asked_doing s i) (served_doing s i) (storing_doing s i) (λ site local. (refl, refl)) (asked_is s i) refl (served_is s i) refl (storing_is s i low stands) refl)
       ∙ ap (λ nodes. after_event world (after_event world nodes (Came 0 next)) (Came 0 last)) (home_asked x.rest x.posted x.home x.other (i + 1) (Write 1 0 0 content) (asked_doing s i) (asked_is s i))
       ∙ ap (λ nodes. after_event world nodes (Came 0 last)) (home_brought y.rest y.posted y.home y.other 0 (ask (i + 1)) (served_doing s i) (served_is s i))
       ∙ home_brought z.rest z.posted z.home z.other 0 (copy (i + 1) (held_here s)) (storing_doing s i) (storing_is s i low stands);
@@ -229,7 +229,7 @@ noted_goes s i low stands = record {
   can = ((stands.first, stands.stays, Contains-append_right z.posted (posts world (shown z) 0 (storing_doing s i).letters) (letter_from 0 0 (store (i + 1) 0)) (0, omega arith, refl)), tt);
   leaves =
       ap (λ inputs. nodes_after world (shown x) (came 0 inputs))
-      (within_two home_site x.home (Brought 0 (store (i + 1) 0)) (stored (i + 1) 0) (kept_doing s i) (noted_doing s i) (kept_is s i low) refl (noted_is s i low) refl)
+      (within_two home_site x.home (Brought 0 (store (i + 1) 0)) (stored (i + 1) 0) (kept_doing s i) (noted_doing s i) (λ site local. (refl, refl)) (kept_is s i low) refl (noted_is s i low) refl)
       ∙ ap (λ nodes. after_event world nodes (Came 0 (Brought 0 (stored (i + 1) 0)))) (home_brought x.rest x.posted x.home x.other 0 (store (i + 1) 0) (kept_doing s i) (kept_is s i low))
       ∙ home_brought y.rest y.posted y.home y.other 0 (stored (i + 1) 0) (noted_doing s i) (noted_is s i low);
 }
@@ -255,7 +255,7 @@ there_goes s i low stands = record {
     tt,
   );
   leaves =
-      ap (λ inputs. nodes_after world (shown v) (came 193 inputs)) (within_one other_site (other_of s) (Brought 0 (store (i + 1) 1)) (kept_there s i) (kept_there_is s i low) refl)
+      ap (λ inputs. nodes_after world (shown v) (came 193 inputs)) (within_one other_site (other_of s) (Brought 0 (store (i + 1) 1)) (kept_there s i) (λ site local. (refl, refl)) (kept_there_is s i low) refl)
       ∙ other_brought v.rest v.posted v.home v.other 0 (store (i + 1) 1) (kept_there s i) (kept_there_is s i low);
 }
   where
@@ -278,7 +278,7 @@ done_goes : (s : Idle) (i : ℕ) → i + 1 < 2 ^ 32 → Stands s i → Goes (sho
 done_goes s i low stands = record {
   can = ((stands.first, stands.stays, Contains-append_right v.posted (posts world (shown v) 193 (kept_there s i).letters) (letter_from 193 0 (stored (i + 1) 1)) (0, omega arith, refl)), tt);
   leaves =
-      ap (λ inputs. nodes_after world (shown x) (came 0 inputs)) (within_one home_site x.home (Brought 193 (stored (i + 1) 1)) (done_doing s i) (done_is s i low) refl)
+      ap (λ inputs. nodes_after world (shown x) (came 0 inputs)) (within_one home_site x.home (Brought 193 (stored (i + 1) 1)) (done_doing s i) (λ site local. (refl, refl)) (done_is s i low) refl)
       ∙ home_brought x.rest x.posted x.home x.other 193 (stored (i + 1) 1) (done_doing s i) (done_is s i low);
 }
   where

@@ -31,7 +31,7 @@ use Rattle.gq_wire.specs.declared.incoming.Incoming.TheVariants.{Joins, Joined, 
 use Rattle.gq_wire.specs.Incoming.{incoming_of}
 use Rattle.gq_wire.specs.Texts.{transfer_line}
 use Rattle.gq_parts.specs.AllNodes.{here_in}
-use Rattle.gq_parts.specs.Inputs.{inputs_of, line_inputs}
+use Rattle.gq_parts.specs.Inputs.{inputs_with, line_inputs_with}
 use Rattle.gq_parts.specs.Steps.{fact_lines, StepsTo}
 use Rattle.gq_parts.specs.Texts.{facts_for, written_for, joins_text, joined_text, node_text, lacks_some}
 use Rattle.gq_parts.specs.Within.{after_taken}
@@ -61,7 +61,7 @@ leads_by n p v w local moves facts told comes gave wrote sees = record {
 pub record Steps (n p : ℕ) (v w : View) (incoming : Incoming) (facts : List Fact) : Type 0 where
   pub told : List ℕ
   pub own : List ℕ
-  pub leads : (local : Local) → Sees n p v local → Leads n p v w (inputs_of grid_worked.plan (here_in grid_worked p n) incoming 0) facts told local
+  pub leads : (bytes : List ℕ) (local : Local) → Sees n p v local → Leads n p v w (inputs_with bytes grid_worked.plan (here_in grid_worked p n) incoming 0) facts told local
   pub own_is : (parts : ℕ → Local) → Sees n p w (parts 0) → node_text grid_worked.plan (here_in grid_worked p n) incoming parts ≡ own
   pub fit : All (FitsFact grid_worked.plan) facts
 
@@ -76,16 +76,16 @@ steps_to n p v w line incoming facts some read sees s = record {
   stand = stand_by n p v some sees;
   facts = facts;
   tenants = s.told;
-  takes = record {
+  takes = λ bytes. record {
     plan = refl;
     here = refl;
-    parts = each;
+    parts = each bytes;
     gives = λ parts agree. (
-        let one : Leads n p v w inputs facts s.told (parts 0) = s.leads (parts 0) (sees_of n p v (parts 0) (agree 0 (omega arith))) in
-        sym (append-nil _ ∙ ap (facts_for plan here 0 (parts 0)) reads ∙ one.facts_are));
+        let one : Leads n p v w (inputs bytes) facts s.told (parts 0) = s.leads bytes (parts 0) (sees_of n p v (parts 0) (agree 0 (omega arith))) in
+        sym (append-nil _ ∙ ap (facts_for plan here 0 (parts 0)) (reads bytes) ∙ one.facts_are));
     tells = λ parts agree. (
-        let one : Leads n p v w inputs facts s.told (parts 0) = s.leads (parts 0) (sees_of n p v (parts 0) (agree 0 (omega arith))) in
-        sym (append-nil _ ∙ ap (written_for plan here 0 (parts 0)) reads ∙ one.told_is));
+        let one : Leads n p v w (inputs bytes) facts s.told (parts 0) = s.leads bytes (parts 0) (sees_of n p v (parts 0) (agree 0 (omega arith))) in
+        sym (append-nil _ ∙ ap (written_for plan here 0 (parts 0)) (reads bytes) ∙ one.told_is));
     fit = s.fit;
   };
   lines_are = refl;
@@ -98,17 +98,17 @@ steps_to n p v w line incoming facts some read sees s = record {
     here : Here
     here = here_in grid_worked p n
 
-    inputs : List Input
-    inputs = inputs_of plan here incoming 0
+    inputs : List ℕ → List Input
+    inputs bytes = inputs_with bytes plan here incoming 0
 
-    reads : line_inputs plan here line 0 ≡ inputs
-    reads = ap (λ x. inputs_of plan here x 0) read
+    reads : (bytes : List ℕ) → line_inputs_with bytes plan here line 0 ≡ inputs bytes
+    reads bytes = ap (λ x. inputs_with bytes plan here x 0) read
 
-    each : (t : ℕ) → t < 1 → (local : Local) → Agrees (tables_of n p v) t local → Agrees (tables_of n p w) t (after_taken (site_of plan here t) local (line_inputs plan here line t))
-    each zero within local agrees =
-        let one : Leads n p v w inputs facts s.told local = s.leads local (sees_of n p v local agrees) in
-        agrees_of n p w _ (subst (λ xs. Sees n p w (after_taken (site n p) local xs)) (sym reads) one.after)
-    each (suc t) within local agrees = absurd (omega arith)
+    each : (bytes : List ℕ) (t : ℕ) → t < 1 → (local : Local) → Agrees (tables_of n p v) t local → Agrees (tables_of n p w) t (after_taken (site_of plan here t) local (line_inputs_with bytes plan here line t))
+    each bytes zero within local agrees =
+        let one : Leads n p v w (inputs bytes) facts s.told local = s.leads bytes local (sees_of n p v local agrees) in
+        agrees_of n p w _ (subst (λ xs. Sees n p w (after_taken (site n p) local xs)) (sym (reads bytes)) one.after)
+    each bytes (suc t) within local agrees = absurd (omega arith)
 
 -- ---- facts that fit
 
@@ -166,7 +166,7 @@ pub joins_steps : (new losses : ℕ) (v : View) → Steps 0 losses v v (Joins ne
 joins_steps new losses v = record {
   told = [];
   own = joined_text grid_worked.plan (here_in grid_worked losses 0) new losses;
-  leads = λ local sees. record { after = sees; facts_are = refl; told_is = refl };
+  leads = λ bytes local sees. record { after = sees; facts_are = refl; told_is = refl };
   own_is = λ parts sees. refl;
   fit = All-nil (FitsFact grid_worked.plan);
 }
@@ -176,7 +176,7 @@ pub joined_steps : (new losses : ℕ) (v : View) → v.joined ≡ record { bits 
 joined_steps new losses v none turn = record {
   told = [];
   own = [];
-  leads = leads;
+  leads = λ bytes. leads;
   own_is = λ parts sees. refl;
   fit = All-nil (FitsFact grid_worked.plan);
 }
@@ -189,7 +189,7 @@ joined_steps new losses v none turn = record {
 
     leads : (local : Local) → Sees new losses v local → Leads new losses v (record v { joined = record { bits = 1 } }) (HeardJoined 0 losses ∷ []) [] [] local
     leads local sees =
-        let moves : List Move = record { input = HeardJoined 0 losses; doing = silently (after local) } ∷ [] in
+        let moves : List Move = record { input = HeardJoined 0 losses; plain = λ site local. (refl, refl); doing = silently (after local) } ∷ [] in
         let is : hears_joined 0 losses at local ≡ silently (after local) = rw turn.joins refl in
         leads_by new losses v (record v { joined = record { bits = 1 } }) local moves [] [] (comes_alone grid_worked.plan (here_in grid_worked losses new) 0 local moves (is, tt) (refl, tt)) refl refl
         (record {
@@ -208,7 +208,7 @@ pub tick_steps : (new losses : ℕ) (v : View) → v.joined ≡ record { bits = 
 tick_steps new losses v joined lacks peer one two turn = record {
   told = transfer_line grid_worked.plan new (CodeWants 0 file_worked) ++ [];
   own = joins_text grid_worked.plan (here_in grid_worked losses new) (awaited at (with_server 0 no_servers));
-  leads = leads;
+  leads = λ bytes. leads;
   own_is = own;
   fit = All-nil (FitsFact grid_worked.plan);
 }
@@ -245,9 +245,9 @@ tick_steps new losses v joined lacks peer one two turn = record {
         let first : (local.residents (session new losses 0)).session.current ≡ None = (is_idle (session new losses 0) v.one (local.residents (session new losses 0)) one sees.one).0 in
         let second : (local.residents (session new losses 1)).session.current ≡ None = (is_idle (session new losses 1) v.two (local.residents (session new losses 1)) two sees.two).0 in
         let moves : List Move =
-        record { input = Ticked (session new losses 0); doing = silently local }
-        ∷ record { input = Ticked (session new losses 1); doing = silently local }
-        ∷ record { input = Looked; doing = asks local }
+        record { input = Ticked (session new losses 0); plain = λ site local. (refl, refl); doing = silently local }
+        ∷ record { input = Ticked (session new losses 1); plain = λ site local. (refl, refl); doing = silently local }
+        ∷ record { input = Looked; plain = λ site local. (refl, refl); doing = asks local }
         ∷ [] in
         let a : ticks (session new losses 0) at local ≡ silently local = rw first refl in
         let b : ticks (session new losses 1) at local ≡ silently local = rw second refl in
@@ -270,7 +270,7 @@ pub fetch_steps : (new losses : ℕ) (v : View) → v.given ≡ [] → IsTurn ne
 fetch_steps new losses v has turn = record {
   told = transfer_line grid_worked.plan 0 (CodeBrings new file_worked v.copy) ++ [];
   own = [];
-  leads = leads;
+  leads = λ bytes. leads;
   own_is = λ parts sees. refl;
   fit = All-nil (FitsFact grid_worked.plan);
 }
@@ -286,7 +286,7 @@ fetch_steps new losses v has turn = record {
         let there : has_file local file ≡ true =
         ap (λ (vs : List VolumeRow). is_some (limit_at (state_of everyone (record local { volumes = vs })) 0 0) && not (local.lacks file)) (sym sees.volumes)
         ∙ ap not (sym (sees.lacks file) ∙ ap (λ g. lacks_in g file) has) in
-        let moves : List Move = record { input = Fetching new file; doing = gave local } ∷ [] in
+        let moves : List Move = record { input = Fetching new file; plain = λ site local. (refl, refl); doing = gave local } ∷ [] in
         let is : gives new file at local ≡ gave local = rw (turn.peer_there, there) refl in
         leads_by 0 losses v v local moves [] (transfer_line grid_worked.plan 0 (CodeBrings new file_worked v.copy) ++ [])
         (comes_alone grid_worked.plan (here_in grid_worked losses 0) 0 local moves (is, tt) (refl, tt)) refl
@@ -306,7 +306,7 @@ pub fetched_steps : (new losses : ℕ) (v : View) → v.copy ≡ first_copy → 
 fetched_steps new losses v first lacks turn = record {
   told = [];
   own = [];
-  leads = leads;
+  leads = λ bytes. leads;
   own_is = λ parts sees. refl;
   fit = fits_one (Had file first_copy) (omega arith, omega arith, (omega arith, omega arith, λ i. omega arith));
 }
@@ -326,7 +326,7 @@ fetched_steps new losses v first lacks turn = record {
         let fits : file_fits (limit_at (state_of everyone local) 0 0) (Store first_copy) ≡ true =
         ap (λ (vs : List VolumeRow). file_fits (limit_at (state_of everyone (record local { volumes = vs })) 0 0) (Store first_copy)) (sym sees.volumes) in
         let none : first_lacked (given file first_copy local) ≡ None = ap (λ (vs : List VolumeRow). first_among (given file first_copy local).lacks vs) (sym sees.volumes) ∙ (rw lacked refl) in
-        let moves : List Move = record { input = WasFetched 0 file first_copy; doing = took local } ∷ [] in
+        let moves : List Move = record { input = WasFetched 0 file first_copy; plain = λ site local. (refl, refl); doing = took local } ∷ [] in
         let is : takes 0 file first_copy at local ≡ took local = rw (turn.peer, lacked, fits, none) refl in
         leads_by new losses v w local moves (fact_of 0 (Had file first_copy) ∷ []) [] (comes_alone grid_worked.plan (here_in grid_worked losses new) 0 local moves (is, tt) (refl, tt)) refl refl
         (record {

@@ -26,13 +26,15 @@ use Rattle.gq_model.specs.Lone.{entry_of}
 use Rattle.gq_cluster.specs.Facts.{OwnFact, Reserved, reserving, reserved_by, replaced_in}
 use Rattle.gq_laws.proofs.Holding.{greatest-push}
 use Rattle.gq_node.specs.declared.output.Answer.TheVariants.{Done}
+use Rattle.gq_node.specs.declared.shorts.ShortBody.TheVariants.{Confirm}
+use Rattle.gq_node.specs.Shorts.{short_with, short_as}
 use Rattle.gq_node.specs.declared.session_states.SessionState.{SessionState}
 use Rattle.gq_node.specs.Inputs.{Input, Asked, Brought, does}
 use Rattle.gq_node.specs.Lacks.{lacks_in}
 use Rattle.gq_node.specs.Local.{Local, Resident, Doing, state_for, goes_on, serves, copy_fits}
 use Rattle.gq_node.specs.Tables.{SessionStateAgrees, Sits, fact_of}
 use Rattle.gq_wire.specs.declared.incoming.Incoming.TheVariants.{Request, Letter}
-use Rattle.gq_wire.specs.Texts.{told_line}
+use Rattle.gq_wire.specs.Texts.{told_line, short_line}
 use Rattle.gq_parts.specs.AllNodes.{here_in}
 use Rattle.gq_parts.specs.Texts.{sent_line}
 use Rattle.gq_parts.specs.Worked.{grid_worked, file_worked, content, written}
@@ -242,7 +244,7 @@ pub asked_steps : (i : ℕ) (s : Rest) → i + 1 < 2 ^ 32 → s.copy.tag.number 
 asked_steps i s low number fits = record {
   told = told;
   own = [];
-  leads = leads;
+  leads = λ bytes. leads;
   own_is = λ parts sees. refl;
   fit = fits_options facts (first_fits i s.reserved low, (next_fits i (begun_by i s.reserved) low, tt));
 }
@@ -251,7 +253,7 @@ asked_steps i s low number fits = record {
     facts = asked_facts i s.reserved
 
     told : List ℕ
-    told = (flat_map (sent_line grid_worked.plan (here_in grid_worked 3 0)) (message_of 0 (store (i + 1) 0) ∷ message_of 0 (store (i + 1) 1) ∷ []) ++ []) ++ []
+    told = ((short_line grid_worked.plan 0 0 (short_with 0 (short_as (store (i + 1) 0) (Confirm (written (i + 1)).tag))) ++ (sent_line grid_worked.plan (here_in grid_worked 3 0) (message_of 0 (store (i + 1) 1)) ++ [])) ++ []) ++ []
 
     w : View
     w = busy_view (i + 1) s.copy (reserved_behind i s.reserved) (record { bits = 0 }) s.two
@@ -270,15 +272,15 @@ asked_steps i s low number fits = record {
         let a : Doing = goes_on h 1 (i + 1) false state (entry_of state (Own (Write 1 0 0 content)) (record { told = Began (i + 1) 0 1; new = ask (i + 1) ∷ [] })) in
         let b : Doing = serves home_site a.local (ask (i + 1)) in
         let d : Doing = storing i c b.local in
-        let moves : List Move = record { input = one; doing = a } ∷ record { input = Brought 0 (ask (i + 1)); doing = b } ∷ record { input = Brought 0 (copy (i + 1) c); doing = d } ∷ [] in
+        let moves : List Move = record { input = one; plain = λ site local. (refl, refl); doing = a } ∷ record { input = Brought 0 (ask (i + 1)); plain = λ site local. (refl, refl); doing = b } ∷ record { input = Brought 0 (copy (i + 1) c); plain = λ site local. (refl, refl); doing = d } ∷ [] in
         let a_is : does one home_site h ≡ a = asked_step_is i q.session.round local.brought local.joined local.peer local.residents q.session.heard q.session.collected s.reserved s.outcome s.waited in
         let b_is : does (Brought 0 (ask (i + 1))) home_site a.local ≡ b = refl in
         let d_is : does (Brought 0 (copy (i + 1) c)) home_site b.local ≡ d =
         copy_step_is i c b.local.brought b.local.joined b.local.peer h.residents (b.local.residents 1).reserved None false low (ap (λ (x : StoredCopy). x.tag.number) (sym sees.copy) ∙ number) (ap (copy_fits 64) (sym sees.copy) ∙ fits) in
         let comes : Comes grid_worked.plan (here_in grid_worked 3 0) 0 h (one ∷ []) moves =
         comes_one grid_worked.plan (here_in grid_worked 3 0) 0 h one moves
-        (within_three home_site h one (ask (i + 1)) (copy (i + 1) c) a b d a_is refl b_is refl d_is refl)
-        (left_three home_site h one (ask (i + 1)) (copy (i + 1) c) a b d a_is refl b_is refl d_is refl) (a_is, (b_is, (d_is, tt))) in
+        (within_three home_site h one (ask (i + 1)) (copy (i + 1) c) a b d (λ site local. (refl, refl)) a_is refl b_is refl d_is refl)
+        (left_three home_site h one (ask (i + 1)) (copy (i + 1) c) a b d (λ site local. (refl, refl)) a_is refl b_is refl d_is refl) (a_is, (b_is, (d_is, tt))) in
         let at : Leads 0 3 (idle_view i s) w (one ∷ []) (map (fact_of 0) (flat_map option_to_list facts)) told h = record {
           after = subst (Sees 0 3 w) (sym comes.after) (record {
             volumes = refl;
@@ -316,7 +318,7 @@ pub kept_steps : (i : ℕ) (c : StoredCopy) (reserved : Reserved) (two : Session
 kept_steps i c reserved two low = record {
   told = [];
   own = [];
-  leads = leads;
+  leads = λ bytes. leads;
   own_is = λ parts sees. refl;
   fit = fits_options facts (kept_fits c i low, tt);
 }
@@ -343,12 +345,12 @@ kept_steps i c reserved two low = record {
         let is : local ≡ h = home_is c (busy_one (i + 1) reserved (record { bits = 0 })) two local r sees (its.is ∙ ap (λ heard. writing (i + 1) (i + 1) 2 heard (written (i + 1) ∷ []) reserved None false) none) in
         let a : Doing = serves home_site h (store (i + 1) 0) in
         let b : Doing = noted i a.local in
-        let moves : List Move = record { input = one; doing = a } ∷ record { input = Brought 0 (stored (i + 1) 0); doing = b } ∷ [] in
+        let moves : List Move = record { input = one; plain = λ site local. (refl, refl); doing = a } ∷ record { input = Brought 0 (stored (i + 1) 0); plain = λ site local. (refl, refl); doing = b } ∷ [] in
         let a_is : does one home_site h ≡ a = home_stores i local.brought local.joined local.peer local.residents r low in
         let b_is : does (Brought 0 (stored (i + 1) 0)) home_site a.local ≡ b = own_stored i a.local.brought a.local.joined a.local.peer local.residents reserved None false low in
         let comes : Comes grid_worked.plan (here_in grid_worked 3 0) 0 h (one ∷ []) moves =
         comes_one grid_worked.plan (here_in grid_worked 3 0) 0 h one moves
-        (within_two home_site h one (stored (i + 1) 0) a b a_is refl b_is refl) (left_two home_site h one (stored (i + 1) 0) a b a_is refl b_is refl) (a_is, (b_is, tt)) in
+        (within_two home_site h one (stored (i + 1) 0) a b (λ site local. (refl, refl)) a_is refl b_is refl) (left_two home_site h one (stored (i + 1) 0) a b (λ site local. (refl, refl)) a_is refl b_is refl) (a_is, (b_is, tt)) in
         let at : Leads 0 3 v w (one ∷ []) (map (fact_of 0) (flat_map option_to_list facts)) [] h = record {
           after = subst (Sees 0 3 w) (sym comes.after) (record {
             volumes = refl;
@@ -375,7 +377,7 @@ pub other_steps : (i : ℕ) (v : View) → i + 1 < 2 ^ 32 → v.given ≡ (true 
 other_steps i v low given = record {
   told = told;
   own = [];
-  leads = leads;
+  leads = λ bytes. leads;
   own_is = λ parts sees. refl;
   fit = fits_options facts (kept_fits v.copy i low, tt);
 }
@@ -397,7 +399,7 @@ other_steps i v low given = record {
         let h : Local = other_local local.brought local.lacks local.joined local.peer local.residents in
         let is : local ≡ h = other_is v local given sees in
         let a : Doing = serves other_site h (store (i + 1) 1) in
-        let moves : List Move = record { input = one; doing = a } ∷ [] in
+        let moves : List Move = record { input = one; plain = λ site local. (refl, refl); doing = a } ∷ [] in
         let a_is : does one other_site h ≡ a = other_stores i local.brought local.lacks local.joined local.peer local.residents low in
         let comes : Comes grid_worked.plan (here_in grid_worked 3 193) 0 h (one ∷ []) moves = comes_alone grid_worked.plan (here_in grid_worked 3 193) 0 h moves (a_is, tt) (refl, tt) in
         let at : Leads 193 3 v w (one ∷ []) (map (fact_of 0) (flat_map option_to_list facts)) told h = record {
@@ -435,7 +437,7 @@ pub done_steps : (i : ℕ) (c : StoredCopy) (reserved : Reserved) (two : Session
 done_steps i c reserved two low = record {
   told = told;
   own = [];
-  leads = leads;
+  leads = λ bytes. leads;
   own_is = λ parts sees. refl;
   fit = fits_options [] tt;
 }
@@ -462,7 +464,7 @@ done_steps i c reserved two low = record {
         let h : Local = home_with local (writing (i + 1) (i + 1) 2 q.session.heard (written (i + 1) ∷ []) reserved None false) in
         let is : local ≡ h = home_is c (busy_one (i + 1) reserved (record { bits = 1 })) two local (writing (i + 1) (i + 1) 2 q.session.heard (written (i + 1) ∷ []) reserved None false) sees its.is in
         let a : Doing = done i h in
-        let moves : List Move = record { input = one; doing = a } ∷ [] in
+        let moves : List Move = record { input = one; plain = λ site local. (refl, refl); doing = a } ∷ [] in
         let a_is : does one home_site h ≡ a = last_stored i q.session.heard local.brought local.joined local.peer local.residents reserved low (sym first_set_is ∙ its.heard_is) in
         let comes : Comes grid_worked.plan (here_in grid_worked 3 0) 0 h (one ∷ []) moves = comes_alone grid_worked.plan (here_in grid_worked 3 0) 0 h moves (a_is, tt) (refl, tt) in
         let at : Leads 0 3 v w (one ∷ []) [] told h = record {

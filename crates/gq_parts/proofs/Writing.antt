@@ -24,9 +24,9 @@ use Rattle.gq_node.specs.Nodes.{NodeWorld, Nodes, Came, site_in, posts, after_do
 use Rattle.gq_node.specs.Sites.{Site}
 use Rattle.gq_replace.specs.Fleet.{Posted}
 use Rattle.gq_parts.specs.AllNodes.{world_at}
-use Rattle.gq_parts.specs.Within.{own_of, hops, within}
+use Rattle.gq_parts.specs.Within.{gives_again, own_by, first_own, own_of, hops, within}
 use Rattle.gq_parts.specs.Worked.{grid_worked, content, written, letter_worked}
-use Rattle.gq_parts.proofs.Taking.{hops_none}
+use Rattle.gq_parts.proofs.Taking.{hops_none, IsPlain}
 
 abbrev pub world : NodeWorld
 world = world_at grid_worked 0
@@ -213,12 +213,13 @@ other_stored i copies joined peer others reserved outcome waited low = rw (above
 
 -- ---- what is taken within
 
-first_hop : (site : Site) (local : Local) (x : Input) (doing : Doing) (ms : List OwnMessage) → does x site local ≡ doing → own_of site doing.letters ≡ ms → within site local x ≡ x ∷ hops 8 site doing.local ms
+first_hop : (site : Site) (local : Local) (x : Input) (doing : Doing) (ms : List OwnMessage) → IsPlain x → does x site local ≡ doing → own_by (gives_again x) site doing.letters ≡ ms →
+    within site local x ≡ x ∷ hops 8 site doing.local ms
 unfolding within
-first_hop site local x doing ms is own = ap (λ rest. x ∷ rest) (λ i. hops 8 site (is i).local (e i))
+first_hop site local x doing ms plain is own = ap (λ rest. x ∷ rest) (λ i. hops 8 site (is i).local (e i))
   where
-    e : own_of site (does x site local).letters ++ [] ≡ ms
-    e = ap (λ (d : Doing). own_of site d.letters ++ []) is ∙ ap (λ z. z ++ []) own ∙ append-nil ms
+    e : first_own site local x ≡ ms
+    e = ap (own_by (gives_again x) site) ((plain site local).0 ∙ ap (λ (d : Doing). d.letters) is) ∙ own
 
 one_hop : (n : ℕ) (site : Site) (local : Local) (m : OwnMessage) (doing : Doing) (ms : List OwnMessage) → does (Brought site.here m) site local ≡ doing → own_of site doing.letters ≡ ms →
     hops (suc n) site local (m ∷ []) ≡ Brought site.here m ∷ hops n site doing.local ms
@@ -228,18 +229,19 @@ one_hop n site local m doing ms is own = ap (λ rest. Brought site.here m ∷ re
     e : own_of site (does (Brought site.here m) site local).letters ++ [] ≡ ms
     e = ap (λ (d : Doing). own_of site d.letters ++ []) is ∙ ap (λ z. z ++ []) own ∙ append-nil ms
 
-pub within_one : (site : Site) (local : Local) (x : Input) (doing : Doing) → does x site local ≡ doing → own_of site doing.letters ≡ [] → within site local x ≡ x ∷ []
-within_one site local x doing is own = first_hop site local x doing [] is own ∙ ap (λ rest. x ∷ rest) (hops_none 8 site doing.local)
+pub within_one : (site : Site) (local : Local) (x : Input) (doing : Doing) → IsPlain x → does x site local ≡ doing → own_by (gives_again x) site doing.letters ≡ [] → within site local x ≡ x ∷ []
+within_one site local x doing plain is own = first_hop site local x doing [] plain is own ∙ ap (λ rest. x ∷ rest) (hops_none 8 site doing.local)
 
-pub within_two : (site : Site) (local : Local) (x : Input) (m : OwnMessage) (one two : Doing) → does x site local ≡ one → own_of site one.letters ≡ m ∷ [] → does (Brought site.here m) site one.local ≡ two → own_of site two.letters ≡ [] →
-    within site local x ≡ x ∷ Brought site.here m ∷ []
-within_two site local x m one two is own also none =
-    first_hop site local x one (m ∷ []) is own ∙ ap (λ rest. x ∷ rest) (one_hop 7 site one.local m two [] also none ∙ ap (λ rest. Brought site.here m ∷ rest) (hops_none 7 site two.local))
+pub within_two : (site : Site) (local : Local) (x : Input) (m : OwnMessage) (one two : Doing) → IsPlain x → does x site local ≡ one → own_by (gives_again x) site one.letters ≡ m ∷ [] →
+    does (Brought site.here m) site one.local ≡ two → own_of site two.letters ≡ [] → within site local x ≡ x ∷ Brought site.here m ∷ []
+within_two site local x m one two plain is own also none =
+    first_hop site local x one (m ∷ []) plain is own ∙ ap (λ rest. x ∷ rest) (one_hop 7 site one.local m two [] also none ∙ ap (λ rest. Brought site.here m ∷ rest) (hops_none 7 site two.local))
 
-pub within_three : (site : Site) (local : Local) (x : Input) (m k : OwnMessage) (one two three : Doing) → does x site local ≡ one → own_of site one.letters ≡ m ∷ [] → does (Brought site.here m) site one.local ≡ two → own_of site two.letters ≡ k ∷ [] →
-    does (Brought site.here k) site two.local ≡ three → own_of site three.letters ≡ [] → within site local x ≡ x ∷ Brought site.here m ∷ Brought site.here k ∷ []
-within_three site local x m k one two three is own also more last none =
-    first_hop site local x one (m ∷ []) is own
+pub within_three : (site : Site) (local : Local) (x : Input) (m k : OwnMessage) (one two three : Doing) → IsPlain x → does x site local ≡ one → own_by (gives_again x) site one.letters ≡ m ∷ [] →
+    does (Brought site.here m) site one.local ≡ two → own_of site two.letters ≡ k ∷ [] → does (Brought site.here k) site two.local ≡ three → own_of site three.letters ≡ [] →
+    within site local x ≡ x ∷ Brought site.here m ∷ Brought site.here k ∷ []
+within_three site local x m k one two three plain is own also more last none =
+    first_hop site local x one (m ∷ []) plain is own
     ∙ ap (λ rest. x ∷ rest) (one_hop 7 site one.local m two (k ∷ []) also more ∙ ap (λ rest. Brought site.here m ∷ rest) (one_hop 6 site two.local k three [] last none ∙ ap (λ rest. Brought site.here k ∷ rest) (hops_none 6 site three.local)))
 
 -- ---- all nodes

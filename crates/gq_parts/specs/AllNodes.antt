@@ -25,7 +25,7 @@ use Rattle.gq_wire.specs.declared.incoming.Incoming.{Incoming}
 use Rattle.gq_wire.specs.declared.incoming.Incoming.TheVariants.{Joins}
 use Rattle.gq_wire.specs.Incoming.{incoming_of}
 use Rattle.gq_parts.specs.Within.{within, taken}
-use Rattle.gq_parts.specs.Inputs.{inputs_of, line_inputs}
+use Rattle.gq_parts.specs.Inputs.{inputs_with, line_inputs_with}
 use Rattle.gq_parts.specs.Texts.{written_by, parts_after, line_text_of}
 use Rattle.gq_parts.specs.Recalls.{RecallsTo, facts_said}
 use Rattle.gq_parts.specs.Resting.{IsNewNode}
@@ -98,8 +98,9 @@ AllNew nodes = (n : ℕ) → (nodes.begun n ≡ false) × (nodes.kept n ≡ [])
 -- ---- what happens
 
 pub data Happening : Type 0 where
-  -- a line came to the node, which was started with plan p, gave these lines of facts and told this
-  Took : (node p : ℕ) (did : Did) → Happening
+  -- A line came to the node, which was started with plan p, gave these lines of facts and told this. If it brought a letter in a short form, the copy
+  -- that this stands for has this content.
+  Took : (node p : ℕ) (bytes : List ℕ) (did : Did) → Happening
   -- the node is started, for the first time or again, with plan p
   Starts : (node p : ℕ) → Happening
   -- the node's journal is written anew: with the plan that it was started with last, and these facts
@@ -107,7 +108,7 @@ pub data Happening : Type 0 where
 
 -- the node
 abbrev pub node_in : Happening → ℕ
-node_in (Took n p did) = n
+node_in (Took n p bytes did) = n
 node_in (Starts n p) = n
 node_in (Renews n facts) = n
 
@@ -153,7 +154,7 @@ pub record TakesNewJournal (n : ℕ) (facts : List Fact) (old new : AllNodes) : 
   pub still : IsStarted n (old.last_plan n) (old.last_plan n) new
 
 abbrev pub GoesBy : GridPlans → Happening → (old new : AllNodes) → Type 0
-GoesBy g (Took n p did) old new = TakesStep n p did old new
+GoesBy g (Took n p bytes did) old new = TakesStep n p did old new
 GoesBy g (Starts n p) old new = TakesStart g n p old new
 GoesBy g (Renews n facts) old new = TakesNewJournal n facts old new
 
@@ -178,12 +179,12 @@ AllHappen g first (h ∷ hs) last = (next : AllNodes) × Happens g first h next 
 
 -- What comes to the node, as events of the tenant at place t, where the nodes are these: what comes from outside, each with what is taken within
 -- behind it.
-abbrev pub came_events : GridPlans → (p n t : ℕ) → Nodes → Incoming → List Event
-came_events g p n t nodes (Joins from losses) = AskedToJoin n from losses ∷ []
-came_events g p n t nodes incoming = map (λ input. Came n input) (taken (site_at (world_at g t) nodes n) (nodes.local n) (inputs_of g.plan (here_in g p n) incoming t))
+abbrev pub came_events : GridPlans → (p n : ℕ) → (bytes : List ℕ) → (t : ℕ) → Nodes → Incoming → List Event
+came_events g p n bytes t nodes (Joins from losses) = AskedToJoin n from losses ∷ []
+came_events g p n bytes t nodes incoming = map (λ input. Came n input) (taken (site_at (world_at g t) nodes n) (nodes.local n) (inputs_with bytes g.plan (here_in g p n) incoming t))
 
 abbrev pub events_of : GridPlans → (t : ℕ) → Nodes → Happening → List Event
-events_of g t nodes (Took n p did) = came_events g p n t nodes (incoming_of g.plan n did.line)
+events_of g t nodes (Took n p bytes did) = came_events g p n bytes t nodes (incoming_of g.plan n did.line)
 events_of g t nodes (Starts n p) = Started n p ∷ []
 events_of g t nodes (Renews n facts) = []
 
@@ -202,18 +203,18 @@ nodes_at g hs t = nodes_after (world_at g t) (new_nodes (world_at g t)) (all_eve
 -- ---- what may come by lines
 
 -- Of what comes to the node from outside each may come, where what is taken within behind it was taken. Nothing is asked of that: the node itself wrote
--- it, in the same step.
+-- it, in the same step. So a letter in a short form can come where it was written, whole or in that form, with the content that its copy then had.
 abbrev pub InputsCanCome : NodeWorld → (n : ℕ) → Nodes → List Input → Type 0
 InputsCanCome w n nodes [] = ⊤
 InputsCanCome w n nodes (input ∷ rest) =
     CanCome w nodes (Came n input) × InputsCanCome w n (nodes_after w nodes (map (λ a. Came n a) (within (site_at w nodes n) (nodes.local n) input))) rest
 
-abbrev pub IncomingCanCome : GridPlans → (p n t : ℕ) → Nodes → Incoming → Type 0
-IncomingCanCome g p n t nodes (Joins from losses) = CanCome (world_at g t) nodes (AskedToJoin n from losses)
-IncomingCanCome g p n t nodes incoming = InputsCanCome (world_at g t) n nodes (inputs_of g.plan (here_in g p n) incoming t)
+abbrev pub IncomingCanCome : GridPlans → (p n : ℕ) → (bytes : List ℕ) → (t : ℕ) → Nodes → Incoming → Type 0
+IncomingCanCome g p n bytes t nodes (Joins from losses) = CanCome (world_at g t) nodes (AskedToJoin n from losses)
+IncomingCanCome g p n bytes t nodes incoming = InputsCanCome (world_at g t) n nodes (inputs_with bytes g.plan (here_in g p n) incoming t)
 
 abbrev pub HappeningCanCome : GridPlans → (t : ℕ) → Nodes → Happening → Type 0
-HappeningCanCome g t nodes (Took n p did) = IncomingCanCome g p n t nodes (incoming_of g.plan n did.line)
+HappeningCanCome g t nodes (Took n p bytes did) = IncomingCanCome g p n bytes t nodes (incoming_of g.plan n did.line)
 HappeningCanCome g t nodes (Starts n p) = CanCome (world_at g t) nodes (Started n p)
 HappeningCanCome g t nodes (Renews n facts) = ⊤
 
@@ -245,10 +246,10 @@ pub record AreNodes (g : GridPlans) (nodes : AllNodes) (t : ℕ) (by_law : Nodes
 -- What a line tells, after these happenings, is what is written for the tenants by the parts that its node then has by the law, and behind it what the
 -- node itself writes to other nodes.
 abbrev pub TellsAt : GridPlans → List Happening → Happening → Type 0
-TellsAt g before (Took n p did) =
+TellsAt g before (Took n p bytes did) =
     did.told
-    ≡ written_by g.plan (here_in g p n) (λ t. (nodes_at g before t).local n) (line_inputs g.plan (here_in g p n) did.line)
-    ++ line_text_of g.plan (here_in g p n) did.line (parts_after g.plan (here_in g p n) (λ t. (nodes_at g before t).local n) (line_inputs g.plan (here_in g p n) did.line))
+    ≡ written_by g.plan (here_in g p n) (λ t. (nodes_at g before t).local n) (line_inputs_with bytes g.plan (here_in g p n) did.line)
+    ++ line_text_of g.plan (here_in g p n) did.line (parts_after g.plan (here_in g p n) (λ t. (nodes_at g before t).local n) (line_inputs_with bytes g.plan (here_in g p n) did.line))
 TellsAt g before (Starts n p) = Unit {0}
 TellsAt g before (Renews n facts) = Unit {0}
 
@@ -293,15 +294,16 @@ pub record IsByLaw (g : GridPlans) (hs : List Happening) (last : AllNodes) : Typ
 abbrev pub AllByLaw : Type 0
 AllByLaw = (g : GridPlans) (first last : AllNodes) (hs : List Happening) → AreSound g → AllNew first → AllHappen g first hs last → IsByLaw g hs last
 
--- What the calls of a node promise of one node, here of node n, is what happens to all: of a step, of a start, and of a journal that is written anew.
+-- What the calls of a node promise of one node, here of node n, is what happens to all: of a step, whatever content a letter in a short form has, of a
+-- start, and of a journal that is written anew.
 pub record CanHappen (g : GridPlans) (old : AllNodes) (h : Happening) (tables : Tables) : Type 0 where
   pub new : AllNodes
   pub happens : Happens g old h new
   pub tables_are : new.tables (node_in h) ≡ tables
 
 abbrev pub AllStepsHappen : Type 0
-AllStepsHappen = (g : GridPlans) (old : AllNodes) (n : ℕ) (did : Did) (tables : Tables) → old.begun n ≡ true → StepsTo (old.tables n) did.line did.facts did.told tables →
-    CanHappen g old (Took n (old.last_plan n) did) tables
+AllStepsHappen = (g : GridPlans) (old : AllNodes) (n : ℕ) (bytes : List ℕ) (did : Did) (tables : Tables) → old.begun n ≡ true → StepsTo (old.tables n) did.line did.facts did.told tables →
+    CanHappen g old (Took n (old.last_plan n) bytes did) tables
 
 abbrev pub AllStartsHappen : Type 0
 AllStartsHappen = (g : GridPlans) (old : AllNodes) (n p : ℕ) (tables : Tables) → HasNode g p n → (old.begun n ≡ true → old.last_plan n ≤ p) →

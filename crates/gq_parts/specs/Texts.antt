@@ -1,5 +1,5 @@
 -- What a node writes for a tenant, and what it must not forget, by what comes to the tenant's part.
-use Rattle.std.specs.Prelude.{ℕ, List, [], ◌∷◌, ◌++◌, length, map, Bool, ◌*◌, ◌==◌, nat_lt, Option, Some, None, option_map, if◌then◌else◌}
+use Rattle.std.specs.Prelude.{ℕ, List, [], ◌∷◌, ◌++◌, length, map, Bool, false, ◌*◌, ◌==◌, nat_lt, Option, Some, None, option_map, if◌then◌else◌}
 use Rattle.std.specs.List.{flat_map, range_with_len, list_any}
 use Rattle.std.specs.Option.{option_to_list}
 use Rattle.gq_tag.specs.declared.Message.{Message}
@@ -10,9 +10,12 @@ use Rattle.gq_cluster.specs.Facts.{OwnFact}
 use Rattle.gq_node.specs.declared.output.Answer.{Answer}
 use Rattle.gq_node.specs.declared.output.Fact.{Fact}
 use Rattle.gq_node.specs.Inputs.{Input, does, after_all, doings}
-use Rattle.gq_node.specs.Local.{Local, Doing}
+use Rattle.gq_node.specs.Local.{Local}
 use Rattle.gq_node.specs.declared.output.Transfer.{Transfer}
 use Rattle.gq_node.specs.Joining.{tells_joined, awaited, lacked_files}
+use Rattle.gq_node.specs.declared.shorts.Short.{Short}
+use Rattle.gq_node.specs.Shorts.{OwnShort, short_with, body_with, short_form}
+use Rattle.gq_node.specs.ShortSteps.{whole_of}
 use Rattle.gq_replace.specs.Plans.{node_at}
 use Rattle.gq_node.specs.Sites.{Here, Site, site_of, plan_in, address_of}
 use Rattle.gq_node.specs.Tables.{fact_of, transfer_of}
@@ -20,9 +23,9 @@ use Rattle.gq_wire.specs.declared.incoming.Incoming.{Incoming}
 use Rattle.gq_wire.specs.declared.incoming.TheConstants.{LINE_FORM}
 use Rattle.gq_wire.specs.declared.incoming.Incoming.TheVariants.{Joins, Tick, Greet}
 use Rattle.gq_wire.specs.Incoming.{incoming_of}
-use Rattle.gq_wire.specs.Texts.{told_line, letter_line, transfer_line, joins_line, joined_line, speaks_line}
+use Rattle.gq_wire.specs.Texts.{told_line, letter_line, short_line, transfer_line, joins_line, joined_line, speaks_line}
 use Rattle.gq_parts.specs.Inputs.{asked_in}
-use Rattle.gq_parts.specs.Within.{others_of, within, left, taken, after_taken}
+use Rattle.gq_parts.specs.Within.{gives_again, letters_by, reply_by, others_by, within, left, taken, after_taken}
 
 -- ---- by one step, for the tenant at place t
 
@@ -31,38 +34,62 @@ abbrev pub answer_text : CheckedPlan → Here → (t : ℕ) → Line → Option 
 answer_text plan here t asked None = []
 answer_text plan here t asked (Some answer) = told_line plan here.node t asked answer
 
--- the line of a letter, to the node that it goes to
+-- the line of a letter that goes whole, to the node that it goes to
 abbrev pub sent_line : CheckedPlan → Here → Message → List ℕ
 sent_line plan here m = letter_line plan (address_of plan here m) here.node m
+
+-- and in this short form, if it has one
+abbrev pub formed_line : CheckedPlan → Here → Message → Option Short → List ℕ
+formed_line plan here m None = sent_line plan here m
+formed_line plan here m (Some s) = short_line plan (address_of plan here m) here.node s
+
+-- the form in which a part, as it then is, writes a letter: what goes out once more goes whole
+abbrev pub form_by : (again : Bool) → Site → Local → OwnMessage → Option OwnShort
+form_by again site local m = if again then None else short_form site local m
+
+-- so the line of the letter, and of letters
+abbrev pub letter_text : CheckedPlan → Here → (t : ℕ) → (again : Bool) → Local → OwnMessage → List ℕ
+letter_text plan here t again local m = formed_line plan here (message_of t m) (option_map (short_with t) (form_by again (site_of plan here t) local m))
+
+abbrev pub letters_text : CheckedPlan → Here → (t : ℕ) → (again : Bool) → Local → List OwnMessage → List ℕ
+letters_text plan here t again local letters = flat_map (letter_text plan here t again local) letters
+
+-- the line of a short reply, if there is one
+abbrev pub reply_text : CheckedPlan → Here → Option Short → List ℕ
+reply_text plan here None = []
+reply_text plan here (Some s) = short_line plan (address_of plan here (whole_of s (body_with [] s.body))) here.node s
 
 -- the line of a transfer, if there is one
 abbrev pub transfer_text : CheckedPlan → Here → Option Transfer → List ℕ
 transfer_text plan here None = []
 transfer_text plan here (Some transfer) = transfer_line plan here.node transfer
 
--- the line to the tenant first, then the letters and the transfer
-abbrev pub step_text : CheckedPlan → Here → (t : ℕ) → Line → Option Answer → List Message → Option Transfer → List ℕ
-step_text plan here t asked answer letters transfer = answer_text plan here t asked answer ++ (flat_map (sent_line plan here) letters ++ transfer_text plan here transfer)
+-- the line to the tenant first, then those of letters, and the transfer
+abbrev pub step_text : CheckedPlan → Here → (t : ℕ) → Line → Option Answer → (letters : List ℕ) → Option Transfer → List ℕ
+step_text plan here t asked answer letters transfer = answer_text plan here t asked answer ++ (letters ++ transfer_text plan here transfer)
 
--- of a step, the letters that go by lines: the others are taken within
-abbrev pub doing_text : CheckedPlan → Here → (t : ℕ) → Input → Doing → List ℕ
-doing_text plan here t input doing =
-    step_text plan here t (asked_in input) doing.answer (map (message_of t) (others_of (site_of plan here t) doing.letters)) (option_map (transfer_of t) doing.transfer)
+-- of a step by an input, the letters that go by lines: the others are taken within
+abbrev pub others_text : CheckedPlan → Here → (t : ℕ) → Local → Input → List ℕ
+others_text plan here t local input =
+    letters_text plan here t (gives_again input) (does input (site_of plan here t) local).local (others_by (gives_again input) (site_of plan here t) (letters_by (site_of plan here t) local input))
+
+-- a short reply, and then all else
+abbrev pub doing_text : CheckedPlan → Here → (t : ℕ) → Local → Input → List ℕ
+doing_text plan here t local input =
+    reply_text plan here (option_map (short_with t) (reply_by (site_of plan here t) local input))
+    ++ step_text plan here t (asked_in input) (does input (site_of plan here t) local).answer (others_text plan here t local input) (option_map (transfer_of t) (does input (site_of plan here t) local).transfer)
 
 -- of several steps, one behind the other
 abbrev pub steps_text : CheckedPlan → Here → (t : ℕ) → Local → List Input → List ℕ
 steps_text plan here t local [] = []
 steps_text plan here t local (input ∷ rest) =
-    doing_text plan here t input (does input (site_of plan here t) local) ++ steps_text plan here t (does input (site_of plan here t) local).local rest
-
--- the lines of these letters of the tenant
-abbrev pub lines_of_letters : CheckedPlan → Here → (t : ℕ) → List OwnMessage → List ℕ
-lines_of_letters plan here t letters = flat_map (sent_line plan here) (map (message_of t) letters)
+    doing_text plan here t local input ++ steps_text plan here t (does input (site_of plan here t) local).local rest
 
 -- of what comes from outside: what it and all that is taken within write, and then the letters that are left
 abbrev pub outside_text : CheckedPlan → Here → (t : ℕ) → Local → Input → List ℕ
 outside_text plan here t local input =
-    steps_text plan here t local (within (site_of plan here t) local input) ++ lines_of_letters plan here t (left (site_of plan here t) local input)
+    steps_text plan here t local (within (site_of plan here t) local input)
+    ++ letters_text plan here t false (after_all (site_of plan here t) local (within (site_of plan here t) local input)) (left (site_of plan here t) local input)
 
 -- ---- by all inputs of the tenant that come from outside, in order
 

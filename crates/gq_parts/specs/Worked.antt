@@ -62,7 +62,7 @@ did_by g before n p line = record {
 
 abbrev pub happened : GridPlans → (before : List Happening) → Sent → Happening
 happened g before (Starting n p) = Starts n p
-happened g before (Sends n p line) = Took n p (did_by g before n p line)
+happened g before (Sends n p line) = Took n p [] (did_by g before n p line)
 
 abbrev pub all_happened : GridPlans → (before : List Happening) → List Sent → List Happening
 all_happened g before [] = []

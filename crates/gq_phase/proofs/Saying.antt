@@ -1,7 +1,7 @@
 -- What an operation says to a message, and which value stands for it afterwards.
-use Rattle.std.proofs.Common.{◌≡◌, ℕ, ◌+◌, ◌*◌, ◌%◌, Bool, true, false, ◌&&◌, List, [], ◌∷◌, ◌++◌, length, map, refl, sym, ap, ◌∙◌, Option, Some, None, arith, eqb}
-use Rattle.std.specs.Prelude.{◌==◌, not, unwrap_or, IfOk, OnOk, Result, Ok, Err, nat_lt, ◌-◌, ◌/◌}
-use Rattle.std.proofs.lemmas.Bool.{and_from, and_parts, true≢false, eqb-true, eq-eqb, ne_eqb}
+use Rattle.std.proofs.Common.{◌≡◌, ℕ, ◌+◌, ◌*◌, ◌%◌, Bool, true, false, ◌&&◌, List, [], ◌∷◌, ◌++◌, length, map, refl, sym, ap, ◌∙◌, Option, Some, None, inl, inr, arith, eqb}
+use Rattle.std.specs.Prelude.{◌==◌, not, is_some, if◌then◌else◌, unwrap_or, IfOk, OnOk, Result, Ok, Err, nat_lt, ◌-◌, ◌/◌}
+use Rattle.std.proofs.lemmas.Bool.{and_from, and_parts, cases_Bool, true≢false, not-true, eqb-true, eq-eqb, ne_eqb}
 use Rattle.std.proofs.lemmas.List.{length_push, length-map, map-append}
 use Rattle.gq_grid.specs.Grid.{Grid, Servers, with_server, rising}
 use Rattle.gq_grid.specs.Sets.{servers}
@@ -9,9 +9,10 @@ use Rattle.gq_grid.specs.declared.ServerSet.{ServerSet}
 use Rattle.gq_tag.specs.declared.Tag.{Tag}
 use Rattle.gq_tag.specs.declared.StoredCopy.{StoredCopy}
 use Rattle.gq_tag.specs.declared.FileId.{FileId}
-use Rattle.gq_tag.specs.declared.Body.TheVariants.{Ask, Store}
+use Rattle.gq_tag.specs.declared.Body.{Body}
+use Rattle.gq_tag.specs.declared.Body.TheVariants.{Ask, Copy, Store, Stored}
 use Rattle.gq_tag.specs.declared.Message.{Message}
-use Rattle.gq_tag.specs.Tag.{latest, greatest, first_copy, OwnMessage, own_message, message_of, file_of}
+use Rattle.gq_tag.specs.Tag.{is_less, newer_of, latest, greatest, first_copy, OwnMessage, own_message, message_of, file_of, file_place}
 use Rattle.gq_round.specs.declared.RoundMessage.{RoundMessage}
 use Rattle.gq_round.specs.declared.Who.{Who}
 use Rattle.gq_round.specs.Round.{addressed, apart, sent_to}
@@ -24,9 +25,9 @@ use Rattle.gq_phase.specs.declared.operation.Operation.{Operation as Code}
 use Rattle.gq_phase.specs.declared.operation.Task.{Task as CodeTask}
 use Rattle.gq_phase.specs.declared.operation.Task.TheVariants.{Write, Read, List as ListFiles}
 use Rattle.gq_phase.specs.Course.{Course, round_of}
-use Rattle.gq_phase.specs.Best.{best_with, givers_with}
+use Rattle.gq_phase.specs.Best.{best_with, givers_with, tag_in}
 use Rattle.gq_phase.specs.Phase.{Task, Reply, Operation, HeardNoted, HeardNext, HeardDone, heard_servers, heard_copies, givers, reply_of, stored_copy, skips_store, round_file, round_body, round_messages, messages_to, round_quorum, is_collect, is_current, ends_round, hear, with_reply, with_decided, decided_copy, begin_store, begin_collect, file_done, listed_row, moved, begun, floor_after}
-use Rattle.gq_phase.specs.Standing.{task_for, StandsFor, HearsAs, Begins, BeginsStore, decided_as, floor_with, outcome_as, IsFresh, ResendsAs, rows_of, rows_with, is_list, reads, skips_as, next_file, file_after, BeginsCollect, SkipsOn, first_ask, is_current_as, quorum_as, ends_as, message_as, store_message, next_ask, ask_after}
+use Rattle.gq_phase.specs.Standing.{SameFor, task_for, StandsFor, HearsAs, Begins, BeginsStore, decided_as, floor_with, outcome_as, IsFresh, ResendsAs, rows_of, rows_with, is_list, reads, skips_as, IsTaken, DifferInContent, HearsTag, StoresNow, stored_as, takes_by, next_file, file_after, BeginsCollect, SkipsOn, first_ask, is_current_as, quorum_as, ends_as, message_as, store_message, next_ask, ask_after}
 use Rattle.gq_phase.proofs.Hearing.{heard_servers-hear, latest-hear}
 use Rattle.gq_phase.proofs.Givers.{givers-hear}
 use Rattle.gq_phase.proofs.Retrying.{nothing_heard, one_unheard}
@@ -112,11 +113,61 @@ pub hear_stored : (grid : Grid) (up : Servers) (o : Operation) (m : OwnMessage) 
     hear grid up o m ≡ file_done grid up (with_reply o m)
 hear_stored grid up o m cur ended even = rw (cur, ended, even) refl
 
+-- ---- the greatest copy, to what the session was asked to do
+
+pub same_of : (t : CodeTask) (a b : Option StoredCopy) → a ≡ b → SameFor t a b
+same_of (Write bytes) a b e = ap tag_in e
+same_of Read a b e = e
+same_of ListFiles a b e = e
+
+some_tags : (x y : StoredCopy) → ◌≡◌ {A = Option Tag} (Some x.tag) (Some y.tag) → x.tag ≡ y.tag
+some_tags x y e = cc
+
+-- with one more reply it stays the same
+tags_with : (a b : Option StoredCopy) (body : Body) → tag_in a ≡ tag_in b → tag_in (best_with a body) ≡ tag_in (best_with b body)
+tags_with None None body e = refl
+tags_with None (Some y) body e = absurd (cc)
+tags_with (Some x) None body e = absurd (cc)
+tags_with (Some x) (Some y) (Copy c) e =
+    let tags : x.tag ≡ y.tag = some_tags x y e in
+    elim (cases_Bool (is_less y.tag c.tag)) [
+      | inl h ↦ rw (tags, h) refl
+      | inr h ↦ rw (tags, h) refl
+    ]
+tags_with (Some x) (Some y) Ask e = e
+tags_with (Some x) (Some y) (Store c) e = e
+tags_with (Some x) (Some y) Stored e = e
+
+same_now : (t : CodeTask) (a b c d : Option StoredCopy) (body : Body) → SameFor t a (best_with b body) → SameFor t b c → best_with c body ≡ d → SameFor t a d
+same_now (Write bytes) a b c d body f g h = f ∙ tags_with b c body g ∙ ap tag_in h
+same_now Read a b c d body f g h = f ∙ ap (λ o. best_with o body) g ∙ h
+same_now ListFiles a b c d body f g h = f ∙ ap (λ o. best_with o body) g ∙ h
+
+tags_give : (a b : Option StoredCopy) (set : Servers) (server : ℕ) (body : Body) → tag_in a ≡ tag_in b → givers_with a set server body ≡ givers_with b set server body
+tags_give None None set server body e = refl
+tags_give None (Some y) set server body e = absurd (cc)
+tags_give (Some x) None set server body e = absurd (cc)
+tags_give (Some x) (Some y) set server (Copy c) e = rw (some_tags x y e) refl
+tags_give (Some x) (Some y) set server Ask e = refl
+tags_give (Some x) (Some y) set server (Store c) e = refl
+tags_give (Some x) (Some y) set server Stored e = refl
+
+same_givers : (t : CodeTask) (a b : Option StoredCopy) (set : Servers) (server : ℕ) (body : Body) → SameFor t a b → givers_with a set server body ≡ givers_with b set server body
+same_givers (Write bytes) a b set server body e = tags_give a b set server body e
+same_givers Read a b set server body e = ap (λ o. givers_with o set server body) e
+same_givers ListFiles a b set server body e = ap (λ o. givers_with o set server body) e
+
+tag_or : (a b : Option StoredCopy) → tag_in a ≡ tag_in b → (unwrap_or a first_copy).tag ≡ (unwrap_or b first_copy).tag
+tag_or None None e = refl
+tag_or None (Some y) e = absurd (cc)
+tag_or (Some x) None e = absurd (cc)
+tag_or (Some x) (Some y) e = some_tags x y e
+
 -- ---- the task
 
-decided_is : (t : CodeTask) (file : FileId) (files : ℕ) (o : Operation) (session floor : ℕ) (best : Option StoredCopy) → task_for t file files ≡ o.task → session ≡ o.session → floor ≡ o.floor → best ≡ latest (heard_copies o.heard) →
+decided_is : (t : CodeTask) (file : FileId) (files : ℕ) (o : Operation) (session floor : ℕ) (best : Option StoredCopy) → task_for t file files ≡ o.task → session ≡ o.session → floor ≡ o.floor → SameFor t best (latest (heard_copies o.heard)) →
     decided_as t session floor (unwrap_or best first_copy) ≡ decided_copy o
-decided_is (Write bytes) file files o session floor best t s f b = rw (← t, s, f, b) refl
+decided_is (Write bytes) file files o session floor best t s f b = rw (← t, s, f, tag_or best (latest (heard_copies o.heard)) b) refl
 decided_is Read file files o session floor best t s f b = rw (← t, b) refl
 decided_is ListFiles file files o session floor best t s f b = rw (← t, b) refl
 
@@ -179,7 +230,7 @@ listed_floor ListFiles file files task floor e = rw (← e) refl
 -- a message of the operation's round, whose server and copy were added to what was heard
 module _ (grid : Grid) (tenant : ℕ) (old : Code) (o : Operation) (up : Servers) (m : Message) (set : ServerSet) (best : Option StoredCopy) (told : ServerSet)
     (s : StandsFor grid tenant old o) (op : m.op ≡ old.who.op) (round : m.round ≡ round_of old.course)
-    (adds : servers set ≡ with_server m.server (servers old.heard)) (betters : best ≡ best_with old.best m.body)
+    (adds : servers set ≡ with_server m.server (servers old.heard)) (betters : SameFor old.task best (best_with old.best m.body))
     (gives : servers told ≡ givers_with old.best (servers old.givers) m.server m.body) where
   is_now : is_current o (own_message m) ≡ true
   is_now = current o (own_message m) (op ∙ s.op) (round ∙ s.round)
@@ -187,11 +238,13 @@ module _ (grid : Grid) (tenant : ℕ) (old : Code) (o : Operation) (up : Servers
   heard_now : servers set ≡ heard_servers (with_reply o (own_message m)).heard
   heard_now = adds ∙ ap (with_server m.server) s.heard ∙ sym (heard_servers-hear o.heard (reply_of (own_message m)))
 
-  best_now : best ≡ latest (heard_copies (with_reply o (own_message m)).heard)
-  best_now = betters ∙ ap (λ b. best_with b m.body) s.best ∙ sym (latest-hear o.heard m.server m.body)
+  best_now : SameFor old.task best (latest (heard_copies (with_reply o (own_message m)).heard))
+  best_now = same_now old.task best old.best (latest (heard_copies o.heard)) (latest (heard_copies (with_reply o (own_message m)).heard)) m.body betters s.best (sym (latest-hear o.heard m.server m.body))
 
   givers_now : servers told ≡ givers (greatest (heard_copies (with_reply o (own_message m)).heard)).tag (with_reply o (own_message m)).heard
-  givers_now = gives ∙ (λ i. givers_with (s.best i) (s.givers i) m.server m.body) ∙ sym (givers-hear o.heard m.server m.body)
+  givers_now =
+      gives ∙ same_givers old.task old.best (latest (heard_copies o.heard)) (servers old.givers) m.server m.body s.best ∙
+      ap (λ set. givers_with (latest (heard_copies o.heard)) set m.server m.body) s.givers ∙ sym (givers-hear o.heard m.server m.body)
 
   ends_now : (b : Bool) → ends_as old (servers set) ≡ b → ends_round grid o.round (with_reply o (own_message m)).heard ≡ b
   ends_now b e = ends_is old grid o.round (with_reply o (own_message m)).heard (servers set) s.its_grid s.round heard_now ∙ e
@@ -285,7 +338,7 @@ module _ (grid : Grid) (tenant : ℕ) (old : Code) (o : Operation) (up : Servers
         collected = rw (b.course, is_odd) (sym its_length);
         heard = b.heard;
         goes_on = nothing_heard grid (2 * (old.course.collected + 1)) s.some;
-        best = b.best;
+        best = same_of new.task new.best None b.best;
         givers = b.givers;
         stored = b.stored ∙ rw is_odd (sym stored);
         rows = b.rows ∙ rw (b.task, is_odd, ← is_decided) (rows_push old.task old.rows o.collected copy s.rows);
@@ -338,7 +391,7 @@ module _ (grid : Grid) (tenant : ℕ) (old : Code) (o : Operation) (up : Servers
           collected = rw (b.course, is_odd) (sym its_length);
           heard = b.heard;
           goes_on = nothing_heard grid (2 * (old.course.collected + 1) + 1) s.some;
-          best = b.best;
+          best = same_of new.task new.best None b.best;
           givers = b.givers;
           stored = b.stored ∙ rw is_odd (sym stored);
           rows = b.rows ∙ rw (b.task, is_odd, ← is_decided) (rows_push old.task old.rows o.collected copy s.rows);
@@ -392,7 +445,7 @@ module _ (grid : Grid) (tenant : ℕ) (old : Code) (o : Operation) (up : Servers
         collected = rw (b.course, is_even) s.collected;
         heard = b.heard;
         goes_on = nothing_heard grid (2 * old.course.collected + 1) s.some;
-        best = b.best;
+        best = same_of new.task new.best None b.best;
         givers = b.givers;
         stored = b.stored ∙ rw is_even s.stored;
         rows = b.rows ∙ rw (b.task, is_even) s.rows;
@@ -413,14 +466,14 @@ and-last true b e f = e
 and-last false b e f = absurd (true≢false (sym f))
 
 pub noted_hears : (old : Code) (up : Servers) (m : Message) (set : ServerSet) (best : Option StoredCopy) (told : ServerSet) → m.op ≡ old.who.op → m.round ≡ round_of old.course →
-    servers set ≡ with_server m.server (servers old.heard) → best ≡ best_with old.best m.body → servers told ≡ givers_with old.best (servers old.givers) m.server m.body → ends_as old (servers set) ≡ false →
+    servers set ≡ with_server m.server (servers old.heard) → SameFor old.task best (best_with old.best m.body) → servers told ≡ givers_with old.best (servers old.givers) m.server m.body → ends_as old (servers set) ≡ false →
     HearsAs old (record old { heard = set; best = best; givers = told }) up m Noted
 noted_hears old up m set best told op round adds betters gives open_ = λ grid tenant o s.
     let said = said_noted grid tenant old o up m set best told s op round adds betters gives open_ in
     rw said (refl, noted_stands grid tenant old o up m set best told s op round adds betters gives open_)
 
 pub collected_hears : (old new : Code) (up : Servers) (m : Message) (set : ServerSet) (best : Option StoredCopy) (told : ServerSet) (copy : StoredCopy) (heard : Heard) → m.op ≡ old.who.op → m.round ≡ round_of old.course →
-    servers set ≡ with_server m.server (servers old.heard) → best ≡ best_with old.best m.body → servers told ≡ givers_with old.best (servers old.givers) m.server m.body → ends_as old (servers set) ≡ true → old.course.collecting ≡ true →
+    servers set ≡ with_server m.server (servers old.heard) → SameFor old.task best (best_with old.best m.body) → servers told ≡ givers_with old.best (servers old.givers) m.server m.body → ends_as old (servers set) ≡ true → old.course.collecting ≡ true →
     copy ≡ decided_as old.task old.who.session old.floor (unwrap_or best first_copy) → skips_as old (servers told) ≡ false → BeginsStore old new copy →
     heard ≡ Next (2 * (old.course.collected + 1)) (Some copy.tag) (sent_to old.grid (store_quorum old.grid up) (store_message old copy)) →
     HearsAs old new up m heard
@@ -430,7 +483,7 @@ collected_hears old new up m set best told copy heard op round adds betters give
     rw said (is ∙ ap (Next (2 * (old.course.collected + 1)) (Some copy.tag)) (sym news), next_stands grid tenant old o up m set best told s op round adds betters gives copy over collecting decided stores new b)
 
 pub done_hears : (old new : Code) (up : Servers) (m : Message) (set : ServerSet) (best : Option StoredCopy) (told : ServerSet) (heard : Heard) → m.op ≡ old.who.op → m.round ≡ round_of old.course →
-    servers set ≡ with_server m.server (servers old.heard) → best ≡ best_with old.best m.body → servers told ≡ givers_with old.best (servers old.givers) m.server m.body → ends_as old (servers set) ≡ true → old.course.collecting ≡ false →
+    servers set ≡ with_server m.server (servers old.heard) → SameFor old.task best (best_with old.best m.body) → servers told ≡ givers_with old.best (servers old.givers) m.server m.body → ends_as old (servers set) ≡ true → old.course.collecting ≡ false →
     heard ≡ Done (outcome_as old.task old.who old.stored old.rows) → new.done ≡ true → new.floor ≡ old.floor →
     (is_list old.task ≡ true → nat_lt old.course.collected old.course.files ≡ false) → HearsAs old new up m heard
 done_hears old new up m set best told heard op round adds betters gives over storing is done floor last = λ grid tenant o s.
@@ -441,7 +494,7 @@ done_hears old new up m set best told heard op round adds betters gives over sto
 
 -- the result of the step that begins a store round
 pub collected_result : {E : Type 0} (old new : Code) (up : Servers) (m : Message) (set : ServerSet) (best : Option StoredCopy) (told : ServerSet) (copy : StoredCopy) (r : Result Heard E) → m.op ≡ old.who.op → m.round ≡ round_of old.course →
-    servers set ≡ with_server m.server (servers old.heard) → best ≡ best_with old.best m.body → servers told ≡ givers_with old.best (servers old.givers) m.server m.body → ends_as old (servers set) ≡ true → old.course.collecting ≡ true →
+    servers set ≡ with_server m.server (servers old.heard) → SameFor old.task best (best_with old.best m.body) → servers told ≡ givers_with old.best (servers old.givers) m.server m.body → ends_as old (servers set) ≡ true → old.course.collecting ≡ true →
     copy ≡ decided_as old.task old.who.session old.floor (unwrap_or best first_copy) → skips_as old (servers told) ≡ false → OnOk r (BeginsStore old new copy) →
     IfOk r (λ heard. heard ≡ Next (2 * (old.course.collected + 1)) (Some copy.tag) (sent_to old.grid (store_quorum old.grid up) (store_message old copy))) →
     IfOk r (HearsAs old new up m)
@@ -450,7 +503,7 @@ collected_result old new up m set best told copy (Err e) op round adds betters g
 
 -- the result of a read or a listing that is done without a store round
 pub skipped_result : {E : Type 0} (old new : Code) (up : Servers) (m : Message) (set : ServerSet) (best : Option StoredCopy) (told : ServerSet) (copy : StoredCopy) (r : Result Heard E) → m.op ≡ old.who.op → m.round ≡ round_of old.course →
-    servers set ≡ with_server m.server (servers old.heard) → best ≡ best_with old.best m.body → servers told ≡ givers_with old.best (servers old.givers) m.server m.body → ends_as old (servers set) ≡ true → old.course.collecting ≡ true →
+    servers set ≡ with_server m.server (servers old.heard) → SameFor old.task best (best_with old.best m.body) → servers told ≡ givers_with old.best (servers old.givers) m.server m.body → ends_as old (servers set) ≡ true → old.course.collecting ≡ true →
     copy ≡ decided_as old.task old.who.session old.floor (unwrap_or best first_copy) → skips_as old (servers told) ≡ true →
     IfOk r (λ heard. heard ≡ Done (outcome_as old.task old.who copy (rows_with old.task (listed_row copy) old.rows))) → OnOk r (new.done ≡ true) → new.floor ≡ old.floor →
     (is_list old.task ≡ true → nat_lt (old.course.collected + 1) old.course.files ≡ false) → IfOk r (HearsAs old new up m)
@@ -461,7 +514,7 @@ skipped_result old new up m set best told copy (Err e) op round adds betters giv
 
 -- the result of a listing that goes on without a store round
 pub over_result : {E : Type 0} (old new : Code) (up : Servers) (m : Message) (set : ServerSet) (best : Option StoredCopy) (told : ServerSet) (copy : StoredCopy) (r : Result Heard E) → m.op ≡ old.who.op → m.round ≡ round_of old.course →
-    servers set ≡ with_server m.server (servers old.heard) → best ≡ best_with old.best m.body → servers told ≡ givers_with old.best (servers old.givers) m.server m.body → ends_as old (servers set) ≡ true → old.course.collecting ≡ true →
+    servers set ≡ with_server m.server (servers old.heard) → SameFor old.task best (best_with old.best m.body) → servers told ≡ givers_with old.best (servers old.givers) m.server m.body → ends_as old (servers set) ≡ true → old.course.collecting ≡ true →
     copy ≡ decided_as old.task old.who.session old.floor (unwrap_or best first_copy) → skips_as old (servers told) ≡ true →
     is_list old.task ≡ true → nat_lt (old.course.collected + 1) old.course.files ≡ true → OnOk r (SkipsOn old new copy) →
     IfOk r (λ heard. heard ≡ Next (2 * (old.course.collected + 1) + 1) None (sent_to old.grid (collect_quorum old.grid up) (ask_after old))) →
@@ -473,14 +526,14 @@ over_result old new up m set best told copy (Ok heard) op round adds betters giv
 over_result old new up m set best told copy (Err e) op round adds betters gives over collecting decided skips lists more b is = tt
 
 pub done_result : {E : Type 0} (old new : Code) (up : Servers) (m : Message) (set : ServerSet) (best : Option StoredCopy) (told : ServerSet) (r : Result Heard E) → m.op ≡ old.who.op → m.round ≡ round_of old.course →
-    servers set ≡ with_server m.server (servers old.heard) → best ≡ best_with old.best m.body → servers told ≡ givers_with old.best (servers old.givers) m.server m.body → ends_as old (servers set) ≡ true → old.course.collecting ≡ false →
+    servers set ≡ with_server m.server (servers old.heard) → SameFor old.task best (best_with old.best m.body) → servers told ≡ givers_with old.best (servers old.givers) m.server m.body → ends_as old (servers set) ≡ true → old.course.collecting ≡ false →
     IfOk r (λ heard. heard ≡ Done (outcome_as old.task old.who old.stored old.rows)) → OnOk r (new.done ≡ true) → new.floor ≡ old.floor →
     (is_list old.task ≡ true → nat_lt old.course.collected old.course.files ≡ false) → IfOk r (HearsAs old new up m)
 done_result old new up m set best told (Ok heard) op round adds betters gives over storing is done floor last = done_hears old new up m set best told heard op round adds betters gives over storing is done floor last
 done_result old new up m set best told (Err e) op round adds betters gives over storing is done floor last = tt
 
 pub on_hears : (old new : Code) (up : Servers) (m : Message) (set : ServerSet) (best : Option StoredCopy) (told : ServerSet) (heard : Heard) → m.op ≡ old.who.op → m.round ≡ round_of old.course →
-    servers set ≡ with_server m.server (servers old.heard) → best ≡ best_with old.best m.body → servers told ≡ givers_with old.best (servers old.givers) m.server m.body → ends_as old (servers set) ≡ true → old.course.collecting ≡ false →
+    servers set ≡ with_server m.server (servers old.heard) → SameFor old.task best (best_with old.best m.body) → servers told ≡ givers_with old.best (servers old.givers) m.server m.body → ends_as old (servers set) ≡ true → old.course.collecting ≡ false →
     is_list old.task ≡ true → nat_lt old.course.collected old.course.files ≡ true → BeginsCollect old new →
     heard ≡ Next (2 * old.course.collected + 1) None (sent_to old.grid (collect_quorum old.grid up) (next_ask old)) →
     HearsAs old new up m heard
@@ -513,7 +566,7 @@ fresh_begins grid up who t task files file floor code quorum messages is_task ow
         collected = rw f.course refl;
         heard = f.heard;
         goes_on = nothing_heard grid 1 f.some;
-        best = f.best;
+        best = same_of code.task code.best None f.best;
         givers = f.givers;
         stored = f.stored;
         rows = f.rows ∙ no_rows code.task;
@@ -547,3 +600,84 @@ resends code up quorum messages chosen sent = λ grid tenant o s.
       sent ∙ rw (s.its_grid, s.heard) (sym (messages_to-sent grid tenant o (message_as code) (apart (servers quorum) (heard_servers o.heard)) s.its_tenant s.session s.op s.round s.file (body_is grid tenant code o s))),
       rw (sent, length-map) (one_unheard code up (servers quorum) (servers code.heard) chosen goes_on),
     )
+
+-- ---- whatever the content of a copy is, where its tag is taken
+
+-- nothing that is kept of a read depends on it
+not_newer : (b c d : StoredCopy) → c.tag ≡ d.tag → not (is_less b.tag c.tag) ≡ true → newer_of b c ≡ newer_of b d
+not_newer b c d e h =
+    let less : is_less b.tag c.tag ≡ false = not-true (is_less b.tag c.tag) h in
+    let other : is_less b.tag d.tag ≡ false = rw e at less in
+    rw (less, other) refl
+
+-- and of a write its tag alone
+tags_better : (best : Option StoredCopy) (c d : StoredCopy) → c.tag ≡ d.tag → tag_in (best_with best (Copy c)) ≡ tag_in (best_with best (Copy d))
+tags_better None c d e = ap Some e
+tags_better (Some b) c d e =
+    elim (cases_Bool (is_less b.tag d.tag)) [
+      | inl h ↦ rw (e, h) refl
+      | inr h ↦ rw (e, h) refl
+    ]
+
+better_by : (t : CodeTask) (best : Option StoredCopy) (c d : StoredCopy) → c.tag ≡ d.tag → takes_by t best c.tag ≡ true → SameFor t (best_with best (Copy c)) (best_with best (Copy d))
+better_by (Write bytes) best c d e h = tags_better best c d e
+better_by Read None c d e h = absurd (true≢false (sym h))
+better_by Read (Some b) c d e h = ap Some (not_newer b c d e h)
+better_by ListFiles None c d e h = absurd (true≢false (sym h))
+better_by ListFiles (Some b) c d e h = ap Some (not_newer b c d e h)
+
+pub says_better : (code : Code) (a b : Body) → IsTaken code a b → SameFor code.task (best_with code.best a) (best_with code.best b)
+says_better code (Copy c) (Copy d) h = better_by code.task code.best c d h.0 (and_parts code.course.collecting (takes_by code.task code.best c.tag) h.1).1
+says_better code (Copy c) Ask h = absurd h
+says_better code (Copy c) (Store d) h = absurd h
+says_better code (Copy c) Stored h = absurd h
+says_better code Ask b h = absurd h
+says_better code (Store c) b h = absurd h
+says_better code Stored b h = absurd h
+
+copies_give : (best : Option StoredCopy) (set : Servers) (server : ℕ) (c d : StoredCopy) → c.tag ≡ d.tag → givers_with best set server (Copy c) ≡ givers_with best set server (Copy d)
+copies_give None set server c d e = refl
+copies_give (Some b) set server c d e = rw e refl
+
+pub says_gives : (code : Code) (set : Servers) (server : ℕ) (a b : Body) → IsTaken code a b → givers_with code.best set server a ≡ givers_with code.best set server b
+says_gives code set server (Copy c) (Copy d) h = copies_give code.best set server c d h.0
+says_gives code set server (Copy c) Ask h = absurd h
+says_gives code set server (Copy c) (Store d) h = absurd h
+says_gives code set server (Copy c) Stored h = absurd h
+says_gives code set server Ask b h = absurd h
+says_gives code set server (Store c) b h = absurd h
+says_gives code set server Stored b h = absurd h
+
+pub says_view : (code : Code) (seen a b : Body) → seen ≡ a → IsTaken code a b → SameFor code.task (best_with code.best seen) (best_with code.best b)
+says_view code seen a b e h = rw e (says_better code a b h)
+
+pub says_given : (code : Code) (set : Servers) (a b : Message) → DifferInContent code a b → givers_with code.best set a.server a.body ≡ givers_with code.best set b.server b.body
+says_given code set a b d = says_gives code set a.server a.body b.body d.body ∙ ap (λ s. givers_with code.best set s b.body) (sym d.server)
+
+pub for_each : {E : Type 0} (old new : Code) (up : Servers) (message : Message) (r : Result Heard E) →
+    ((m : Message) → DifferInContent old message m → IfOk r (HearsAs old new up m)) → IfOk r (HearsTag old new up message)
+for_each old new up message (Ok heard) h = λ m d. h m d
+for_each old new up message (Err e) h = tt
+
+-- ---- what the round stores
+
+pub stores_now : (code : Code) (op round : ℕ) (file : FileId) → is_some (stored_as code op round file) ≡ true → StoresNow code op round file code.stored
+stores_now code op round file h = λ grid tenant o s.
+    let a = and_parts (not code.done) (not code.course.collecting && ((op == code.who.op) && ((round == round_of code.course) && ((file.volume == code.file.volume) && (file.file == code.file.file))))) (holds _ h) in
+    let b = and_parts (not code.course.collecting) ((op == code.who.op) && ((round == round_of code.course) && ((file.volume == code.file.volume) && (file.file == code.file.file)))) a.1 in
+    let d = and_parts (op == code.who.op) ((round == round_of code.course) && ((file.volume == code.file.volume) && (file.file == code.file.file))) b.1 in
+    let e = and_parts (round == round_of code.course) ((file.volume == code.file.volume) && (file.file == code.file.file)) d.1 in
+    let f = and_parts (file.volume == code.file.volume) (file.file == code.file.file) e.1 in
+    let volume : file.volume ≡ code.file.volume = eqb-true file.volume code.file.volume f.0 in
+    let place : file.file ≡ code.file.file = eqb-true file.file code.file.file f.1 in
+    let storing : code.course.collecting ≡ false = not-true code.course.collecting b.0 in
+    let body : (message_as code).body ≡ Store code.stored = rw storing refl in (
+      eqb-true op code.who.op d.0 ∙ s.op,
+      eqb-true round (round_of code.course) e.0 ∙ s.round,
+      (λ i. record { volume = volume i; place = place i }) ∙ ap file_place s.file,
+      body_is grid tenant code o s ∙ body,
+    )
+  where
+    holds : (b : Bool) → is_some (if b then Some code.stored else None) ≡ true → b ≡ true
+    holds true h = refl
+    holds false h = absurd (true≢false (sym h))

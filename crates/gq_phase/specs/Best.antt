@@ -1,6 +1,7 @@
 -- The greatest of the copies heard, and who told its tag, as replies come in.
 use Rattle.std.specs.Prelude.{ℕ, ◌<◌, Bool, true, Option, Some, None, if◌then◌else◌}
 use Rattle.gq_grid.specs.Grid.{Servers, no_servers, with_server}
+use Rattle.gq_tag.specs.declared.Tag.{Tag}
 use Rattle.gq_tag.specs.declared.StoredCopy.{StoredCopy}
 use Rattle.gq_tag.specs.declared.Body.{Body}
 use Rattle.gq_tag.specs.declared.Body.TheVariants.{Copy}
@@ -11,6 +12,11 @@ abbrev pub best_with : Option StoredCopy → Body → Option StoredCopy
 best_with None (Copy copy) = Some copy
 best_with (Some best) (Copy copy) = Some (newer_of best copy)
 best_with best _ = best
+
+-- the tag of the copy, if there is one
+abbrev pub tag_in : Option StoredCopy → Option Tag
+tag_in None = None
+tag_in (Some copy) = Some copy.tag
 
 -- the number of the copy that a reply tells
 abbrev pub copied_number : Body → ℕ

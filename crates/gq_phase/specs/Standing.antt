@@ -5,9 +5,10 @@ use Rattle.gq_grid.specs.Sets.{servers}
 use Rattle.gq_tag.specs.declared.Tag.{Tag}
 use Rattle.gq_tag.specs.declared.StoredCopy.{StoredCopy}
 use Rattle.gq_tag.specs.declared.FileId.{FileId}
-use Rattle.gq_tag.specs.declared.Body.TheVariants.{Ask, Store}
+use Rattle.gq_tag.specs.declared.Body.{Body}
+use Rattle.gq_tag.specs.declared.Body.TheVariants.{Ask, Copy, Store}
 use Rattle.gq_tag.specs.declared.Message.{Message}
-use Rattle.gq_tag.specs.Tag.{first_copy, latest, greatest, OwnMessage, file_place, file_of, message_of, own_message}
+use Rattle.gq_tag.specs.Tag.{is_less, first_copy, latest, greatest, OwnMessage, file_place, file_of, message_of, own_message}
 use Rattle.gq_round.specs.declared.Who.{Who}
 use Rattle.gq_round.specs.declared.RoundMessage.{RoundMessage}
 use Rattle.gq_phase.specs.declared.Row.{Row}
@@ -21,8 +22,9 @@ use Rattle.gq_phase.specs.declared.operation.Task.TheVariants.{Write, Read, List
 use Rattle.gq_phase.specs.declared.ResendRefused.{ResendRefused}
 use Rattle.gq_phase.specs.declared.ResendRefused.TheVariants.{NoQuorum, Memory}
 use Rattle.gq_phase.specs.Quorums.{collect_quorum, store_quorum, ends_collect, ends_store}
+use Rattle.gq_phase.specs.Best.{tag_in}
 use Rattle.gq_phase.specs.Course.{round_of}
-use Rattle.gq_phase.specs.Phase.{Task, Writing, Reading, Listing, Operation, Heard as Saying, HeardStale, HeardNoted, HeardNext, HeardDone, heard_servers, heard_copies, givers, stored_copy, round_file, round_messages, round_quorum, ends_round, resent, hear, with_reply, moved, begun, listed_row}
+use Rattle.gq_phase.specs.Phase.{Task, Writing, Reading, Listing, Operation, round_body, Heard as Saying, HeardStale, HeardNoted, HeardNext, HeardDone, heard_servers, heard_copies, givers, stored_copy, round_file, round_messages, round_quorum, ends_round, resent, hear, with_reply, moved, begun, listed_row}
 
 -- ---- what is sent and said, with the tenant in its messages
 
@@ -50,6 +52,12 @@ abbrev pub rows_of : CodeTask → List StoredCopy → List Row
 rows_of ListFiles copies = map listed_row copies
 rows_of _ copies = []
 
+-- to what the session was asked to do the greatest copy is the same: to a write, which uses its tag alone, one of the same tag
+abbrev pub SameFor : CodeTask → Option StoredCopy → Option StoredCopy → Type 0
+SameFor (Write bytes) a b = tag_in a ≡ tag_in b
+SameFor Read a b = a ≡ b
+SameFor ListFiles a b = a ≡ b
+
 -- a value that is not done stands for an operation of the tenant in the grid: the servers heard, the
 -- greatest copy and the servers that told its tag are those of the list heard, the last copy is that
 -- of the list collected; the grid has a server, and the round goes on, which the servers heard do not end
@@ -66,7 +74,7 @@ pub record StandsFor (grid : Grid) (tenant : ℕ) (code : Code) (o : Operation) 
   pub collected : code.course.collected ≡ length o.collected
   pub heard : servers code.heard ≡ heard_servers o.heard
   pub goes_on : ends_round grid o.round o.heard ≡ false
-  pub best : code.best ≡ latest (heard_copies o.heard)
+  pub best : SameFor code.task code.best (latest (heard_copies o.heard))
   pub givers : servers code.givers ≡ givers (greatest (heard_copies o.heard)).tag o.heard
   pub stored : code.stored ≡ stored_copy o.collected
   pub rows : code.rows ≡ rows_of code.task o.collected
@@ -115,6 +123,45 @@ abbrev pub HearsAs : Code → Code → Servers → Message → Heard → Type 0
 HearsAs old new up message heard =
     (grid : Grid) (tenant : ℕ) (o : Operation) → StandsFor grid tenant old o →
     (heard ≡ heard_as tenant (hear grid up o (own_message message))) × StandsAfter grid tenant new o (own_message message) (hear grid up o (own_message message))
+
+-- whether a copy's tag says as much as the copy to what the session was asked to do, where this is the greatest copy heard: to a write always, else
+-- where it has this tag or a greater one
+abbrev pub takes_by : CodeTask → Option StoredCopy → Tag → Bool
+takes_by (Write bytes) best tag = true
+takes_by Read None tag = false
+takes_by Read (Some best) tag = not (is_less best.tag tag)
+takes_by ListFiles None tag = false
+takes_by ListFiles (Some best) tag = not (is_less best.tag tag)
+
+abbrev pub takes_as : Code → Tag → Bool
+takes_as code tag = code.course.collecting && takes_by code.task code.best tag
+
+-- the one body is a copy whose tag the operation takes, and the other is a copy of the same tag
+abbrev pub IsTaken : Code → Body → Body → Type 0
+IsTaken code (Copy a) (Copy b) = (a.tag ≡ b.tag) × (takes_as code a.tag ≡ true)
+IsTaken code _ _ = ⊥
+
+-- the two messages differ in the content of a copy at most, whose tag the operation takes
+pub record DifferInContent (code : Code) (a b : Message) : Type 0 where
+  pub op : b.op ≡ a.op
+  pub round : b.round ≡ a.round
+  pub server : b.server ≡ a.server
+  pub body : IsTaken code a.body b.body
+
+-- what the value does by this message it does whatever the content of its copy is, where it takes the copy's tag
+abbrev pub HearsTag : Code → Code → Servers → Message → Heard → Type 0
+HearsTag old new up message heard = (m : Message) → DifferInContent old message m → HearsAs old new up m heard
+
+-- whatever operation the value stands for, its round is that of this number of this operation, and of this file, and stores the copy
+abbrev pub StoresNow : Code → (op round : ℕ) → FileId → StoredCopy → Type 0
+StoresNow code op round file copy =
+    (grid : Grid) (tenant : ℕ) (o : Operation) → StandsFor grid tenant code o →
+    (op ≡ o.op) × (round ≡ o.round) × (file_place file ≡ round_file o.task o.round) × (round_body o.round o.collected ≡ Store copy)
+
+-- the copy that the value's round stores, where that is the round
+abbrev pub stored_as : Code → (op round : ℕ) → FileId → Option StoredCopy
+stored_as code op round file =
+    if not code.done && (not code.course.collecting && ((op == code.who.op) && ((round == round_of code.course) && ((file.volume == code.file.volume) && (file.file == code.file.file))))) then Some code.stored else None
 
 -- the operation is done where it says so, else it is done or not as before
 abbrev pub EndsAs : Code → Code → Heard → Type 0

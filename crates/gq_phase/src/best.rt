@@ -5,11 +5,11 @@ ghost use Rattle.std.specs.Option.{option_copied};
 ghost use Rattle.gq_grid.specs.declared.TheConstants.{MOST_SERVERS};
 ghost use Rattle.gq_grid.specs.Sets.{servers};
 ghost use Rattle.gq_tag.specs.View.{body_of};
-ghost use Rattle.gq_phase.specs.Best.{best_with, exceeds, copied_number, givers_with, IsBelow};
+ghost use Rattle.gq_phase.specs.Best.{best_with, exceeds, copied_number, givers_with, tag_in, IsBelow};
 
 use gq_grid::ServerSet;
 use gq_memory::OutOfMemory;
-use gq_tag::{BodyView, StoredCopy, newer};
+use gq_tag::{BodyView, StoredCopy, Tag, newer};
 use std::marker::Model;
 
 /// The earliest copy of greatest tag, if one was heard. A greater number than its tag's is left.
@@ -36,6 +36,16 @@ impl Best {
         ensures { result ≡ None }
     {
         Best { copy: None }
+    }
+
+    /// Its tag.
+    pub fn tag(&self) -> Option<Tag>
+        ensures { result ≡ tag_in self.now }
+    {
+        match &self.copy {
+            Some(copy) => Some(copy.tag),
+            None => None,
+        }
     }
 
     /// The greatest copy with what one more reply says.

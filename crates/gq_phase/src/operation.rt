@@ -1,6 +1,6 @@
 //! An operation in its round.
 
-ghost use Rattle.std.specs.Prelude.{◌≡◌, ◌↔◌, ◌+◌, ◌*◌, ◌<◌, ◌≤◌, [], true, false, None, ◌&&◌, nat_lt, IfOk, IfErr, OnOk, OnErr, IsErrOf, unwrap_or, map, option_map};
+ghost use Rattle.std.specs.Prelude.{◌≡◌, ◌↔◌, ◌+◌, ◌*◌, ◌<◌, ◌≤◌, [], true, false, None, ◌&&◌, not, nat_lt, IfOk, IfErr, IfSome, OnOk, OnErr, IsErrOf, is_some, unwrap_or, map, option_map, if◌then◌else◌};
 ghost use Rattle.gq_grid.specs.declared.TheConstants.{MOST_SERVERS};
 ghost use Rattle.gq_grid.specs.Grid.{Servers, no_servers, rising, with_server};
 ghost use Rattle.gq_grid.specs.Sets.{servers};
@@ -8,7 +8,7 @@ ghost use Rattle.gq_tag.specs.declared.TheConstants.{MOST_FILES};
 ghost use Rattle.gq_tag.specs.Tag.{first_copy, file_place};
 ghost use Rattle.gq_tag.specs.View.{body_of};
 ghost use Rattle.gq_round.specs.Round.{addressed, apart, sent_to};
-ghost use Rattle.gq_phase.specs.Best.{copied_number, best_with, givers_with};
+ghost use Rattle.gq_phase.specs.Best.{copied_number, best_with, givers_with, tag_in};
 ghost use Rattle.gq_phase.specs.Quorums.{collect_quorum, store_quorum};
 ghost use Rattle.gq_phase.specs.Phase.{Writing, Reading, Listing, listed_row};
 ghost use Rattle.gq_phase.specs.Standing.{first_ask, rows_with};
@@ -86,7 +86,7 @@ fn take_rows(alloc: Global, rows: &mut Rows) -> Rows
 }
 
 impl Operation {
-    ghost use Rattle.gq_phase.specs.Standing.{floor_of, is_collecting, heard_of, its_file, IsGoing, IsDone, Begins, HearsAs, RaisesFloor, EndsAs, ResendsAs, RefusesAs, IsFresh, is_current_as, quorum_as, ends_as, message_as, decided_as, floor_with, outcome_as, is_list, reads, skips_as, next_file, store_message, next_ask, ask_after, BeginsStore, BeginsCollect, SkipsOn};
+    ghost use Rattle.gq_phase.specs.Standing.{floor_of, is_collecting, heard_of, its_file, IsGoing, IsDone, Begins, HearsAs, HearsTag, takes_as, stored_as, StoresNow, RaisesFloor, EndsAs, ResendsAs, RefusesAs, IsFresh, is_current_as, quorum_as, ends_as, message_as, decided_as, floor_with, outcome_as, is_list, reads, skips_as, next_file, store_message, next_ask, ask_after, BeginsStore, BeginsCollect, SkipsOn};
 
     /// Begins a write of the content: round 1, which asks the least full row of the servers of `up` for their copies.
     /// `floor` is the session's own last number. Answers the operation and the asks in rising server number.
@@ -216,6 +216,7 @@ impl Operation {
         requires number { copied_number message.now.body < u64.MAX }
         requires floor { floor_of self.old < u64.MAX }
         ensures hears { IfOk result (λ heard. HearsAs self.old self.new (servers up) message.now heard) }
+        ensures tags { IfOk result (λ heard. HearsTag self.old self.new (servers up) message.now heard) }
         ensures floor { IfOk result (λ heard. RaisesFloor self.old self.new heard) }
         ensures ends { IfOk result (λ heard. EndsAs self.old self.new heard) }
         ensures done { IsDone self.old → IfOk result (λ heard. heard ≡ Heard.Stale) }
@@ -237,6 +238,7 @@ impl Operation {
         requires number { copied_number message.now.body < u64.MAX }
         requires floor { floor_of self.old < u64.MAX }
         ensures hears { IfOk result (λ heard. HearsAs self.old self.new (servers up) message.now heard) }
+        ensures tags { IfOk result (λ heard. HearsTag self.old self.new (servers up) message.now heard) }
         ensures floor { IfOk result (λ heard. RaisesFloor self.old self.new heard) }
         ensures ends { IfOk result (λ heard. EndsAs self.old self.new heard) }
         ensures done { IsDone self.old → IfOk result (λ heard. heard ≡ Heard.Stale) }
@@ -274,6 +276,7 @@ impl Operation {
         requires givers { servers givers ≡ givers_with self.old.best (servers self.old.givers) message.now.server message.now.body }
         requires over { ends_as self.old (servers heard) ≡ true }
         ensures hears { IfOk result (λ said. HearsAs self.old self.new (servers up) message.now said) }
+        ensures tags { IfOk result (λ said. HearsTag self.old self.new (servers up) message.now said) }
         ensures floor { IfOk result (λ said. RaisesFloor self.old self.new said) }
         ensures ends { IfOk result (λ said. EndsAs self.old self.new said) }
         ensures err { OnErr result (self.new ≡ self.old) }
@@ -361,6 +364,78 @@ impl Operation {
         ensures { result ≡ its_file self.now }
     {
         self.file
+    }
+
+    /// Whether the operation is a write: its collect round uses the tags that it hears alone.
+    pub fn writes(&self) -> bool
+        ensures { result ≡ not (reads self.now.task) }
+    {
+        matches!(&self.task, Task::Write(_))
+    }
+
+    /// The greatest tag that was heard in the operation's round, if one was.
+    pub fn best_tag(&self) -> Option<Tag>
+        ensures { result ≡ tag_in self.now.best }
+    {
+        self.best.tag()
+    }
+
+    /// Whether a tag, without the content, says as much to the operation as the copy would: to a write always, else where a copy of
+    /// this tag or a greater one was heard, or it is the first one, whose content is empty.
+    pub fn takes_tag(&self, tag: Tag) -> bool
+        ensures { result ≡ takes_as self.now tag }
+    {
+        if !self.course.collects() {
+            return false;
+        }
+        match (&self.task, self.best.tag()) {
+            (Task::Write(_), _) => true,
+            (_, Some(best)) => tag <= best,
+            (_, None) => false,
+        }
+    }
+
+    /// The servers that told the greatest copy's tag, with what the message says.
+    pub fn givers_after(&self, message: &Message) -> ServerSet
+        requires { message.now.server < MOST_SERVERS }
+        ensures { servers result ≡ (if is_current_as self.now message.now then givers_with self.now.best (servers self.now.givers) message.now.server message.now.body else servers self.now.givers) }
+    {
+        let view = MessageView::of(message);
+        if !self.is_current(&view) {
+            return self.givers;
+        }
+        self.best
+            .givers_with(self.givers, message.server as usize, view.body)
+    }
+
+    /// The copy that the operation's round stores, where that is the round of this number of the operation of that number, and of
+    /// this file.
+    pub fn stored_in(
+        &self,
+        op: u32,
+        round: u32,
+        file: FileId,
+    ) -> Result<Option<StoredCopy>, OutOfMemory>
+        ensures value { IfOk result (λ copy. copy ≡ stored_as self.now op round file) }
+        ensures sent { IfOk result (λ copy. IfSome copy (StoresNow self.now op round file)) }
+    {
+        if !self.stores(op, round, file) {
+            return Ok(None);
+        }
+        Ok(Some(self.stored.share()?))
+    }
+
+    // Whether the operation's round is that of this number of the operation of that number, of this file, and stores.
+    #[tactic(auto, using(crate::proofs::Saying::stores_now))]
+    fn stores(&self, op: u32, round: u32, file: FileId) -> bool
+        ensures is { result ≡ is_some (stored_as self.now op round file) }
+        ensures now { result ≡ true → StoresNow self.now op round file self.now.stored }
+    {
+        !self.done
+            && (!self.course.collects()
+                && (op == self.who.op
+                    && (round == self.course.round()
+                        && (file.volume == self.file.volume && file.file == self.file.file))))
     }
 
     /// Ends the operation without an answer. Answers the session's own last number, which the session's next operation

@@ -16,9 +16,13 @@ use Rattle.gq_wire.specs.declared.letters.Heading.{Heading}
 use Rattle.gq_wire.specs.Values.{number_then, copy_of}
 use Rattle.gq_wire.specs.Requests.{line_by, request_by, request_of}
 use Rattle.gq_wire.proofs.Reading.{same_request}
-use Rattle.gq_wire.specs.Letters.{body_of_words, heading_then, is_of_round, message_from, in_round, letter_of_words}
+use Rattle.gq_node.specs.declared.shorts.Short.{Short}
+use Rattle.gq_node.specs.declared.shorts.ShortBody.{ShortBody}
+use Rattle.gq_node.specs.Shorts.{body_with}
+use Rattle.gq_wire.specs.declared.incoming.Incoming.{Incoming}
+use Rattle.gq_wire.specs.Letters.{body_of_words, heading_then, is_of_round, message_from, in_round, letter_of_words, short_of_words, short_from, short_in_round, short_letter_of}
 use Rattle.gq_wire.specs.Fetching.{file_then, only_file, fetch_of, with_copy, file_and_copy, fetched_of}
-use Rattle.gq_wire.specs.Incoming.{fetch_or, fetched_or, letter_or_nothing, behind_name, incoming_from, incoming_of_words, FitsPlan}
+use Rattle.gq_wire.specs.Incoming.{fetch_or, fetched_or, letter_or, short_or_nothing, behind_name, incoming_from, incoming_of_words, FitsPlan}
 
 -- a verb, a session, a number, and what is asked, or one of these wanting
 pub request_arrives : (words ws ks os : List Word) (verb : Word) (k op : ℕ) (line : Option Line) → words ≡ verb ∷ ws → number_then ws ≡ Some (k, ks) → number_then ks ≡ Some (op, os) → line_by verb k os ≡ line →
@@ -92,30 +96,49 @@ fetched_own t (verb ∷ words) = by (bytes_eq verb (codes "fetched"))
     by true = given_own t (file_then t words) (then_own t words)
     by false = tt
 
-letter_own : (plan : CheckedPlan) (here from t : ℕ) (words : List Word) → t < length plan.rows → FitsPlan plan (letter_or_nothing from (letter_of_words here from t words))
+letter_own : (plan : CheckedPlan) (here from t : ℕ) (words : List Word) (other : Incoming) → t < length plan.rows → FitsPlan plan other → FitsPlan plan (letter_or from (letter_of_words here from t words) other)
 unfolding letter_of_words
-letter_own plan here from t words within = heading (heading_then words)
+letter_own plan here from t words other within fits = heading (heading_then words)
   where
-    round : (b : Bool) (m : Message) → m.tenant ≡ t → m.file.tenant ≡ t → FitsPlan plan (letter_or_nothing from (cond b (Some m) None))
+    round : (b : Bool) (m : Message) → m.tenant ≡ t → m.file.tenant ≡ t → FitsPlan plan (letter_or from (cond b (Some m) None) other)
     round true m own file = (subst (λ n. n < length plan.rows) (sym own) within, file ∙ sym own)
-    round false m own file = tt
+    round false m own file = fits
 
-    body : (h : Heading) (o : Option Body) → FitsPlan plan (letter_or_nothing from (o >>= λ body. in_round (message_from here from t h body)))
-    body h None = tt
+    body : (h : Heading) (o : Option Body) → FitsPlan plan (letter_or from (o >>= λ body. in_round (message_from here from t h body)) other)
+    body h None = fits
     body h (Some b) = round (is_of_round h.round b) (message_from here from t h b) refl refl
 
-    heading : (o : Option (Heading × List Word)) → FitsPlan plan (letter_or_nothing from (o >>= λ (h : Heading × List Word). body_of_words h.1 >>= λ body. in_round (message_from here from t h.0 body)))
-    heading None = tt
+    heading : (o : Option (Heading × List Word)) → FitsPlan plan (letter_or from (o >>= λ (h : Heading × List Word). body_of_words h.1 >>= λ body. in_round (message_from here from t h.0 body)) other)
+    heading None = fits
     heading (Some h) = body h.0 (body_of_words h.1)
+
+short_own : (plan : CheckedPlan) (here from t : ℕ) (words : List Word) → t < length plan.rows → FitsPlan plan (short_or_nothing from (short_letter_of here from t words))
+unfolding short_letter_of
+short_own plan here from t words within = heading (heading_then words)
+  where
+    round : (b : Bool) (s : Short) → s.tenant ≡ t → s.file.tenant ≡ t → FitsPlan plan (short_or_nothing from (cond b (Some s) None))
+    round true s own file = (subst (λ n. n < length plan.rows) (sym own) within, file ∙ sym own)
+    round false s own file = tt
+
+    body : (h : Heading) (o : Option ShortBody) → FitsPlan plan (short_or_nothing from (o >>= λ body. short_in_round (short_from here from t h body)))
+    body h None = tt
+    body h (Some b) = round (is_of_round h.round (body_with [] b)) (short_from here from t h b) refl refl
+
+    heading : (o : Option (Heading × List Word)) → FitsPlan plan (short_or_nothing from (o >>= λ (h : Heading × List Word). short_of_words h.1 >>= λ body. short_in_round (short_from here from t h.0 body)))
+    heading None = tt
+    heading (Some h) = body h.0 (short_of_words h.1)
 
 pub behind_fits : (plan : CheckedPlan) (here from t : ℕ) (words : List Word) → t < length plan.rows → FitsPlan plan (behind_name here from (Some t) words)
 behind_fits plan here from t words within = asked (fetch_of t words) (fetch_own t words)
   where
-    given : (o : Option (FileId × StoredCopy)) → IfSome o (λ x. x.0.tenant ≡ t) → FitsPlan plan (fetched_or from o (letter_or_nothing from (letter_of_words here from t words)))
-    given None own = letter_own plan here from t words within
+    rest : Incoming
+    rest = letter_or from (letter_of_words here from t words) (short_or_nothing from (short_letter_of here from t words))
+
+    given : (o : Option (FileId × StoredCopy)) → IfSome o (λ x. x.0.tenant ≡ t) → FitsPlan plan (fetched_or from o rest)
+    given None own = letter_own plan here from t words (short_or_nothing from (short_letter_of here from t words)) within (short_own plan here from t words within)
     given (Some x) own = subst (λ n. n < length plan.rows) (sym own) within
 
-    asked : (o : Option FileId) → IfSome o (λ file. file.tenant ≡ t) → FitsPlan plan (fetch_or from o (fetched_or from (fetched_of t words) (letter_or_nothing from (letter_of_words here from t words))))
+    asked : (o : Option FileId) → IfSome o (λ file. file.tenant ≡ t) → FitsPlan plan (fetch_or from o (fetched_or from (fetched_of t words) rest))
     asked None own = given (fetched_of t words) (fetched_own t words)
     asked (Some file) own = subst (λ n. n < length plan.rows) (sym own) within
 

@@ -6,6 +6,7 @@ use Rattle.std.proofs.lemmas.Fmt.{length-decimal-le}
 use Rattle.hex.specs.Hex.{lower_digits}
 use Rattle.hex.proofs.HexLemmas.{length-encode_with}
 use Rattle.gq_escape.proofs.Escaping.{at_most_twice}
+use Rattle.gq_tag.specs.declared.Tag.{Tag}
 use Rattle.gq_tag.specs.declared.StoredCopy.{StoredCopy}
 use Rattle.gq_tag.specs.declared.Body.{Body}
 use Rattle.gq_tag.specs.declared.Body.TheVariants.{Ask, Copy, Store, Stored}
@@ -19,8 +20,11 @@ use Rattle.gq_text.specs.AnswerText.{bytes_word, content_word, spaced}
 use Rattle.gq_text.specs.Canonical.{IsPlan}
 use Rattle.gq_wire.specs.declared.incoming.TheConstants.{BESIDE_CONTENT}
 use Rattle.gq_wire.specs.Incoming.{most_blocks_of, longest_line}
-use Rattle.gq_wire.specs.Texts.{copy_words, body_words, letter_words}
-use Rattle.gq_wire.specs.Laws.{FitsCopy, FitsBody, FitsLetter, content_length, letter_text}
+use Rattle.gq_wire.specs.Texts.{copy_words, body_words, letter_words, tag_words, short_body_words, short_words}
+use Rattle.gq_wire.specs.Laws.{FitsCopy, FitsBody, FitsLetter, content_length, letter_text, FitsTag, FitsShortBody, FitsShort, short_text}
+use Rattle.gq_node.specs.declared.shorts.Short.{Short}
+use Rattle.gq_node.specs.declared.shorts.ShortBody.{ShortBody}
+use Rattle.gq_node.specs.declared.shorts.ShortBody.TheVariants.{AskAbove, Tagged, Confirm, Want}
 use Rattle.gq_wire.proofs.ValuesBack.{name_at}
 
 pub short_number : (n : ℕ) → n < 2 ^ 32 → length (decimal n) ≤ 10
@@ -90,3 +94,29 @@ pub letter_short : (plan : CheckedPlan) (to from : ℕ) (m : Message) → IsPlan
 letter_short plan to from m is fits =
     fits_longest plan m.tenant (length (letter_text plan to from m))
     (omega (arith, length-append (decimal to) (spaced (decimal from ∷ letter_words plan m)), short_number to fits.to_fits, words_short plan to from m is fits))
+
+-- ---- a short letter
+
+tag_short : (tag : Tag) → FitsTag tag → length (spaced (tag_words tag)) ≤ 32
+tag_short tag fits =
+    let session = one_more (decimal tag.session) [] 10 0 (short_number tag.session (omega (arith, fits.1))) (omega arith) in
+    omega (arith, one_more (decimal tag.number) (decimal tag.session ∷ []) 20 11 (long_number tag.number fits.0) (omega (arith, session)))
+
+short_body_short : (body : ShortBody) → FitsShortBody body → length (spaced (short_body_words body)) ≤ 41
+short_body_short (AskAbove tag) fits = omega (arith, tag_short tag fits)
+short_body_short (Tagged tag) fits = omega (arith, tag_short tag fits)
+short_body_short (Confirm tag) fits = omega (arith, tag_short tag fits)
+short_body_short Want fits = omega arith
+
+pub short_short : (plan : CheckedPlan) (to from : ℕ) (s : Short) → IsPlan plan → FitsShort plan to from s → length (short_text plan to from s) ≤ longest_line plan
+short_short plan to from s is fits =
+    let body = short_body_short s.body fits.body in
+    let file = number_more s.file.file (short_body_words s.body) 41 fits.file body in
+    let volume = number_more s.file.volume (decimal s.file.file ∷ short_body_words s.body) 52 fits.volume (omega (arith, file)) in
+    let round = number_more s.round (decimal s.file.volume ∷ decimal s.file.file ∷ short_body_words s.body) 63 fits.round (omega (arith, volume)) in
+    let op = number_more s.op (decimal s.round ∷ decimal s.file.volume ∷ decimal s.file.file ∷ short_body_words s.body) 74 fits.op (omega (arith, round)) in
+    let session = number_more s.session (decimal s.op ∷ decimal s.round ∷ decimal s.file.volume ∷ decimal s.file.file ∷ short_body_words s.body) 85 (omega (arith, fits.session)) (omega (arith, op)) in
+    let name = one_more (row_at plan s.tenant).name (decimal s.session ∷ decimal s.op ∷ decimal s.round ∷ decimal s.file.volume ∷ decimal s.file.file ∷ short_body_words s.body) 16 96 (short_name (row_at plan s.tenant).name (name_at plan s.tenant is fits.tenant)) (omega (arith, session)) in
+    let words = number_more from (short_words plan s) 113 (omega (arith, fits.from_fits)) (omega (arith, name)) in
+    fits_longest plan s.tenant (length (short_text plan to from s))
+    (omega (arith, length-append (decimal to) (spaced (decimal from ∷ short_words plan s)), short_number to fits.to_fits, words))

@@ -17,8 +17,8 @@ use Rattle.gq_text.proofs.LinesBack.{words_back}
 use Rattle.gq_wire.specs.Incoming.{longest_line}
 use Rattle.gq_wire.specs.declared.incoming.Incoming.TheVariants.{Letter}
 use Rattle.gq_wire.specs.declared.letters.Heading.{Heading}
-use Rattle.gq_wire.specs.Letters.{body_of_words, heading_then, message_from, letter_of_words}
-use Rattle.gq_wire.specs.Incoming.{from_node, letter_or_nothing, incoming_of_words}
+use Rattle.gq_wire.specs.Letters.{body_of_words, heading_then, message_from, letter_of_words, short_letter_of}
+use Rattle.gq_wire.specs.Incoming.{from_node, letter_or, short_or_nothing, incoming_of_words}
 use Rattle.gq_wire.specs.Fetching.{only_number, number_behind, fetch_of, fetched_of}
 use Rattle.gq_node.specs.declared.lost.TheConstants.{NODE_NUMBERS}
 use Rattle.gq_wire.specs.Texts.{body_words, letter_words}
@@ -60,10 +60,10 @@ abbrev message_words : Message → List Word
 message_words m = decimal m.session ∷ decimal m.op ∷ decimal m.round ∷ decimal m.file.volume ∷ decimal m.file.file ∷ body_words m.body
 
 -- the heading of a message
-heading : Message → Heading
+unfoldable pub heading : Message → Heading
 heading m = record { session = m.session; op = m.op; round = m.round; volume = m.file.volume; file = m.file.file }
 
-heading_back : (m : Message) (rest : List Word) → m.session < 256 → m.op < 2 ^ 32 → m.round < 2 ^ 32 → m.file.volume < 2 ^ 32 → m.file.file < 2 ^ 32 →
+pub heading_back : (m : Message) (rest : List Word) → m.session < 256 → m.op < 2 ^ 32 → m.round < 2 ^ 32 → m.file.volume < 2 ^ 32 → m.file.file < 2 ^ 32 →
     heading_then (decimal m.session ∷ decimal m.op ∷ decimal m.round ∷ decimal m.file.volume ∷ decimal m.file.file ∷ rest) ≡ Some (heading m, rest)
 unfolding heading_then heading
 heading_back m rest s o r v f = rw (numbers_read_back m.session (omega arith), byte_back m.session s, numbers_read_back m.op o, numbers_read_back m.round r, numbers_read_back m.file.volume v, numbers_read_back m.file.file f) refl
@@ -112,7 +112,7 @@ no_verb n verb fits none = elim (cases_Bool (bytes_eq (decimal n) verb)) [
   | inr other ↦ other
 ]
 
-no_file : (m : Message) → m.session < 256 → (words : List Word) → (fetch_of m.tenant (decimal m.session ∷ words) ≡ None) × (fetched_of m.tenant (decimal m.session ∷ words) ≡ None)
+pub no_file : (m : Message) → m.session < 256 → (words : List Word) → (fetch_of m.tenant (decimal m.session ∷ words) ≡ None) × (fetched_of m.tenant (decimal m.session ∷ words) ≡ None)
 unfolding number_up_to
 no_file m small words = (rw (no_verb m.session (codes "fetch") (omega (arith, small)) refl) refl, rw (no_verb m.session (codes "fetched") (omega (arith, small)) refl) refl)
 
@@ -129,7 +129,7 @@ from_back plan to from m is fits =
       place_back plan m.tenant is fits.tenant,
       none.0,
       none.1,
-    ) (ap (letter_or_nothing from) (letter_back plan to from m fits))
+    ) (ap (λ o. letter_or from o (short_or_nothing from (short_letter_of to from m.tenant (message_words m)))) (letter_back plan to from m fits))
 
 line_back : (plan : CheckedPlan) (to from : ℕ) (m : Message) → IsPlan plan → FitsLetter plan to from m → incoming_of_words plan to (decimal to ∷ decimal from ∷ letter_words plan m) ≡ Letter from m
 unfolding incoming_of_words

@@ -1,6 +1,7 @@
 pub mod ValuesBack
 pub mod Lengths
 pub mod LettersBack
+pub mod ShortsBack
 pub mod TransfersBack
 pub mod Torn
 pub mod RequestsBack

@@ -18,7 +18,8 @@ use Rattle.gq_wire.specs.declared.incoming.Incoming.TheVariants.{Tick, Greet, No
 use Rattle.gq_wire.specs.Values.{number_then, within_byte, byte_then, long_then, last_content, copy_of, alone}
 use Rattle.gq_wire.specs.Requests.{write_by, read_by, list_by, line_by, request_by, request_of}
 use Rattle.gq_node.specs.declared.lost.TheConstants.{NODE_NUMBERS}
-use Rattle.gq_wire.specs.Letters.{body_of_words, heading_then, letter_of_words}
+use Rattle.gq_node.specs.declared.shorts.ShortBody.TheVariants.{Want}
+use Rattle.gq_wire.specs.Letters.{body_of_words, heading_then, letter_of_words, tag_of, short_of_words, short_letter_of}
 use Rattle.gq_wire.specs.Fetching.{only_number, number_behind, file_then, only_file, fetch_of, with_copy, file_and_copy, fetched_of}
 use Rattle.gq_wire.specs.Incoming.{behind_name, node_words, from_tenant, is_only, incoming_from, is_to, incoming_of_words}
 use Rattle.gq_wire.specs.Laws.{is_formless, TornLinesHaveNoForm}
@@ -126,6 +127,22 @@ letter_fails : (here from t : ℕ) (words : List Word) → letter_of_words here 
 unfolding letter_of_words
 letter_fails here from t words = step_fails _ (λ h ws. rw (body_fails ws) refl) (heading_then (marked words)) (heading_marked words)
 
+tag_fails : (words : List Word) → tag_of (marked words) ≡ None
+unfolding tag_of
+tag_fails words =
+    step_fails _ (λ n ws. step_fails _ (λ s vs. alone_fails vs (record { number = n; session = s })) (byte_then (marked ws)) (byte_marked ws)) (long_then (marked words)) (long_marked words)
+
+short_body_fails : (words : List Word) → short_of_words (marked words) ≡ None
+unfolding short_of_words
+short_body_fails [] = refl
+short_body_fails (verb ∷ words) =
+    rw (alone_fails words Want, tag_fails words)
+    (both (bytes_eq verb (codes "ask")) None _ None refl (both (bytes_eq verb (codes "tag")) None _ None refl (both (bytes_eq verb (codes "confirm")) None _ None refl (both (bytes_eq verb (codes "want")) None None None refl refl))))
+
+short_fails : (here from t : ℕ) (words : List Word) → short_letter_of here from t (marked words) ≡ None
+unfolding short_letter_of
+short_fails here from t words = step_fails _ (λ h ws. rw (short_body_fails ws) refl) (heading_then (marked words)) (heading_marked words)
+
 file_marked : (t : ℕ) (words : List Word) → IsMarked (file_then t (marked words))
 unfolding IsMarked file_then
 file_marked t words = step_marked _ (λ v ws. step_marked _ (λ f vs. (vs, refl)) (number_then (marked ws)) (number_marked ws)) (number_then (marked words)) (number_marked words)
@@ -209,11 +226,11 @@ no_tick false x is = is
 -- behind the name of a tenant, if there is one
 name_formless : (here from : ℕ) (o : Option ℕ) (words : List Word) → is_formless (behind_name here from o (marked words)) ≡ true
 name_formless here from None words = refl
-name_formless here from (Some t) words = rw (fetch_fails t words, fetched_fails t words, letter_fails here from t words) refl
+name_formless here from (Some t) words = rw (fetch_fails t words, fetched_fails t words, letter_fails here from t words, short_fails here from t words) refl
 
 -- the mark alone names nobody, and is no verb
 mark_formless : (here from : ℕ) (o : Option ℕ) → is_formless (behind_name here from o []) ≡ true
-unfolding letter_of_words heading_then
+unfolding letter_of_words short_letter_of heading_then
 mark_formless here from None = refl
 mark_formless here from (Some t) = refl
 

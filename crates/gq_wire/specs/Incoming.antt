@@ -9,13 +9,14 @@ use Rattle.gq_desk.specs.declared.plans.TenantRow.{TenantRow}
 use Rattle.gq_desk.specs.CheckedPlan.{CheckedPlan}
 use Rattle.gq_model.specs.declared.events.Line.{Line}
 use Rattle.gq_node.specs.declared.lost.TheConstants.{NODE_NUMBERS}
+use Rattle.gq_node.specs.declared.shorts.Short.{Short}
 use Rattle.gq_text.specs.Words.{Word, words_of, number_of}
 use Rattle.gq_text.specs.Input.{place_named}
 use Rattle.gq_wire.specs.declared.incoming.TheConstants.{MOST_LINE, BESIDE_CONTENT}
 use Rattle.gq_wire.specs.declared.incoming.Incoming.{Incoming}
-use Rattle.gq_wire.specs.declared.incoming.Incoming.TheVariants.{Request, Plan, Bad, Letter, Joins, Joined, Speaks, Fetch, Fetched, Tick, Greet, Nothing}
+use Rattle.gq_wire.specs.declared.incoming.Incoming.TheVariants.{Request, Plan, Bad, Letter, ShortLetter, Joins, Joined, Speaks, Fetch, Fetched, Tick, Greet, Nothing}
 use Rattle.gq_wire.specs.Requests.{request_of}
-use Rattle.gq_wire.specs.Letters.{letter_of_words}
+use Rattle.gq_wire.specs.Letters.{letter_of_words, short_letter_of}
 use Rattle.gq_wire.specs.Fetching.{number_behind, fetch_of, fetched_of}
 
 -- ---- from a tenant
@@ -59,14 +60,19 @@ abbrev pub fetched_or : ℕ → Option (FileId × StoredCopy) → Incoming → I
 fetched_or from (Some x) other = Fetched from x.0 x.1
 fetched_or from None other = other
 
-abbrev pub letter_or_nothing : ℕ → Option Message → Incoming
-letter_or_nothing from (Some message) = Letter from message
-letter_or_nothing from None = Nothing
+-- a letter comes, or a short one
+abbrev pub letter_or : ℕ → Option Message → Incoming → Incoming
+letter_or from (Some message) other = Letter from message
+letter_or from None other = other
+
+abbrev pub short_or_nothing : ℕ → Option Short → Incoming
+short_or_nothing from (Some short) = ShortLetter from short
+short_or_nothing from None = Nothing
 
 -- behind the name of the tenant at that place of the plan, if there is one
 abbrev pub behind_name : (here from : ℕ) → Option ℕ → List Word → Incoming
 behind_name here from None words = Nothing
-behind_name here from (Some t) words = fetch_or from (fetch_of t words) (fetched_or from (fetched_of t words) (letter_or_nothing from (letter_of_words here from t words)))
+behind_name here from (Some t) words = fetch_or from (fetch_of t words) (fetched_or from (fetched_of t words) (letter_or from (letter_of_words here from t words) (short_or_nothing from (short_letter_of here from t words))))
 
 abbrev pub node_words : CheckedPlan → (here from : ℕ) → List Word → Incoming
 node_words plan here from [] = Nothing
@@ -120,6 +126,7 @@ FitsPlan plan (Request tenant op line) = tenant < length plan.rows
 FitsPlan plan (Plan tenant) = tenant < length plan.rows
 FitsPlan plan (Bad tenant) = tenant < length plan.rows
 FitsPlan plan (Letter from m) = (m.tenant < length plan.rows) × (m.file.tenant ≡ m.tenant)
+FitsPlan plan (ShortLetter from s) = (s.tenant < length plan.rows) × (s.file.tenant ≡ s.tenant)
 FitsPlan plan (Joins from losses) = Unit {0}
 FitsPlan plan (Joined from losses) = Unit {0}
 FitsPlan plan (Speaks from form) = Unit {0}

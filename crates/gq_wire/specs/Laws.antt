@@ -2,6 +2,7 @@
 use Rattle.std.specs.Prelude.{◌≡◌, ◌≢◌, ℕ, ◌*◌, ◌<◌, ◌≤◌, ◌^◌, List, [], ◌∷◌, ◌++◌, Bool, true, false, not, ◌==◌, codes, decimal, length, Some, if◌then◌else◌}
 use Rattle.std.specs.List.{list_all}
 use Rattle.hex.specs.Hex.{IsBytes}
+use Rattle.gq_tag.specs.declared.Tag.{Tag}
 use Rattle.gq_tag.specs.declared.StoredCopy.{StoredCopy}
 use Rattle.gq_tag.specs.declared.Body.{Body}
 use Rattle.gq_tag.specs.declared.Body.TheVariants.{Copy, Store}
@@ -12,6 +13,10 @@ use Rattle.gq_desk.specs.CheckedPlan.{CheckedPlan, row_at}
 use Rattle.gq_model.specs.declared.events.Line.{Line}
 use Rattle.gq_model.specs.declared.events.Line.TheVariants.{Write, Read, List as ListFiles, Abandon}
 use Rattle.gq_node.specs.declared.lost.TheConstants.{NODE_NUMBERS}
+use Rattle.gq_node.specs.declared.shorts.Short.{Short}
+use Rattle.gq_node.specs.declared.shorts.ShortBody.{ShortBody}
+use Rattle.gq_node.specs.declared.shorts.ShortBody.TheVariants.{AskAbove, Tagged, Confirm, Want}
+use Rattle.gq_node.specs.Shorts.{body_with}
 use Rattle.gq_node.specs.declared.output.Transfer.{Transfer}
 use Rattle.gq_node.specs.declared.output.Transfer.TheVariants.{Wants, Brings}
 use Rattle.gq_replace.specs.Plans.{place_of}
@@ -19,12 +24,12 @@ use Rattle.gq_text.specs.Words.{Word}
 use Rattle.gq_text.specs.AnswerText.{bytes_word, content_word, spaced}
 use Rattle.gq_text.specs.Canonical.{IsPlan, IsNumber}
 use Rattle.gq_wire.specs.declared.incoming.Incoming.{Incoming}
-use Rattle.gq_wire.specs.declared.incoming.Incoming.TheVariants.{Request, Plan, Bad, Letter, Joins, Joined, Speaks, Fetch, Fetched, Nothing}
+use Rattle.gq_wire.specs.declared.incoming.Incoming.TheVariants.{Request, Plan, Bad, Letter, ShortLetter, Joins, Joined, Speaks, Fetch, Fetched, Nothing}
 use Rattle.gq_wire.specs.Values.{copy_of}
 use Rattle.gq_wire.specs.Requests.{request_words}
 use Rattle.gq_wire.specs.Letters.{is_of_round}
 use Rattle.gq_wire.specs.Incoming.{incoming_of}
-use Rattle.gq_wire.specs.Texts.{first_text, letter_words, letter_line, transfer_file, transfer_to, transfer_words, transfer_line}
+use Rattle.gq_wire.specs.Texts.{first_text, letter_words, letter_line, short_words, short_line, transfer_file, transfer_to, transfer_words, transfer_line}
 
 -- the numbers of a copy fit in the words of a line
 abbrev pub FitsCopy : StoredCopy → Type 0
@@ -71,6 +76,43 @@ abbrev pub LettersReadBack : Type 0
 LettersReadBack =
     (plan : CheckedPlan) (to from : ℕ) (m : Message) → IsPlan plan → FitsLetter plan to from m →
     (letter_line plan to from m ≡ letter_text plan to from m ++ 10 ∷ []) × (is_one_line (letter_text plan to from m) ≡ true) × (incoming_of plan to (letter_text plan to from m) ≡ Letter from m)
+
+-- ---- a short letter
+
+-- the numbers of a tag fit in the words of a line
+abbrev pub FitsTag : Tag → Type 0
+FitsTag tag = (tag.number < 2 ^ 64) × (tag.session < 256)
+
+abbrev pub FitsShortBody : ShortBody → Type 0
+FitsShortBody (AskAbove tag) = FitsTag tag
+FitsShortBody (Tagged tag) = FitsTag tag
+FitsShortBody (Confirm tag) = FitsTag tag
+FitsShortBody Want = Unit {0}
+
+-- a short letter between these two, of a tenant of the plan, whose numbers fit, and whose body is of its round
+pub record FitsShort (plan : CheckedPlan) (to from : ℕ) (s : Short) : Type 0 where
+  pub tenant : s.tenant < length plan.rows
+  pub own : s.file.tenant ≡ s.tenant
+  pub to_fits : to < 2 ^ 32
+  pub from_fits : from < NODE_NUMBERS
+  pub server : s.server ≡ place_of (if to_server (body_with [] s.body) then to else from)
+  pub session : s.session < 256
+  pub op : s.op < 2 ^ 32
+  pub round : s.round < 2 ^ 32
+  pub volume : s.file.volume < 2 ^ 32
+  pub file : s.file.file < 2 ^ 32
+  pub body : FitsShortBody s.body
+  pub in_round : is_of_round s.round (body_with [] s.body) ≡ true
+
+-- the line of a short letter, without its newline
+abbrev pub short_text : CheckedPlan → (to from : ℕ) → Short → List ℕ
+short_text plan to from s = decimal to ++ spaced (decimal from ∷ short_words plan s)
+
+-- the line that one node writes is read by the other as that short letter; so it is none of a whole letter
+abbrev pub ShortsReadBack : Type 0
+ShortsReadBack =
+    (plan : CheckedPlan) (to from : ℕ) (s : Short) → IsPlan plan → FitsShort plan to from s →
+    (short_line plan to from s ≡ short_text plan to from s ++ 10 ∷ []) × (is_one_line (short_text plan to from s) ≡ true) × (incoming_of plan to (short_text plan to from s) ≡ ShortLetter from s)
 
 -- a copy is read from digits too, as nodes wrote it before
 abbrev pub CopiesInDigitsReadBack : Type 0

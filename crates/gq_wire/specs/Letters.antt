@@ -1,6 +1,7 @@
 -- What a node says to a node: `T S OP ROUND V F BODY`.
 use Rattle.std.specs.Prelude.{ℕ, List, [], ◌∷◌, Bool, not, codes, Option, Some, None, if◌then◌else◌}
 use Rattle.std.specs.Str.{bytes_eq}
+use Rattle.gq_tag.specs.declared.Tag.{Tag}
 use Rattle.gq_tag.specs.declared.StoredCopy.{StoredCopy}
 use Rattle.gq_tag.specs.declared.Body.{Body}
 use Rattle.gq_tag.specs.declared.Body.TheVariants.{Ask, Copy, Store, Stored}
@@ -8,9 +9,13 @@ use Rattle.gq_tag.specs.declared.Message.{Message}
 use Rattle.gq_tag.specs.Tag.{to_server}
 use Rattle.gq_phase.specs.Phase.{is_collect}
 use Rattle.gq_replace.specs.Plans.{place_of}
+use Rattle.gq_node.specs.declared.shorts.Short.{Short}
+use Rattle.gq_node.specs.declared.shorts.ShortBody.{ShortBody}
+use Rattle.gq_node.specs.declared.shorts.ShortBody.TheVariants.{AskAbove, Tagged, Confirm, Want}
+use Rattle.gq_node.specs.Shorts.{body_with}
 use Rattle.gq_text.specs.Words.{Word}
 use Rattle.gq_text.specs.Input.{◌>>=◌}
-use Rattle.gq_wire.specs.Values.{number_then, byte_then, copy_of, alone}
+use Rattle.gq_wire.specs.Values.{number_then, byte_then, long_then, copy_of, alone}
 use Rattle.gq_wire.specs.declared.letters.Heading.{Heading}
 
 -- ---- the body
@@ -69,3 +74,48 @@ letter_of_words here from t words = do
   h ← heading_then words
   body ← body_of_words h.1
   in_round (message_from here from t h.0 body)
+
+-- ---- a short letter
+
+-- the words are a tag's number and session, and no more
+unfoldable pub tag_of : List Word → Option Tag
+tag_of words = do
+  n ← long_then words
+  s ← byte_then n.1
+  alone s.1 (record { number = n.0; session = s.0 })
+
+abbrev pub with_tag : (Tag → ShortBody) → Option Tag → Option ShortBody
+with_tag body None = None
+with_tag body (Some tag) = Some (body tag)
+
+-- the words are those of a short body, and no more
+unfoldable pub short_of_words : List Word → Option ShortBody
+short_of_words [] = None
+short_of_words (verb ∷ words) =
+    if bytes_eq verb (codes "ask") then with_tag (λ tag. AskAbove tag) (tag_of words)
+    else if bytes_eq verb (codes "tag") then with_tag (λ tag. Tagged tag) (tag_of words)
+    else if bytes_eq verb (codes "confirm") then with_tag (λ tag. Confirm tag) (tag_of words)
+    else if bytes_eq verb (codes "want") then alone words Want
+    else None
+
+-- the short letter of the tenant at place t between these two nodes: it goes the way that the body goes for which it stands
+abbrev pub short_from : (here from t : ℕ) → Heading → ShortBody → Short
+short_from here from t h body = record {
+  tenant = t;
+  session = h.session;
+  op = h.op;
+  round = h.round;
+  server = place_of (if to_server (body_with [] body) then here else from);
+  file = record { tenant = t; volume = h.volume; file = h.file };
+  body = body;
+}
+
+abbrev pub short_in_round : Short → Option Short
+short_in_round s = if is_of_round s.round (body_with [] s.body) then Some s else None
+
+-- the short letter about the tenant at place t, of the words behind its name, to this node from that
+unfoldable pub short_letter_of : (here from t : ℕ) → List Word → Option Short
+short_letter_of here from t words = do
+  h ← heading_then words
+  body ← short_of_words h.1
+  short_in_round (short_from here from t h.0 body)

@@ -1,5 +1,6 @@
 -- The lines that a node writes.
 use Rattle.std.specs.Prelude.{ℕ, List, [], ◌∷◌, ◌++◌, ◌+◌, ◌==◌, ◌&&◌, Bool, nat_le, if◌then◌else◌, codes, decimal, length, map, slice_index_or}
+use Rattle.gq_tag.specs.declared.Tag.{Tag}
 use Rattle.gq_tag.specs.declared.FileId.{FileId}
 use Rattle.gq_tag.specs.declared.StoredCopy.{StoredCopy}
 use Rattle.gq_tag.specs.declared.Body.{Body}
@@ -14,6 +15,9 @@ use Rattle.gq_model.specs.declared.events.Refusal.TheVariants.{NoVolume, NoFile,
 use Rattle.gq_text.specs.Words.{Word}
 use Rattle.gq_text.specs.AnswerText.{bytes_word, outcome_words, refusal_words, line_text}
 use Rattle.gq_wire.specs.declared.answers.TheConstants.{VOLUMES_ONE_BY_ONE}
+use Rattle.gq_node.specs.declared.shorts.Short.{Short}
+use Rattle.gq_node.specs.declared.shorts.ShortBody.{ShortBody}
+use Rattle.gq_node.specs.declared.shorts.ShortBody.TheVariants.{AskAbove, Tagged, Confirm, Want}
 use Rattle.gq_node.specs.declared.output.Answer.{Answer}
 use Rattle.gq_node.specs.declared.output.Holding.{Holding}
 use Rattle.gq_node.specs.declared.output.Transfer.{Transfer}
@@ -46,6 +50,27 @@ letter_words plan m = headed plan m (body_words m.body)
 
 abbrev pub letter_line : CheckedPlan → (to from : ℕ) → Message → List ℕ
 letter_line plan to from m = line_text (decimal to) (decimal from ∷ letter_words plan m)
+
+-- ---- a short letter
+
+abbrev pub tag_words : Tag → List Word
+tag_words tag = decimal tag.number ∷ decimal tag.session ∷ []
+
+abbrev pub short_body_words : ShortBody → List Word
+short_body_words (AskAbove tag) = codes "ask" ∷ tag_words tag
+short_body_words (Tagged tag) = codes "tag" ∷ tag_words tag
+short_body_words (Confirm tag) = codes "confirm" ∷ tag_words tag
+short_body_words Want = codes "want" ∷ []
+
+abbrev pub short_headed : CheckedPlan → Short → List Word → List Word
+short_headed plan s body =
+    (row_at plan s.tenant).name ∷ decimal s.session ∷ decimal s.op ∷ decimal s.round ∷ decimal s.file.volume ∷ decimal s.file.file ∷ body
+
+abbrev pub short_words : CheckedPlan → Short → List Word
+short_words plan s = short_headed plan s (short_body_words s.body)
+
+abbrev pub short_line : CheckedPlan → (to from : ℕ) → Short → List ℕ
+short_line plan to from s = line_text (decimal to) (decimal from ∷ short_words plan s)
 
 -- ---- between a new node and others
 

@@ -7,12 +7,12 @@ ghost use Rattle.gq_node.specs.declared.lost.TheConstants.{NODE_NUMBERS};
 ghost use Rattle.gq_wire.specs.Incoming.{is_only, is_tick, is_greet, behind_name, node_words, from_node, from_tenant, incoming_from, incoming_of_words, incoming_of, most_blocks_of, longest_line, FitsPlan};
 
 use crate::fetching::{fetch, fetched, number_behind};
-use crate::letters::letter;
+use crate::letters::{letter, short_letter};
 use crate::requests::request;
 use gq_desk::{Plan, TenantRow};
 use gq_memory::OutOfMemory;
 use gq_model::Line;
-use gq_node::NODE_NUMBERS;
+use gq_node::{NODE_NUMBERS, Short};
 use gq_pool::BLOCK_BYTES;
 use gq_tag::{FileId, Message, StoredCopy};
 use gq_text::{first_word, is_end, next_word, number};
@@ -26,7 +26,7 @@ const BESIDE_CONTENT: usize = 255;
 
 /// This program speaks all forms of lines between nodes up to this one. Another number is told to other nodes and to tenants once a form comes
 /// that programs of before can't read.
-pub const LINE_FORM: u32 = 1;
+pub const LINE_FORM: u32 = 2;
 
 /// What a line is to a node.
 #[derive(Drop)]
@@ -49,6 +49,11 @@ pub enum Incoming {
     Letter {
         from: u16,
         message: Message,
+    },
+    /// A letter in a short form from the node of this number.
+    ShortLetter {
+        from: u16,
+        short: Short,
     },
     /// The node of this number, which is new, asks whether this one's plan has it, and so many losses or more.
     Joins {
@@ -110,8 +115,11 @@ fn behind_name(
     if let Some((file, copy)) = fetched(alloc, tenant, text)? {
         return Ok(Incoming::Fetched { from, file, copy });
     }
-    match letter(alloc, text, here, from, tenant)? {
-        Some(message) => Ok(Incoming::Letter { from, message }),
+    if let Some(message) = letter(alloc, text, here, from, tenant)? {
+        return Ok(Incoming::Letter { from, message });
+    }
+    match short_letter(text, here, from, tenant) {
+        Some(short) => Ok(Incoming::ShortLetter { from, short }),
         None => Ok(Incoming::Nothing),
     }
 }

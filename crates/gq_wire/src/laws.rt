@@ -1,10 +1,15 @@
 //! What is read of the lines that are written.
 
-ghost use Rattle.gq_wire.specs.Laws.{AllJoinsReadBack, CopiesInDigitsReadBack, FormsReadBack, LettersReadBack, TransfersReadBack, PassesOver, PlansReadBack, RequestsReadBack, TornLinesHaveNoForm, WritesReadBack};
+ghost use Rattle.gq_wire.specs.Laws.{AllJoinsReadBack, CopiesInDigitsReadBack, FormsReadBack, LettersReadBack, ShortsReadBack, TransfersReadBack, PassesOver, PlansReadBack, RequestsReadBack, TornLinesHaveNoForm, WritesReadBack};
 
 /// The line of a letter, up to its newline, is read by the node that it is to as that letter.
 pub fn letters_read_back()
     ensures { LettersReadBack }
+{}
+
+/// The line of a short letter, up to its newline, is read by the node that it is to as that short letter.
+pub fn shorts_read_back()
+    ensures { ShortsReadBack }
 {}
 
 /// A copy is read from digits too, as nodes wrote it before.

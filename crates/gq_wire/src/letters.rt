@@ -3,12 +3,12 @@
 ghost use Rattle.std.specs.Prelude.{◌≡◌, Some, None, IfOk, MatchOption};
 ghost use Rattle.gq_tag.specs.declared.Body.TheVariants.{Copy, Store};
 ghost use Rattle.gq_text.specs.Words.{words_after};
-ghost use Rattle.gq_wire.specs.Letters.{with_copy, body_of_words, heading_then, is_of_round, message_from, in_round, letter_of_words};
+ghost use Rattle.gq_wire.specs.Letters.{with_copy, body_of_words, heading_then, is_of_round, message_from, in_round, letter_of_words, tag_of, short_of_words, short_from, short_in_round, short_letter_of};
 
-use crate::values::{read_copy, take_byte, take_number};
+use crate::values::{read_copy, take_byte, take_long, take_number};
 use gq_memory::OutOfMemory;
-use gq_node::place_of;
-use gq_tag::{Body, FileId, Message, StoredCopy};
+use gq_node::{Short, ShortBody, place_of};
+use gq_tag::{Body, FileId, Message, StoredCopy, Tag};
 use gq_text::{is_end, next_word};
 use std::alloc::Global;
 
@@ -154,4 +154,87 @@ pub(crate) fn letter(
         Some(body) => Ok(in_round(message(here, from, tenant, h, body))),
         None => Ok(None),
     }
+}
+
+// The tag of the next words, which are the last.
+#[tactic(auto, unfolding(crate::specs::Letters::tag_of))]
+fn last_tag(text: &[u8]) -> Option<Tag>
+    ensures { result ≡ tag_of (words_after text.now) }
+{
+    let (number, rest) = take_long(text)?;
+    let (session, rest) = take_byte(rest)?;
+    if is_end(rest) {
+        Some(Tag { number, session })
+    } else {
+        None
+    }
+}
+
+// The short body that the words tell, and no more.
+#[tactic(auto, unfolding(crate::specs::Letters::short_of_words))]
+fn short_body(text: &[u8]) -> Option<ShortBody>
+    ensures { result ≡ short_of_words (words_after text.now) }
+{
+    let (verb, rest) = next_word(text)?;
+    if verb == b"ask".as_slice() {
+        Some(ShortBody::AskAbove(last_tag(rest)?))
+    } else if verb == b"tag".as_slice() {
+        Some(ShortBody::Tagged(last_tag(rest)?))
+    } else if verb == b"confirm".as_slice() {
+        Some(ShortBody::Confirm(last_tag(rest)?))
+    } else if verb == b"want".as_slice() {
+        if is_end(rest) {
+            Some(ShortBody::Want)
+        } else {
+            None
+        }
+    } else {
+        None
+    }
+}
+
+// The short letter between these two.
+fn short_between(here: u16, from: u16, tenant: u8, h: Heading, body: ShortBody) -> Short
+    ensures { result ≡ short_from here from tenant h body }
+{
+    let to_server = matches!(body, ShortBody::AskAbove(_) | ShortBody::Confirm(_));
+    Short {
+        tenant,
+        session: h.session,
+        op: h.op,
+        round: h.round,
+        server: if to_server {
+            place_of(here)
+        } else {
+            place_of(from)
+        },
+        file: FileId {
+            tenant,
+            volume: h.volume,
+            file: h.file,
+        },
+        body,
+    }
+}
+
+// The short letter, if its body is of its round.
+fn short_in_round(short: Short) -> Option<Short>
+    ensures { result ≡ short_in_round short }
+{
+    let collects = short.round % 2 == 1;
+    let is_of_round = match short.body {
+        ShortBody::AskAbove(_) | ShortBody::Tagged(_) => collects,
+        ShortBody::Confirm(_) | ShortBody::Want => !collects,
+    };
+    if is_of_round { Some(short) } else { None }
+}
+
+/// The short letter about the tenant, of the words behind its name, to this node from that one.
+#[tactic(auto, unfolding(crate::specs::Letters::short_letter_of))]
+pub(crate) fn short_letter(text: &[u8], here: u16, from: u16, tenant: u8) -> Option<Short>
+    ensures { result ≡ short_letter_of here from tenant (words_after text.now) }
+{
+    let (h, rest) = take_heading(text)?;
+    let body = short_body(rest)?;
+    short_in_round(short_between(here, from, tenant, h, body))
 }

@@ -5,12 +5,13 @@ ghost use Rattle.std.specs.List.{flat_map};
 ghost use Rattle.gq_text.specs.AnswerText.{line_text};
 ghost use Rattle.gq_text.specs.Pieces.{words_in, Extends};
 ghost use Rattle.gq_node.specs.declared.output.Transfer.TheVariants.{Wants, Brings};
-ghost use Rattle.gq_wire.specs.Texts.{copy_words, headed, letter_line, transfer_file, transfer_line, joins_line, joined_line, speaks_line, first_text};
+ghost use Rattle.gq_node.specs.declared.shorts.ShortBody.TheVariants.{Want};
+ghost use Rattle.gq_wire.specs.Texts.{copy_words, headed, letter_line, tag_words, short_body_words, short_headed, short_line, transfer_file, transfer_line, joins_line, joined_line, speaks_line, first_text};
 
 use gq_desk::Plan;
 use gq_memory::{GrowCopies, OutOfMemory};
-use gq_node::Transfer;
-use gq_tag::{Body, FileId, Message, StoredCopy};
+use gq_node::{Short, ShortBody, Transfer};
+use gq_tag::{Body, FileId, Message, StoredCopy, Tag};
 use gq_text::{Piece, put_number, put_words};
 
 /// Appends the first line that a node writes: with it behind them, the bytes of a line that was torn before have no form.
@@ -109,6 +110,86 @@ pub fn put_letter(
         Body::Store(copy) => put_with_copy(out, plan, to, from, message, b"store", copy),
         Body::Copy(copy) => put_with_copy(out, plan, to, from, message, b"copy", copy),
         Body::Stored => put_bare(out, plan, to, from, message, b"stored"),
+    }
+}
+
+// Appends the line of a short letter whose body is this word and a tag.
+fn put_with_tag<'x>(
+    out: &mut Vec<u8>,
+    plan: &'x Plan,
+    to: u16,
+    from: u16,
+    short: &Short,
+    word: &'x [u8],
+    tag: Tag,
+) -> Result<(), OutOfMemory>
+    requires { short.now.tenant < length plan.now.rows }
+    ensures ok { OnOk result (out.new.items ≡ out.old.items ++ line_text (decimal to) (decimal from ∷ short_headed plan.now short.now (word.now ∷ tag_words tag))) }
+    ensures err { OnErr result (Extends out.old.items out.new.items) }
+{
+    put_line(
+        out,
+        to,
+        &[
+            Piece::Number(u64::from(from)),
+            Piece::Text(plan.row(short.tenant).name.as_bytes()),
+            Piece::Number(u64::from(short.session)),
+            Piece::Number(u64::from(short.op)),
+            Piece::Number(u64::from(short.round)),
+            Piece::Number(u64::from(short.file.volume)),
+            Piece::Number(u64::from(short.file.file)),
+            Piece::Text(word),
+            Piece::Number(tag.number),
+            Piece::Number(u64::from(tag.session)),
+        ],
+    )
+}
+
+// Appends the line of a short letter by which a server wants a store whole.
+fn put_want<'x>(
+    out: &mut Vec<u8>,
+    plan: &'x Plan,
+    to: u16,
+    from: u16,
+    short: &Short,
+) -> Result<(), OutOfMemory>
+    requires { short.now.tenant < length plan.now.rows }
+    ensures ok { OnOk result (out.new.items ≡ out.old.items ++ line_text (decimal to) (decimal from ∷ short_headed plan.now short.now (short_body_words Want))) }
+    ensures err { OnErr result (Extends out.old.items out.new.items) }
+{
+    put_line(
+        out,
+        to,
+        &[
+            Piece::Number(u64::from(from)),
+            Piece::Text(plan.row(short.tenant).name.as_bytes()),
+            Piece::Number(u64::from(short.session)),
+            Piece::Number(u64::from(short.op)),
+            Piece::Number(u64::from(short.round)),
+            Piece::Number(u64::from(short.file.volume)),
+            Piece::Number(u64::from(short.file.file)),
+            Piece::Text(b"want"),
+        ],
+    )
+}
+
+/// Appends the line of a short letter to that node from this one, or a part of it where memory is refused.
+pub fn put_short(
+    out: &mut Vec<u8>,
+    plan: &Plan,
+    to: u16,
+    from: u16,
+    short: &Short,
+) -> Result<(), OutOfMemory>
+    requires { short.now.tenant < length plan.now.rows }
+    ensures ok { OnOk result (out.new.items ≡ out.old.items ++ short_line plan.now to from short.now) }
+    ensures err { OnErr result (Extends out.old.items out.new.items) }
+{
+    match short.body {
+        ShortBody::AskAbove(tag) => put_with_tag(out, plan, to, from, short, b"ask", tag),
+        ShortBody::Tagged(tag) => put_with_tag(out, plan, to, from, short, b"tag", tag),
+        ShortBody::Confirm(tag) => put_with_tag(out, plan, to, from, short, b"confirm", tag),
+        ShortBody::Want => put_want(out, plan, to, from, short),
     }
 }
 

@@ -1,4 +1,4 @@
-use Rattle.gq_parts.proofs.Alike.{does_same}
+use Rattle.gq_parts.proofs.AlikeShorts.{does_same}
 use Rattle.gq_parts.proofs.AlikeTexts.{all_write_same}
 use Rattle.gq_parts.proofs.laws.alike.Goals as goal
 

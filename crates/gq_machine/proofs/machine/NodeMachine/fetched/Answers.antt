@@ -1,5 +1,5 @@
 -- What the call gives is of the tenant, and is appended.
-use Rattle.std.proofs.Common.{◌<◌, ◌∷◌, [], length, sym, subst}
+use Rattle.std.proofs.Common.{◌<◌, ◌∷◌, [], length, refl, sym, subst}
 use Rattle.std.specs.Prelude.{IfSome}
 use Rattle.gq_tag.specs.Tag.{file_place}
 use Rattle.gq_desk.specs.CheckedPlan.{CheckedPlan}
@@ -32,4 +32,4 @@ returns-in_ok-put-in-Ok c =
     let file = c.args.file in
     let P : StoredCopy → Type 0 = λ copy. TookOf w file.tenant (Fetched c.args.from (file_place file) copy ∷ []) c.args.facts.now.items c.put.new.facts.items c.args.told.now.items c.put.new.told.items c.put.new.self.node.tables in
     subst P c.in_ok-shared.ensures
-    (one_took w file.tenant (Fetched c.args.from (file_place file) c.in_ok-shared.shared) c.in-Ok.out _ _ _ _ _ _ c.in-Ok.ensures.acts c.in_ok-put-in-Ok.ensures)
+    (one_took w file.tenant (Fetched c.args.from (file_place file) c.in_ok-shared.shared) c.in-Ok.out _ _ _ _ _ _ (λ site local. (refl, refl)) c.in-Ok.ensures.acts c.in_ok-put-in-Ok.ensures)

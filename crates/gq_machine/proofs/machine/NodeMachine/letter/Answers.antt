@@ -1,5 +1,5 @@
 -- What the call gives is of the tenant, and is appended.
-use Rattle.std.proofs.Common.{◌<◌, length, sym, subst}
+use Rattle.std.proofs.Common.{◌<◌, length, refl, sym, subst}
 use Rattle.std.specs.Prelude.{IfSome}
 use Rattle.gq_tag.specs.Tag.{own_message}
 use Rattle.gq_desk.specs.CheckedPlan.{CheckedPlan}
@@ -27,4 +27,4 @@ put-requires-clause-transfer c =
 
 pub returns-in_ok-put-in-Ok : goal.returns-in_ok-put-in-Ok
 returns-in_ok-put-in-Ok c =
-    one_took c.args.self.now.node.tables c.args.message.now.tenant (Brought c.args.from (own_message c.args.message.now)) c.in-Ok.out _ _ _ _ _ _ c.in-Ok.ensures.acts c.in_ok-put-in-Ok.ensures
+    one_took c.args.self.now.node.tables c.args.message.now.tenant (Brought c.args.from (own_message c.args.message.now)) c.in-Ok.out _ _ _ _ _ _ (λ site local. (refl, refl)) c.in-Ok.ensures.acts c.in_ok-put-in-Ok.ensures

@@ -1,14 +1,12 @@
 -- One hop more, and the end.
-use Rattle.std.proofs.Common.{◌≡◌, ◌∙◌, ◌<◌, ◌++◌, ℕ, List, [], length, map, ap, subst, sym, arith}
+use Rattle.std.proofs.Common.{◌≡◌, ◌∙◌, ◌<◌, ◌++◌, ℕ, false, List, [], length, map, ap, subst, sym, arith}
 use Rattle.std.specs.Prelude.{All}
-use Rattle.std.specs.List.{flat_map}
 use Rattle.gq_tag.specs.declared.Message.{Message}
 use Rattle.gq_tag.specs.Tag.{own_message}
 use Rattle.gq_desk.specs.CheckedPlan.{CheckedPlan}
 use Rattle.gq_node.specs.Tables.{Tables}
 use Rattle.gq_parts.specs.declared.laws.TheConstants.{MOST_HOPS}
-use Rattle.gq_parts.specs.Texts.{sent_line}
-use Rattle.gq_parts.specs.Steps.{HasAddress, IsOfTenant, TookHop}
+use Rattle.gq_parts.specs.Steps.{IsAddressed, IsOfTenant, table_lines, TookHop}
 use Rattle.gq_parts.proofs.Taking.{on_ok, with_address}
 use Rattle.gq_parts.proofs.Own.{TookHops, took_no_hop, took_hop, took_own}
 use Rattle.gq_machine.proofs.machine.NodeMachine.take_own.Goals as goal
@@ -37,7 +35,7 @@ pub put_lines-requires : goal.put_lines-requires
 put_lines-requires c =
     let m : Tables = c.loop-hop.self.node.tables in
     let within : c.args.tenant < length m.plan.rows = subst (λ (p : CheckedPlan). c.args.tenant < length p.rows) (sym c.loop-hop.invariant.same_plan) c.requires.tenant in
-    subst (λ ms. All (HasAddress m.plan) ms) (sym c.as_slice-2.ensures.value) (with_address m.plan c.args.tenant c.loop-hop.own.items within c.loop-hop.invariant.theirs)
+    subst (λ ms. All (IsAddressed m.plan) ms) (sym c.as_slice-2.ensures.value) (with_address m.plan c.args.tenant c.loop-hop.own.items within c.loop-hop.invariant.theirs)
 
 pub returns : goal.returns
 returns c =
@@ -47,4 +45,4 @@ returns c =
     let all : c.loop-hop._hop ≡ MOST_HOPS = omega arith in
     let P : ℕ → Type 0 = λ n. TookHops n w c.args.tenant (map own_message c.args.first.items) c.loop-hop.own.items c.args.facts.now.items c.loop-hop.facts.items c.args.told.now.items before m in
     on_ok c.put_lines.result (λ lines. took_own w m c.args.tenant (map own_message c.args.first.items) c.loop-hop.own.items _ _ _ _ _ (subst P all c.loop-hop.invariant)
-    (lines ∙ ap (λ ms. before ++ flat_map (sent_line m.plan m.here) ms) c.as_slice-2.ensures.value)) c.put_lines.ensures
+    (lines ∙ ap (λ ms. before ++ table_lines false m.plan m.here m ms) c.as_slice-2.ensures.value)) c.put_lines.ensures

@@ -14,8 +14,11 @@ returns c =
     let took = c.in_ok-tick_tenants.ensures in
     let asked = c.in_ok-ask_to_join.ensures in
     record {
+      facts = took.facts;
+      told = took.told;
+      takes = λ bytes. took.takes;
       between = c.tick_tenants.new.told.items;
-      took = took;
+      appended = took.appended;
       own = asked.own;
       told_is = asked.told_is;
       own_is = λ parts agree.

@@ -1,5 +1,5 @@
 -- The home is read off the plan.
-use Rattle.std.proofs.Common.{◌≡◌, ◌∙◌, ap}
+use Rattle.std.proofs.Common.{◌∙◌, ap}
 use Rattle.std.specs.Prelude.{◌==◌}
 use Rattle.gq_node.specs.Sites.{home_of}
 use Rattle.gq_node.specs.Tables.{Tables}

@@ -1,5 +1,5 @@
 -- Of a node that is no new one no session is asked.
-use Rattle.std.proofs.Common.{◌≡◌, ◌∙◌, Bool, true, false, sym, ap}
+use Rattle.std.proofs.Common.{◌≡◌, ◌∙◌, true, false, sym, ap}
 use Rattle.std.specs.Prelude.{◌==◌, ◌&&◌}
 use Rattle.gq_node.specs.Sites.{home_of}
 use Rattle.gq_node.specs.Tables.{Tables, is_new_node}

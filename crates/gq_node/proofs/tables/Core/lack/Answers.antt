@@ -1,10 +1,9 @@
 -- A new node lacks the files, and then its sessions begin where they have to.
-use Rattle.std.proofs.Common.{◌≡◌, ◌∙◌, ℕ, ◌<◌, length, true, ap, sym, subst}
+use Rattle.std.proofs.Common.{◌∙◌, ◌<◌, length, ap, sym, subst}
 use Rattle.std.specs.Prelude.{nat_lt}
 use Rattle.gq_desk.specs.CheckedPlan.{CheckedPlan}
 use Rattle.gq_replace.specs.Plans.{generation}
 use Rattle.gq_node.specs.Sites.{Here}
-use Rattle.gq_node.specs.Tables.{Tables, is_new_node}
 use Rattle.gq_node.proofs.Bereaving.{bereaves, bereaves_not}
 use Rattle.gq_node.proofs.tables.Core.lack.Goals as goal
 
