@@ -1,6 +1,7 @@
 pub mod Contents
 pub mod Deeds
 pub mod Compared
+pub mod Syncing
 pub mod Moved
 pub mod Numbers
 pub mod Acts

@@ -4,14 +4,17 @@ use Rattle.std.specs.Prelude.{min, max}
 use Rattle.std.proofs.lemmas.List.Sums.{sum_by_more, sum_by-set, sum_by_more_le}
 use Rattle.gq_ledger.specs.Ledgers.{all_bytes}
 use Rattle.gq_stock.specs.declared.session.Session.{Session}
-use Rattle.std.specs.Prelude.{Result, Ok, Err, IfOk, slice_get}
+use Rattle.std.specs.Prelude.{Result, Ok, Err, IfOk, OnErr, slice_get}
 use Rattle.std.proofs.lemmas.Option.{same_Some, slice_get-get_or}
 use Rattle.gq_shelf.specs.declared.extent.Extent.{Extent}
 use Rattle.gq_ledger.specs.Ledgers.{book_of}
 use Rattle.gq_stock.specs.Held.{contents}
 use Rattle.gq_stock.specs.Keeping.{KeptAs}
 use Rattle.gq_stock.specs.declared.keeping.Keeping.{Keeping}
-use Rattle.gq_stock.specs.Stocks.{used_in, KeptIn, StaysIn}
+use Rattle.gq_stock.specs.declared.keeping.Keeping.TheVariants.{New}
+use Rattle.gq_shelf.specs.Notes.{Noted}
+use Rattle.gq_stock.specs.Sure.{IsSureOf}
+use Rattle.gq_stock.specs.Stocks.{used_in, KeptIn, SureIn, StaysIn}
 
 -- one session more
 pub used_more : (sessions : List Session) (i : ℕ) (d : Session) (before after used : ℕ) → i < length sessions → before ≡ min (used_in (take i sessions)) (2 ^ 64 - 1) → used ≡ all_bytes (get_or sessions i d).chunks → after ≡ min (before + used) (2 ^ 64 - 1) → after ≡ min (used_in (take (i + 1) sessions)) (2 ^ 64 - 1)
@@ -62,3 +65,11 @@ others_stay (x ∷ xs) (suc i) (suc j) y other = others_stay xs i j y (λ e. oth
 pub stays_in : (sessions : List Session) (i : ℕ) (d new : Session) → i < length sessions → d ≡ get_or sessions i d → book_of new.chunks ≡ book_of d.chunks → StaysIn sessions i (set sessions i new)
 stays_in sessions i d new lt is same old now was then =
     ap (λ (s : Session). book_of s.chunks) (put_there sessions i new now lt then) ∙ (same ∙ sym (ap (λ (s : Session). book_of s.chunks) (at_place sessions i d old lt is was)))
+
+pub err_stays : {E : Type 0} (r : Result Keeping E) (sessions : List Session) (i : ℕ) (d new : Session) → i < length sessions → d ≡ get_or sessions i d → OnErr r (book_of new.chunks ≡ book_of d.chunks) → OnErr r (StaysIn sessions i (set sessions i new))
+err_stays (Ok told) sessions i d new lt is same = tt
+err_stays (Err e) sessions i d new lt is same = stays_in sessions i d new lt is same
+
+pub sure_in : {E : Type 0} (r : Result Keeping E) (sessions : List Session) (i n : ℕ) (new : Session) (noted : Noted) → i < length sessions → IfOk r (λ told. told ≡ New → IsSureOf ((book_of new.chunks).at n) noted) → IfOk r (λ told. told ≡ New → SureIn (set sessions i new) i n noted)
+sure_in (Err e) sessions i n new noted lt sure = tt
+sure_in (Ok told) sessions i n new noted lt sure = λ is session there. subst (λ (s : Session). IsSureOf ((book_of s.chunks).at n) noted) (sym (put_there sessions i new session lt there)) (sure is)

@@ -3,6 +3,7 @@ pub mod Finding
 pub mod Keeping
 pub mod Forgetting
 pub mod Moving
+pub mod Sure
 pub mod Deeds
 pub mod Laws
 pub mod Acts

@@ -3,7 +3,9 @@ use Rattle.std.specs.Prelude.{◌≡◌, ℕ, Bool, List, Some, slice_get}
 use Rattle.std.specs.List.{sum_by}
 use Rattle.gq_shelf.specs.declared.extent.Extent.{Extent}
 use Rattle.gq_ledger.specs.Ledgers.{book_of, all_bytes}
+use Rattle.gq_shelf.specs.Notes.{Noted}
 use Rattle.gq_stock.specs.Held.{contents}
+use Rattle.gq_stock.specs.Sure.{IsSureOf}
 use Rattle.gq_stock.specs.Keeping.{KeptAs}
 use Rattle.gq_stock.specs.declared.session.Session.{Session}
 use Rattle.gq_stock.specs.declared.keeping.Keeping.{Keeping}
@@ -19,3 +21,7 @@ KeptIn written olds place n bytes is_sure free told news = (old new : Session) �
 -- The session at this place has what it had.
 abbrev pub StaysIn : List Session → (place : ℕ) → List Session → Type 0
 StaysIn olds place news = (old new : Session) → slice_get olds place ≡ Some old → slice_get news place ≡ Some new → book_of new.chunks ≡ book_of old.chunks
+
+-- What it has under the number would outlast a loss of power.
+abbrev pub SureIn : List Session → (place n : ℕ) → Noted → Type 0
+SureIn sessions place n noted = (session : Session) → slice_get sessions place ≡ Some session → IsSureOf ((book_of session.chunks).at n) noted

@@ -1,9 +1,11 @@
 //! A content is to be kept.
 
-ghost use Rattle.std.specs.Prelude.{◌≡◌, ◌+◌, ◌<◌, ◌≤◌, ◌^◌, ℕ, List, length, IfOk, IfErr, OnOk, OnErr, IsSome};
-ghost use Rattle.gq_shelf.specs.Notes.{IsClean, GoesOn, after_refusal};
+ghost use Rattle.std.specs.Prelude.{◌≡◌, ◌≢◌, ◌+◌, ◌<◌, ◌≤◌, ◌^◌, ℕ, List, length, IfOk, IfErr, OnOk, OnErr, IsSome};
+ghost use Rattle.gq_shelf.specs.Notes.{IsClean, GoesOn};
 ghost use Rattle.gq_shelf.specs.Places.{content_at, long_at};
 ghost use Rattle.gq_shelf.specs.declared.extent.Extent.{Extent};
+ghost use Rattle.gq_stock.specs.Finding.{IsRefused};
+ghost use Rattle.gq_stock.specs.Sure.{PlaceIsSure};
 
 use crate::{Chunk, Found, Session};
 use bytes::Bytes;
@@ -30,25 +32,41 @@ pub enum Keeping {
     Full,
 }
 
-// The content: a short one in memory, another one on the shelf.
+// Puts the bytes on the shelf, which makes sure of them.
+fn put_surely<S: Shelf>(shelf: &mut S, bytes: &[u8]) -> Result<Place, ShelfFault>
+    requires { length bytes.now < 2 ^ 32 }
+    ensures bytes { (written : Extent → List ℕ) → IfOk result (λ place. IsClean written (S.noted shelf.new) → content_at written place ≡ bytes.now) }
+    ensures long { IfOk result (λ place. long_at place ≡ length bytes.now) }
+    ensures goes_on { GoesOn (S.noted shelf.old) (S.noted shelf.new) }
+    ensures sure { IfOk result (λ place. PlaceIsSure place (S.noted shelf.new)) }
+    ensures refused { IfErr result (λ fault. IsRefused fault (S.noted shelf.old) (S.noted shelf.new)) }
+{
+    let place = Place::put(shelf, bytes)?;
+    shelf.sync()?;
+    Ok(place)
+}
+
+// The content: a short one in memory, another one on the shelf, which made sure of it.
 pub(crate) fn placed<S: Shelf>(shelf: &mut S, bytes: Bytes) -> Result<Place, ShelfFault>
     requires { length bytes < 2 ^ 32 }
     ensures bytes { (written : Extent → List ℕ) → IfOk result (λ place. IsClean written (S.noted shelf.new) → content_at written place ≡ bytes) }
     ensures long { IfOk result (λ place. long_at place ≡ length bytes) }
     ensures goes_on { GoesOn (S.noted shelf.old) (S.noted shelf.new) }
-    ensures refused { OnErr result (S.noted shelf.new ≡ after_refusal (S.noted shelf.old)) }
+    ensures sure { IfOk result (λ place. PlaceIsSure place (S.noted shelf.new)) }
+    ensures refused { IfErr result (λ fault. IsRefused fault (S.noted shelf.old) (S.noted shelf.new)) }
 {
     if bytes.len() <= MOST_FRESH {
         return Ok(Place::Fresh(bytes));
     }
-    Place::put(shelf, bytes.as_slice())
+    put_surely(shelf, bytes.as_slice())
 }
 
 impl Session {
     ghost use Rattle.gq_ledger.specs.Ledgers.{book_of, all_bytes, verdict_of};
     ghost use Rattle.gq_ledger.specs.Steps.{Leads, Keeps};
     ghost use Rattle.gq_stock.specs.Held.{contents};
-    ghost use Rattle.gq_stock.specs.Finding.{FindsDamage, IsRefused};
+    ghost use Rattle.gq_stock.specs.Finding.{FindsDamage};
+    ghost use Rattle.gq_stock.specs.Sure.{IsSureOf};
     ghost use Rattle.gq_stock.specs.Keeping.{ComparesAs, KeptAs, taken_of};
 
     // Compares the bytes with those that are there.
@@ -62,6 +80,7 @@ impl Session {
         ensures told { (written : Extent → List ℕ) → IfOk result (λ told. IsClean written (S.noted shelf.new) → ComparesAs ((contents written (book_of self.now.chunks)).at number) bytes.now told) }
         ensures damaged { IfOk result (λ told. told ≡ Keeping.Damaged → FindsDamage ((book_of self.now.chunks).at number) (S.noted shelf.old) (S.noted shelf.new)) }
         ensures none { IfOk result (λ told. taken_of (length bytes.now) told ≡ 0) }
+        ensures not_new { IfOk result (λ told. told ≢ Keeping.New) }
         ensures refused { IfErr result (λ fault. IsRefused fault (S.noted shelf.old) (S.noted shelf.new)) }
         ensures goes_on { GoesOn (S.noted shelf.old) (S.noted shelf.new) }
     {
@@ -91,6 +110,7 @@ impl Session {
         requires room { all_bytes self.old.chunks + free < 2 ^ 64 }
         requires may { verdict_of (book_of self.old.chunks) number (length bytes) free ≡ Verdict.Kept }
         ensures leads { (written : Extent → List ℕ) → OnOk result (IsClean written (S.noted shelf.new) → Leads (contents written (book_of self.old.chunks)) (Keeps number (record { bytes = bytes; is_sure = is_sure })) (contents written (book_of self.new.chunks))) }
+        ensures sure { OnOk result (IsSureOf ((book_of self.new.chunks).at number) (S.noted shelf.new)) }
         ensures used { OnOk result (all_bytes self.new.chunks ≡ all_bytes self.old.chunks + length bytes) }
         ensures refused { IfErr result (λ fault. IsRefused fault (S.noted shelf.old) (S.noted shelf.new)) }
         ensures unchanged { OnErr result (book_of self.new.chunks ≡ book_of self.old.chunks) }
@@ -103,7 +123,7 @@ impl Session {
     }
 
     /// Keeps the content under the number: what is told says what was there, and only a new one changes anything. So it may be asked any number of times.
-    /// `Damaged` comes only where this read of the shelf found it so. It is refused where memory is wanting, or the shelf refuses a read or a put. Nothing
+    /// A new one that lies on the shelf was made sure of there. `Damaged` comes only where this read of the shelf found it so. It is refused where memory is wanting, or the shelf refuses a read or a put. Nothing
     /// changes then.
     pub fn keep<S: Shelf>(
         &mut self,
@@ -118,6 +138,7 @@ impl Session {
         ensures kept { (written : Extent → List ℕ) → IfOk result (λ told. IsClean written (S.noted shelf.new) → KeptAs (contents written (book_of self.old.chunks)) number bytes is_sure free told (contents written (book_of self.new.chunks))) }
         ensures damaged { IfOk result (λ told. told ≡ Keeping.Damaged → FindsDamage ((book_of self.old.chunks).at number) (S.noted shelf.old) (S.noted shelf.new)) }
         ensures used { IfOk result (λ told. all_bytes self.new.chunks ≡ all_bytes self.old.chunks + taken_of (length bytes) told) }
+        ensures sure { IfOk result (λ told. told ≡ Keeping.New → IsSureOf ((book_of self.new.chunks).at number) (S.noted shelf.new)) }
         ensures within { IfOk result (λ told. taken_of (length bytes) told ≤ free) }
         ensures refused { IfErr result (λ fault. IsRefused fault (S.noted shelf.old) (S.noted shelf.new)) }
         ensures unchanged { OnErr result (book_of self.new.chunks ≡ book_of self.old.chunks) }

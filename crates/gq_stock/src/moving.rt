@@ -39,6 +39,7 @@ impl Session {
     ghost use Rattle.gq_ledger.specs.Steps.{Leads, Gives};
     ghost use Rattle.gq_stock.specs.Held.{contents};
     ghost use Rattle.gq_stock.specs.Moving.{MovedAs, IsBehind, NoneIsRead};
+    ghost use Rattle.gq_stock.specs.Sure.{IsSureOf};
 
     /// Puts the chunk under the number, in place of what is there. False: it would be more bytes in all than 64 bits tell, and nothing changes. Nor does it
     /// where memory is refused.
@@ -57,7 +58,7 @@ impl Session {
     }
 
     /// Puts the chunk that a peer gives under the number, in place of what is there. False: it would be more bytes in all than 64 bits tell, and nothing changes.
-    /// It is refused where memory is wanting, or the shelf refuses a put. Nothing changes then.
+    /// If it lies on the shelf it was made sure of there. It is refused where memory is wanting, or the shelf refuses a put. Nothing changes then.
     pub fn give<S: Shelf>(
         &mut self,
         shelf: &mut S,
@@ -66,6 +67,7 @@ impl Session {
     ) -> Result<bool, ShelfFault>
         requires { length bytes < 2 ^ 32 }
         ensures given { (written : Extent → List ℕ) → IfOk result (λ is_given. is_given ≡ true → IsClean written (S.noted shelf.new) → Leads (contents written (book_of self.old.chunks)) (Gives number (record { bytes = bytes; is_sure = true })) (contents written (book_of self.new.chunks))) }
+        ensures sure { IfOk result (λ is_given. is_given ≡ true → IsSureOf ((book_of self.new.chunks).at number) (S.noted shelf.new)) }
         ensures used { IfOk result (λ is_given. is_given ≡ true → all_bytes self.new.chunks + bytes_under self.old.chunks number ≡ all_bytes self.old.chunks + length bytes) }
         ensures same { IfOk result (λ is_given. is_given ≡ false → book_of self.new.chunks ≡ book_of self.old.chunks) }
         ensures much { IfOk result (λ is_given. is_given ≡ false → 2 ^ 64 ≤ all_bytes self.old.chunks + length bytes) }
@@ -84,7 +86,7 @@ impl Session {
     }
 
     /// Puts the content of the number behind all others on the shelf, from memory or from where it lies. It is the same, where no read was wrong, and so is
-    /// what is used. False: none is there, or this read of the shelf found it damaged, and nothing changes. It is refused where memory is wanting, or the
+    /// what is used. The shelf has to make sure of it before it is told where it lies. False: none is there, or this read of the shelf found it damaged, and nothing changes. It is refused where memory is wanting, or the
     /// shelf refuses a read or a put. Nothing changes then.
     pub fn shelve<S: Shelf>(&mut self, shelf: &mut S, number: u64) -> Result<bool, ShelfFault>
         ensures moved { (written : Extent → List ℕ) → IfOk result (λ is_moved. IsClean written (S.noted shelf.new) → MovedAs (contents written (book_of self.old.chunks)) (contents written (book_of self.new.chunks))) }

@@ -22,7 +22,7 @@ pub struct Stock {
 impl Stock {
     ghost use Rattle.gq_stock.specs.Finding.{IsRefused};
     ghost use Rattle.gq_stock.specs.Keeping.{taken_of};
-    ghost use Rattle.gq_stock.specs.Stocks.{used_in, KeptIn, StaysIn};
+    ghost use Rattle.gq_stock.specs.Stocks.{used_in, KeptIn, SureIn, StaysIn};
 
     /// So many sessions, which have nothing.
     pub fn new(alloc: Global, sessions: u32, allowed: u64) -> Result<Stock, OutOfMemory>
@@ -73,6 +73,7 @@ impl Stock {
         ensures kept { (written : Extent → List ℕ) → IfOk result (λ told. IsClean written (S.noted shelf.new) → KeptIn written self.old.sessions.items place number bytes is_sure (self.old.allowed - used_in self.old.sessions.items) told self.new.sessions.items) }
         ensures sessions { length self.new.sessions.items ≡ length self.old.sessions.items }
         ensures others { (other : ℕ) → other ≢ place → slice_get self.new.sessions.items other ≡ slice_get self.old.sessions.items other }
+        ensures sure { IfOk result (λ told. told ≡ Keeping.New → SureIn self.new.sessions.items place number (S.noted shelf.new)) }
         ensures used { IfOk result (λ told. used_in self.new.sessions.items ≡ used_in self.old.sessions.items + taken_of (length bytes) told) }
         ensures refused { IfErr result (λ fault. IsRefused fault (S.noted shelf.old) (S.noted shelf.new)) }
         ensures unchanged { OnErr result (StaysIn self.old.sessions.items place self.new.sessions.items) }

@@ -2,7 +2,7 @@ use Rattle.std.proofs.Common.{◌≡◌, ◌≤◌, ap, arith, get_or}
 use Rattle.gq_ledger.specs.Ledgers.{all_bytes}
 use Rattle.gq_stock.specs.declared.session.Session.{Session}
 use Rattle.gq_stock.specs.Stocks.{used_in}
-use Rattle.gq_stock.proofs.Sessions.{used_within, kept_in, others_stay}
+use Rattle.gq_stock.proofs.Sessions.{used_within, kept_in, others_stay, err_stays, sure_in}
 use Rattle.gq_stock.proofs.stock.Stock.keep.Goals as goal
 
 pub keep-requires-clause-room : goal.keep-requires-clause-room
@@ -17,3 +17,9 @@ returns-clause-kept g c written = kept_in c.keep.result written c.args.self.now.
 
 pub returns-clause-others : goal.returns-clause-others
 returns-clause-others g c other is = others_stay c.args.self.now.sessions.items c.args.place other c.keep.new.self is
+
+pub returns-clause-unchanged : goal.returns-clause-unchanged
+returns-clause-unchanged g c = err_stays c.keep.result c.args.self.now.sessions.items c.args.place c.index_mut-session.result.now c.keep.new.self c.requires.there c.index_mut-session.ensures.value c.keep.ensures.unchanged
+
+pub returns-clause-sure : goal.returns-clause-sure
+returns-clause-sure g c = sure_in c.keep.result c.args.self.now.sessions.items c.args.place c.args.number c.keep.new.self (g.S.Shelf.noted c.keep.new.shelf) c.requires.there c.keep.ensures.sure
