@@ -1,7 +1,7 @@
 //! What comes of a content that is to be kept.
 
 /// What comes of a content that is to be kept.
-#[derive(Clone, Copy, Debug, PartialEq, Eq)]
+#[derive(Clone, Copy, PartialEq, Eq)]
 pub enum Verdict {
     /// One is there under the number, and stays.
     There,

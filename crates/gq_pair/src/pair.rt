@@ -8,7 +8,7 @@ use gq_keeper::{Fault, Lasting, Machine, Unread};
 use std::marker::PhantomData;
 
 /// Whose line it is.
-#[derive(Clone, Copy, Debug, PartialEq, Eq)]
+#[derive(Clone, Copy)]
 pub enum Taker {
     /// The first machine's.
     First,

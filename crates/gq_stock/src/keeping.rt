@@ -16,7 +16,7 @@ use gq_shelf::{Place, Shelf, ShelfFault};
 pub const MOST_FRESH: usize = 262_144;
 
 /// What comes of a content that is to be kept.
-#[derive(Clone, Copy, Debug, PartialEq, Eq)]
+#[derive(Clone, Copy, PartialEq, Eq)]
 pub enum Keeping {
     /// It is there now, and nothing was before.
     New,

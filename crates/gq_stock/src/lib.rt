@@ -17,6 +17,3 @@ pub use keeping::Keeping;
 pub use run::Run;
 pub use session::Session;
 pub use stock::Stock;
-
-/// The most bytes of a chunk.
-pub const MOST_CHUNK: usize = 1_048_576;
