@@ -14,9 +14,9 @@ pub enum Fault {
     Read,
     /// The output failed.
     Write,
-    /// The journal could not be read.
+    /// The journal could not be read, or what its facts name elsewhere.
     JournalRead,
-    /// The journal could not be written or synced.
+    /// The journal could not be written or synced, or what its facts name elsewhere.
     JournalWrite,
     /// No batch has a greater number.
     Full,

@@ -46,13 +46,9 @@ pub trait Machine {
         ensures recalled { OnOk result (recalls self.old line.now self.new) }
         ensures refused { IfErr result (RefusesLines (readable self.old line.now)) };
 
-    /// Takes the line, and appends what the step gives. It is refused only where memory is wanting; the machine is given up then.
-    fn take(
-        &mut self,
-        line: &[u8],
-        facts: &mut Vec<u8>,
-        told: &mut Vec<u8>,
-    ) -> Result<(), OutOfMemory>
+    /// Takes the line, and appends what the step gives. What its facts name elsewhere than in the journal was made sure of then. A fault, as
+    /// want of memory or one of what lies elsewhere, ends the machine: it is given up, and nothing of the step is kept or shown.
+    fn take(&mut self, line: &[u8], facts: &mut Vec<u8>, told: &mut Vec<u8>) -> Result<(), Fault>
         ensures { OnOk result (Takes steps self.old line.now facts.old.items facts.new.items told.old.items told.new.items self.new) };
 
     /// What is readable doesn't change with a line that was read.

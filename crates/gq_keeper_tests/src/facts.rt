@@ -12,7 +12,7 @@ use gq_tag::{FileId, StoredCopy, Tag};
 use std::alloc::Global;
 use std::process::Abort;
 
-fn plan(rt: &impl Abort, alloc: Global) -> Plan {
+pub(crate) fn plan(rt: &impl Abort, alloc: Global) -> Plan {
     let grid = Grid::new(2, 2).expect(rt, "a grid");
     let row = TenantRow {
         name: Name::new(b"ann").expect(rt, "a name"),

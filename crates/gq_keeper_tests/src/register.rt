@@ -98,12 +98,7 @@ impl Machine for Register {
 
     ghost reads_on = { λ old line new other recalled. refl };
 
-    fn take(
-        &mut self,
-        line: &[u8],
-        facts: &mut Vec<u8>,
-        told: &mut Vec<u8>,
-    ) -> Result<(), OutOfMemory> {
+    fn take(&mut self, line: &[u8], facts: &mut Vec<u8>, told: &mut Vec<u8>) -> Result<(), Fault> {
         if !is_fact(line) {
             return Ok(());
         }

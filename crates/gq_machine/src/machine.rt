@@ -1,6 +1,6 @@
 //! The machine of a node.
 
-ghost use Rattle.std.specs.Prelude.{◌≡◌, ◌≢◌, ℕ, ◌<◌, ◌++◌, [], ◌∷◌, true, false, length, map, Some, None, OnOk, IfSome, All};
+ghost use Rattle.std.specs.Prelude.{◌≡◌, ◌≢◌, ℕ, ◌<◌, ◌++◌, [], ◌∷◌, true, false, length, map, Some, None, OnOk, IfErr, IfSome, All};
 ghost use Rattle.std.specs.List.{flat_map};
 ghost use Rattle.std.specs.Option.{option_to_list};
 ghost use Rattle.gq_tag.specs.Tag.{own_message, file_place};
@@ -743,6 +743,8 @@ impl NodeMachine {
 
 impl Machine for NodeMachine {
     ghost use Rattle.gq_machine.specs.Machines.{MachineSteps, MachineRecalls, machine_reads, reads_on};
+    ghost use Rattle.gq_machine.specs.Faults.{IsMemory};
+    ghost use Rattle.gq_keeper.specs.Runs.{Takes};
 
     ghost steps = { MachineSteps };
 
@@ -763,16 +765,14 @@ impl Machine for NodeMachine {
 
     ghost reads_on = { reads_on };
 
-    fn take(
-        &mut self,
-        line: &[u8],
-        facts: &mut Vec<u8>,
-        told: &mut Vec<u8>,
-    ) -> Result<(), OutOfMemory> {
+    fn take(&mut self, line: &[u8], facts: &mut Vec<u8>, told: &mut Vec<u8>) -> Result<(), Fault>
+        ensures takes { OnOk result (Takes MachineSteps self.old line.now facts.old.items facts.new.items told.old.items told.new.items self.new) }
+        ensures memory { IfErr result (λ fault. IsMemory fault) }
+    {
         plan_is_sound(self.node.plan());
         self.has_memory()?;
         let incoming = read_incoming(self.alloc, line, self.node.plan(), self.node.number())?;
-        self.take_incoming(&incoming, facts, told)
+        Ok(self.take_incoming(&incoming, facts, told)?)
     }
 }
 

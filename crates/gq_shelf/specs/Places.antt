@@ -1,6 +1,7 @@
 -- What a content is, whether it is in memory or lies on the shelf.
-use Rattle.std.specs.Prelude.{◌≡◌, ℕ, List, length, Option, Some, None}
-use Rattle.gq_shelf.specs.Notes.{Noted, after_failure}
+use Rattle.std.specs.Prelude.{◌≡◌, ℕ, ◌≤◌, List, length, Option, Some, None}
+use Rattle.gq_shelf.specs.Extents.{begins}
+use Rattle.gq_shelf.specs.Notes.{Noted, after_put, after_read, after_failure}
 use Rattle.gq_shelf.specs.declared.extent.Extent.{Extent}
 use Rattle.gq_shelf.specs.declared.fault.ShelfFault.{ShelfFault}
 use Rattle.gq_shelf.specs.declared.fault.ShelfFault.TheVariants.{Memory}
@@ -16,6 +17,16 @@ content_at written (Shelved extent) = written extent
 abbrev pub long_at : Place → ℕ
 long_at (Fresh bytes) = length bytes
 long_at (Shelved extent) = extent.len
+
+-- The place is where the content was put: on the shelf, behind its end.
+abbrev pub PutBehind : ℕ → List ℕ → Noted → Noted → Place → Type 0
+PutBehind end content old new (Fresh bytes) = ⊥
+PutBehind end content old new (Shelved extent) = (end ≤ begins extent) × (new ≡ after_put extent content old)
+
+-- what a read says of the notes: one of a content in memory nothing, one of another that it was read there
+abbrev pub ReadAt : Place → List ℕ → Noted → Noted → Type 0
+ReadAt (Fresh bytes) found old new = new ≡ old
+ReadAt (Shelved extent) found old new = new ≡ after_read extent found old
 
 -- what a read that failed says of the notes: one of a content in memory wanted memory, one of another failed there
 abbrev pub ReadFailed : Place → ShelfFault → Noted → Noted → Type 0

@@ -2,7 +2,7 @@
 
 ghost use Rattle.std.specs.Prelude.{◌≡◌, ◌<◌, ◌^◌, ℕ, List, length, IfOk, IfErr, OnErr, Option, Some, None};
 ghost use Rattle.gq_shelf.specs.Notes.{IsClean, GoesOn, after_refusal};
-ghost use Rattle.gq_shelf.specs.Places.{content_at, long_at, extent_in, ReadFailed};
+ghost use Rattle.gq_shelf.specs.Places.{content_at, long_at, extent_in, PutBehind, ReadAt, ReadFailed};
 ghost use Rattle.gq_shelf.specs.declared.extent.Extent.{Extent};
 
 use crate::{Extent, Shelf, ShelfFault};
@@ -19,11 +19,12 @@ pub enum Place {
 }
 
 impl Place {
-    /// Puts the bytes on the shelf. They lie there, where no read is wrong.
+    /// Puts the bytes on the shelf, behind all others. They lie there, where no read is wrong.
     pub fn put<S: Shelf>(shelf: &mut S, bytes: &[u8]) -> Result<Place, ShelfFault>
         requires { length bytes.now < 2 ^ 32 }
         ensures bytes { (written : Extent → List ℕ) → IfOk result (λ place. IsClean written (S.noted shelf.new) → content_at written place ≡ bytes.now) }
         ensures long { IfOk result (λ place. long_at place ≡ length bytes.now) }
+        ensures put { IfOk result (λ place. PutBehind (S.end shelf.old) bytes.now (S.noted shelf.old) (S.noted shelf.new) place) }
         ensures goes_on { GoesOn (S.noted shelf.old) (S.noted shelf.new) }
         ensures refused { OnErr result (S.noted shelf.new ≡ after_refusal (S.noted shelf.old)) }
     {
@@ -54,6 +55,9 @@ impl Place {
     /// The content: that in memory, shared, or what is read.
     pub fn read<S: Shelf>(&self, shelf: &mut S) -> Result<Bytes, ShelfFault>
         ensures bytes { (written : Extent → List ℕ) → IfOk result (λ bytes. IsClean written (S.noted shelf.new) → content_at written self.now ≡ bytes) }
+        ensures long { IfOk result (λ bytes. length bytes ≡ long_at self.now) }
+        ensures read { IfOk result (λ bytes. ReadAt self.now bytes (S.noted shelf.old) (S.noted shelf.new)) }
+        ensures end_stays { S.end shelf.new ≡ S.end shelf.old }
         ensures goes_on { GoesOn (S.noted shelf.old) (S.noted shelf.new) }
         ensures failed { IfErr result (λ fault. ReadFailed self.now fault (S.noted shelf.old) (S.noted shelf.new)) }
     {

@@ -19,4 +19,6 @@ mod post;
 #[cfg(test)]
 mod shelf;
 #[cfg(test)]
+mod stock;
+#[cfg(test)]
 mod store;

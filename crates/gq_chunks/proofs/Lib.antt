@@ -1,0 +1,3 @@
+pub mod FactsBack
+pub mod RequestsBack
+pub mod Arriving

@@ -1,0 +1,46 @@
+-- What is read of lines that are written.
+use Rattle.std.specs.Prelude.{◌≡◌, ◌<◌, ◌≤◌, ◌^◌, ℕ, length, true, Some}
+use Rattle.gq_shelf.specs.declared.place.Place.{Place}
+use Rattle.gq_shelf.specs.declared.place.Place.TheVariants.{Fresh, Shelved}
+use Rattle.gq_desk.specs.CheckedPlan.{CheckedPlan}
+use Rattle.gq_text.specs.AnswerText.{spaced}
+use Rattle.gq_text.specs.Canonical.{IsPlan, IsNumber}
+use Rattle.gq_text.specs.Words.{words_after}
+use Rattle.gq_journal.specs.Batches.{is_batch_line}
+use Rattle.gq_chunks.specs.Facts.{chunk_fact_line, chunk_fact_of_line}
+use Rattle.gq_chunks.specs.Requests.{request_words, chunk_request_by}
+use Rattle.gq_chunks.specs.declared.request.ChunkRequest.{ChunkRequest}
+use Rattle.gq_chunks.specs.declared.request.ChunkRequest.TheVariants.{Keep, Get, Forget, List as ListChunks, Room}
+use Rattle.gq_chunks.specs.declared.fact.ChunkFact.{ChunkFact}
+use Rattle.gq_chunks.specs.declared.fact.ChunkFact.TheVariants.{Put, Forgot, Filled}
+
+-- the numbers of an extent fit in 32 and 64 bits, as those of each extent do
+abbrev pub FitsPlace : Place → Type 0
+FitsPlace (Fresh bytes) = Unit {0}
+FitsPlace (Shelved extent) = IsNumber extent.segment × (extent.at < 2 ^ 64) × IsNumber extent.len × (extent.sum < 2 ^ 64)
+
+-- so do those of a fact
+abbrev pub FitsFact : ChunkFact → Type 0
+FitsFact (Put session number is_sure place) = IsNumber session × (number < 2 ^ 64) × FitsPlace place
+FitsFact (Forgot session floor run) = IsNumber session × (floor < 2 ^ 64) × (run.first < 2 ^ 64) × (run.last < 2 ^ 64)
+FitsFact Filled = Unit {0}
+
+-- the line of a fact is read as that fact, of its tenant
+abbrev pub FactsReadBack : Type 0
+FactsReadBack = (plan : CheckedPlan) (t : ℕ) (fact : ChunkFact) → IsPlan plan → t < length plan.rows → FitsFact fact → chunk_fact_of_line plan (chunk_fact_line plan t fact) ≡ Some (t, fact)
+
+-- it may stand in a batch of a journal
+abbrev pub FactsStandInBatches : Type 0
+FactsStandInBatches = (plan : CheckedPlan) (t : ℕ) (fact : ChunkFact) → IsPlan plan → t < length plan.rows → FitsFact fact → is_batch_line (chunk_fact_line plan t fact) ≡ true
+
+-- the numbers of a request fit in the words of a line, and none that is to be forgotten is above the floor
+abbrev pub FitsRequest : ChunkRequest → Type 0
+FitsRequest (Keep session number bytes) = IsNumber session × (number < 2 ^ 64)
+FitsRequest (Get session number from length) = IsNumber session × (number < 2 ^ 64) × (from < 2 ^ 64) × (length < 2 ^ 64)
+FitsRequest (Forget session floor run) = IsNumber session × (floor < 2 ^ 64) × (run.first < 2 ^ 64) × (run.last ≤ floor)
+FitsRequest (ListChunks session after) = IsNumber session × (after < 2 ^ 64)
+FitsRequest Room = Unit {0}
+
+-- what a tenant writes of a request is read as that request
+abbrev pub RequestsReadBack : Type 0
+RequestsReadBack = (request : ChunkRequest) → FitsRequest request → chunk_request_by (words_after (spaced (request_words request))) ≡ Some request

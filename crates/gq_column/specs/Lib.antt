@@ -1,0 +1,4 @@
+pub mod Column
+pub mod Laws
+pub mod Worked
+pub mod Ledgers

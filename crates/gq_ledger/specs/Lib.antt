@@ -1,0 +1,4 @@
+pub mod Steps
+pub mod Used
+pub mod Ledgers
+pub mod Laws

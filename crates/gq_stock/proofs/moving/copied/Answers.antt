@@ -1,0 +1,13 @@
+use Rattle.std.proofs.Common.{◌∙◌, sym}
+use Rattle.gq_shelf.proofs.Clean.{goes_on}
+use Rattle.gq_stock.proofs.moving.copied.Goals as goal
+
+pub returns-in_err-there-in-Ok-clause-goes_on : goal.returns-in_err-there-in-Ok-clause-goes_on
+returns-in_err-there-in-Ok-clause-goes_on g c = goes_on (g.S.Shelf.noted c.args.shelf.now) (g.S.Shelf.noted c.read.new.shelf) (g.S.Shelf.noted c.put.new.shelf) c.read.ensures.goes_on c.put.ensures.goes_on
+
+pub returns-in_ok-there-in-Ok-clause-goes_on : goal.returns-in_ok-there-in-Ok-clause-goes_on
+returns-in_ok-there-in-Ok-clause-goes_on g c = goes_on (g.S.Shelf.noted c.args.shelf.now) (g.S.Shelf.noted c.read.new.shelf) (g.S.Shelf.noted c.put.new.shelf) c.read.ensures.goes_on c.put.ensures.goes_on
+
+pub returns-in_ok-there-in-Ok-clause-bytes : goal.returns-in_ok-there-in-Ok-clause-bytes
+returns-in_ok-there-in-Ok-clause-bytes g c written clean =
+    c.in_ok-there-in-Ok.ensures.bytes written clean ∙ (c.as_slice.ensures ∙ sym (c.in-Ok.ensures.bytes written (c.put.ensures.goes_on written clean)))

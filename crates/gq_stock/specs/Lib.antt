@@ -1,0 +1,11 @@
+pub mod Held
+pub mod Finding
+pub mod Keeping
+pub mod Forgetting
+pub mod Moving
+pub mod Sure
+pub mod Deeds
+pub mod Laws
+pub mod Acts
+pub mod Stocks
+pub mod Facts

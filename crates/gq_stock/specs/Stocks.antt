@@ -1,0 +1,27 @@
+-- The chunks of a tenant's sessions.
+use Rattle.std.specs.Prelude.{◌≡◌, ℕ, Bool, List, Some, slice_get}
+use Rattle.std.specs.List.{sum_by}
+use Rattle.gq_shelf.specs.declared.extent.Extent.{Extent}
+use Rattle.gq_ledger.specs.Ledgers.{book_of, all_bytes}
+use Rattle.gq_shelf.specs.Notes.{Noted}
+use Rattle.gq_stock.specs.Held.{contents}
+use Rattle.gq_stock.specs.Sure.{IsSureOf}
+use Rattle.gq_stock.specs.Keeping.{KeptAs}
+use Rattle.gq_stock.specs.declared.session.Session.{Session}
+use Rattle.gq_stock.specs.declared.keeping.Keeping.{Keeping}
+
+-- how many bytes all chunks have
+abbrev pub used_in : List Session → ℕ
+used_in sessions = sum_by (λ session. all_bytes session.chunks) sessions
+
+-- The session at this place was asked to keep a content.
+abbrev pub KeptIn : (Extent → List ℕ) → List Session → (place n : ℕ) → List ℕ → Bool → (free : ℕ) → Keeping → List Session → Type 0
+KeptIn written olds place n bytes is_sure free told news = (old new : Session) → slice_get olds place ≡ Some old → slice_get news place ≡ Some new → KeptAs (contents written (book_of old.chunks)) n bytes is_sure free told (contents written (book_of new.chunks))
+
+-- The session at this place has what it had.
+abbrev pub StaysIn : List Session → (place : ℕ) → List Session → Type 0
+StaysIn olds place news = (old new : Session) → slice_get olds place ≡ Some old → slice_get news place ≡ Some new → book_of new.chunks ≡ book_of old.chunks
+
+-- What it has under the number would outlast a loss of power.
+abbrev pub SureIn : List Session → (place n : ℕ) → Noted → Type 0
+SureIn sessions place n noted = (session : Session) → slice_get sessions place ≡ Some session → IsSureOf ((book_of session.chunks).at n) noted

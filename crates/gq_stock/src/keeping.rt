@@ -1,0 +1,158 @@
+//! A content is to be kept.
+
+ghost use Rattle.std.specs.Prelude.{◌≡◌, ◌≢◌, ◌+◌, ◌<◌, ◌≤◌, ◌^◌, ℕ, List, length, IfOk, IfErr, OnOk, OnErr, IsSome};
+ghost use Rattle.gq_shelf.specs.Notes.{IsClean, GoesOn};
+ghost use Rattle.gq_shelf.specs.Places.{content_at, long_at};
+ghost use Rattle.gq_shelf.specs.declared.extent.Extent.{Extent};
+ghost use Rattle.gq_stock.specs.Finding.{IsRefused};
+ghost use Rattle.gq_stock.specs.Sure.{PlaceIsSure};
+
+use crate::{Chunk, Found, Session};
+use bytes::Bytes;
+use gq_ledger::Verdict;
+use gq_shelf::{Place, Shelf, ShelfFault};
+
+/// A chunk of so many bytes or fewer is kept in memory and in the journal first.
+pub const MOST_FRESH: usize = 262_144;
+
+/// What comes of a content that is to be kept.
+#[derive(Clone, Copy, PartialEq, Eq)]
+pub enum Keeping {
+    /// It is there now, and nothing was before.
+    New,
+    /// It was there, the same.
+    Same,
+    /// Another one is there, and stays.
+    Differs,
+    /// One is there that can't be read, and stays.
+    Damaged,
+    /// None is there, and the number is not above the floor.
+    Below,
+    /// None is there, the number is above the floor, and the content has more bytes than are free.
+    Full,
+}
+
+// Puts the bytes on the shelf, which makes sure of them.
+fn put_surely<S: Shelf>(shelf: &mut S, bytes: &[u8]) -> Result<Place, ShelfFault>
+    requires { length bytes.now < 2 ^ 32 }
+    ensures bytes { (written : Extent → List ℕ) → IfOk result (λ place. IsClean written (S.noted shelf.new) → content_at written place ≡ bytes.now) }
+    ensures long { IfOk result (λ place. long_at place ≡ length bytes.now) }
+    ensures goes_on { GoesOn (S.noted shelf.old) (S.noted shelf.new) }
+    ensures sure { IfOk result (λ place. PlaceIsSure place (S.noted shelf.new)) }
+    ensures refused { IfErr result (λ fault. IsRefused fault (S.noted shelf.old) (S.noted shelf.new)) }
+{
+    let place = Place::put(shelf, bytes)?;
+    shelf.sync()?;
+    Ok(place)
+}
+
+// The content: a short one in memory, another one on the shelf, which made sure of it.
+pub(crate) fn placed<S: Shelf>(shelf: &mut S, bytes: Bytes) -> Result<Place, ShelfFault>
+    requires { length bytes < 2 ^ 32 }
+    ensures bytes { (written : Extent → List ℕ) → IfOk result (λ place. IsClean written (S.noted shelf.new) → content_at written place ≡ bytes) }
+    ensures long { IfOk result (λ place. long_at place ≡ length bytes) }
+    ensures goes_on { GoesOn (S.noted shelf.old) (S.noted shelf.new) }
+    ensures sure { IfOk result (λ place. PlaceIsSure place (S.noted shelf.new)) }
+    ensures refused { IfErr result (λ fault. IsRefused fault (S.noted shelf.old) (S.noted shelf.new)) }
+{
+    if bytes.len() <= MOST_FRESH {
+        return Ok(Place::Fresh(bytes));
+    }
+    put_surely(shelf, bytes.as_slice())
+}
+
+impl Session {
+    ghost use Rattle.gq_ledger.specs.Ledgers.{book_of, all_bytes, verdict_of};
+    ghost use Rattle.gq_ledger.specs.Steps.{Leads, Keeps};
+    ghost use Rattle.gq_stock.specs.Held.{contents};
+    ghost use Rattle.gq_stock.specs.Finding.{FindsDamage};
+    ghost use Rattle.gq_stock.specs.Sure.{IsSureOf};
+    ghost use Rattle.gq_stock.specs.Keeping.{ComparesAs, KeptAs, taken_of};
+
+    // Compares the bytes with those that are there.
+    fn compare<S: Shelf>(
+        &self,
+        shelf: &mut S,
+        number: u64,
+        bytes: &[u8],
+    ) -> Result<Keeping, ShelfFault>
+        requires { IsSome ((book_of self.now.chunks).at number) }
+        ensures told { (written : Extent → List ℕ) → IfOk result (λ told. IsClean written (S.noted shelf.new) → ComparesAs ((contents written (book_of self.now.chunks)).at number) bytes.now told) }
+        ensures damaged { IfOk result (λ told. told ≡ Keeping.Damaged → FindsDamage ((book_of self.now.chunks).at number) (S.noted shelf.old) (S.noted shelf.new)) }
+        ensures none { IfOk result (λ told. taken_of (length bytes.now) told ≡ 0) }
+        ensures not_new { IfOk result (λ told. told ≢ Keeping.New) }
+        ensures refused { IfErr result (λ fault. IsRefused fault (S.noted shelf.old) (S.noted shelf.new)) }
+        ensures goes_on { GoesOn (S.noted shelf.old) (S.noted shelf.new) }
+    {
+        match self.find(shelf, number)? {
+            Found::There(there) => {
+                if there.as_slice() == bytes {
+                    Ok(Keeping::Same)
+                } else {
+                    Ok(Keeping::Differs)
+                }
+            }
+            Found::Damaged => Ok(Keeping::Damaged),
+            Found::Nothing => unreachable!(),
+        }
+    }
+
+    // Puts the content under the number.
+    fn take<S: Shelf>(
+        &mut self,
+        shelf: &mut S,
+        number: u64,
+        bytes: Bytes,
+        is_sure: bool,
+        free: u64,
+    ) -> Result<(), ShelfFault>
+        requires long { length bytes < 2 ^ 32 }
+        requires room { all_bytes self.old.chunks + free < 2 ^ 64 }
+        requires may { verdict_of (book_of self.old.chunks) number (length bytes) free ≡ Verdict.Kept }
+        ensures leads { (written : Extent → List ℕ) → OnOk result (IsClean written (S.noted shelf.new) → Leads (contents written (book_of self.old.chunks)) (Keeps number (record { bytes = bytes; is_sure = is_sure })) (contents written (book_of self.new.chunks))) }
+        ensures sure { OnOk result (IsSureOf ((book_of self.new.chunks).at number) (S.noted shelf.new)) }
+        ensures used { OnOk result (all_bytes self.new.chunks ≡ all_bytes self.old.chunks + length bytes) }
+        ensures refused { IfErr result (λ fault. IsRefused fault (S.noted shelf.old) (S.noted shelf.new)) }
+        ensures unchanged { OnErr result (book_of self.new.chunks ≡ book_of self.old.chunks) }
+        ensures as_used { OnErr result (all_bytes self.new.chunks ≡ all_bytes self.old.chunks) }
+        ensures goes_on { GoesOn (S.noted shelf.old) (S.noted shelf.new) }
+    {
+        let place = placed(shelf, bytes)?;
+        let _verdict = self.chunks.keep(number, Chunk { place, is_sure }, free)?;
+        Ok(())
+    }
+
+    /// Keeps the content under the number: what is told says what was there, and only a new one changes anything. So it may be asked any number of times.
+    /// A new one that lies on the shelf was made sure of there. `Damaged` comes only where this read of the shelf found it so. It is refused where memory is wanting, or the shelf refuses a read or a put. Nothing
+    /// changes then.
+    pub fn keep<S: Shelf>(
+        &mut self,
+        shelf: &mut S,
+        number: u64,
+        bytes: Bytes,
+        is_sure: bool,
+        free: u64,
+    ) -> Result<Keeping, ShelfFault>
+        requires long { length bytes < 2 ^ 32 }
+        requires room { all_bytes self.old.chunks + free < 2 ^ 64 }
+        ensures kept { (written : Extent → List ℕ) → IfOk result (λ told. IsClean written (S.noted shelf.new) → KeptAs (contents written (book_of self.old.chunks)) number bytes is_sure free told (contents written (book_of self.new.chunks))) }
+        ensures damaged { IfOk result (λ told. told ≡ Keeping.Damaged → FindsDamage ((book_of self.old.chunks).at number) (S.noted shelf.old) (S.noted shelf.new)) }
+        ensures used { IfOk result (λ told. all_bytes self.new.chunks ≡ all_bytes self.old.chunks + taken_of (length bytes) told) }
+        ensures sure { IfOk result (λ told. told ≡ Keeping.New → IsSureOf ((book_of self.new.chunks).at number) (S.noted shelf.new)) }
+        ensures within { IfOk result (λ told. taken_of (length bytes) told ≤ free) }
+        ensures refused { IfErr result (λ fault. IsRefused fault (S.noted shelf.old) (S.noted shelf.new)) }
+        ensures unchanged { OnErr result (book_of self.new.chunks ≡ book_of self.old.chunks) }
+        ensures as_used { OnErr result (all_bytes self.new.chunks ≡ all_bytes self.old.chunks) }
+        ensures goes_on { GoesOn (S.noted shelf.old) (S.noted shelf.new) }
+    {
+        match self.chunks.verdict(number, bytes.len() as u64, free) {
+            Verdict::There => self.compare(shelf, number, bytes.as_slice()),
+            Verdict::Below => Ok(Keeping::Below),
+            Verdict::Full => Ok(Keeping::Full),
+            Verdict::Kept => {
+                self.take(shelf, number, bytes, is_sure, free)?;
+                Ok(Keeping::New)
+            }
+        }
+    }
+}

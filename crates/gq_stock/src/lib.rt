@@ -1,0 +1,19 @@
+//! The chunks of one session at a server: what is kept, found, forgotten and given, and what is told of it.
+#![tactic(auto)]
+
+mod chunk;
+mod finding;
+mod forgetting;
+mod keeping;
+pub mod laws;
+mod moving;
+mod run;
+mod session;
+mod stock;
+
+pub use chunk::Chunk;
+pub use finding::Found;
+pub use keeping::Keeping;
+pub use run::Run;
+pub use session::Session;
+pub use stock::Stock;

@@ -1,0 +1,112 @@
+//! Chunks that a peer gives, and chunks that are moved.
+
+ghost use Rattle.std.specs.Prelude.{◌≡◌, ◌+◌, ◌<◌, ◌≤◌, ◌^◌, ℕ, List, length, true, false, IfOk, IfErr, OnErr, IfSome, IfNone};
+ghost use Rattle.gq_shelf.specs.Notes.{IsClean, GoesOn};
+ghost use Rattle.gq_shelf.specs.Places.{content_at, long_at, extent_in};
+ghost use Rattle.gq_shelf.specs.declared.extent.Extent.{Extent};
+ghost use Rattle.gq_stock.specs.Finding.{FindsDamageAt, IsRefused};
+ghost use Rattle.gq_stock.specs.Moving.{LiesBehind};
+
+use crate::keeping::placed;
+use crate::{Chunk, Session};
+use bytes::Bytes;
+use gq_ledger::Long;
+use gq_memory::OutOfMemory;
+use gq_shelf::{Place, Shelf, ShelfFault};
+
+// The content, put on the shelf behind all others; none where this read found it damaged.
+fn copied<S: Shelf>(shelf: &mut S, place: &Place) -> Result<Option<Place>, ShelfFault>
+    requires { long_at place.now < 2 ^ 32 }
+    ensures bytes { (written : Extent → List ℕ) → IfOk result (λ copy. IfSome copy (λ there. IsClean written (S.noted shelf.new) → content_at written there ≡ content_at written place.now)) }
+    ensures long { IfOk result (λ copy. IfSome copy (λ there. long_at there ≡ long_at place.now)) }
+    ensures shelved { IfOk result (λ copy. IfSome copy (λ there. LiesBehind (S.end shelf.old) there)) }
+    ensures damaged { IfOk result (λ copy. IfNone copy (FindsDamageAt (extent_in place.now) (S.noted shelf.old) (S.noted shelf.new))) }
+    ensures refused { IfErr result (λ fault. IsRefused fault (S.noted shelf.old) (S.noted shelf.new)) }
+    ensures goes_on { GoesOn (S.noted shelf.old) (S.noted shelf.new) }
+{
+    match place.read(shelf) {
+        Ok(bytes) => {
+            let there = Place::put(shelf, bytes.as_slice())?;
+            Ok(Some(there))
+        }
+        Err(ShelfFault::Damaged(_)) => Ok(None),
+        Err(fault) => Err(fault),
+    }
+}
+
+impl Session {
+    ghost use Rattle.gq_ledger.specs.Ledgers.{book_of, all_bytes, bytes_under};
+    ghost use Rattle.gq_ledger.specs.Steps.{Leads, Gives};
+    ghost use Rattle.gq_stock.specs.Held.{contents};
+    ghost use Rattle.gq_stock.specs.Moving.{MovedAs, IsBehind, NoneIsRead};
+    ghost use Rattle.gq_stock.specs.Sure.{IsSureOf};
+
+    /// Puts the chunk under the number, in place of what is there. False: it would be more bytes in all than 64 bits tell, and nothing changes. Nor does it
+    /// where memory is refused.
+    pub fn put(&mut self, number: u64, chunk: Chunk) -> Result<bool, OutOfMemory>
+        ensures put { IfOk result (λ is_put. is_put ≡ true → Leads (book_of self.old.chunks) (Gives number chunk) (book_of self.new.chunks)) }
+        ensures used { IfOk result (λ is_put. is_put ≡ true → all_bytes self.new.chunks + bytes_under self.old.chunks number ≡ all_bytes self.old.chunks + long_at chunk.place) }
+        ensures same { IfOk result (λ is_put. is_put ≡ false → book_of self.new.chunks ≡ book_of self.old.chunks) }
+        ensures much { IfOk result (λ is_put. is_put ≡ false → 2 ^ 64 ≤ all_bytes self.old.chunks + long_at chunk.place) }
+        ensures unchanged { OnErr result (book_of self.new.chunks ≡ book_of self.old.chunks) }
+    {
+        if self.used() > u64::MAX - chunk.len() {
+            return Ok(false);
+        }
+        self.chunks.give(number, chunk)?;
+        Ok(true)
+    }
+
+    /// Puts the chunk that a peer gives under the number, in place of what is there. False: it would be more bytes in all than 64 bits tell, and nothing changes.
+    /// If it lies on the shelf it was made sure of there. It is refused where memory is wanting, or the shelf refuses a put. Nothing changes then.
+    pub fn give<S: Shelf>(
+        &mut self,
+        shelf: &mut S,
+        number: u64,
+        bytes: Bytes,
+    ) -> Result<bool, ShelfFault>
+        requires { length bytes < 2 ^ 32 }
+        ensures given { (written : Extent → List ℕ) → IfOk result (λ is_given. is_given ≡ true → IsClean written (S.noted shelf.new) → Leads (contents written (book_of self.old.chunks)) (Gives number (record { bytes = bytes; is_sure = true })) (contents written (book_of self.new.chunks))) }
+        ensures sure { IfOk result (λ is_given. is_given ≡ true → IsSureOf ((book_of self.new.chunks).at number) (S.noted shelf.new)) }
+        ensures used { IfOk result (λ is_given. is_given ≡ true → all_bytes self.new.chunks + bytes_under self.old.chunks number ≡ all_bytes self.old.chunks + length bytes) }
+        ensures same { IfOk result (λ is_given. is_given ≡ false → book_of self.new.chunks ≡ book_of self.old.chunks) }
+        ensures much { IfOk result (λ is_given. is_given ≡ false → 2 ^ 64 ≤ all_bytes self.old.chunks + length bytes) }
+        ensures refused { IfErr result (λ fault. IsRefused fault (S.noted shelf.old) (S.noted shelf.new)) }
+        ensures unchanged { OnErr result (book_of self.new.chunks ≡ book_of self.old.chunks) }
+        ensures goes_on { GoesOn (S.noted shelf.old) (S.noted shelf.new) }
+    {
+        let place = placed(shelf, bytes)?;
+        Ok(self.put(
+            number,
+            Chunk {
+                place,
+                is_sure: true,
+            },
+        )?)
+    }
+
+    /// Puts the content of the number behind all others on the shelf, from memory or from where it lies. It is the same, where no read was wrong, and so is
+    /// what is used. The shelf has to make sure of it before it is told where it lies. False: none is there, or this read of the shelf found it damaged, and nothing changes. It is refused where memory is wanting, or the
+    /// shelf refuses a read or a put. Nothing changes then.
+    pub fn shelve<S: Shelf>(&mut self, shelf: &mut S, number: u64) -> Result<bool, ShelfFault>
+        ensures moved { (written : Extent → List ℕ) → IfOk result (λ is_moved. IsClean written (S.noted shelf.new) → MovedAs (contents written (book_of self.old.chunks)) (contents written (book_of self.new.chunks))) }
+        ensures shelved { IfOk result (λ is_moved. is_moved ≡ true → IsBehind (S.end shelf.old) ((book_of self.new.chunks).at number)) }
+        ensures none { IfOk result (λ is_moved. is_moved ≡ false → NoneIsRead ((book_of self.old.chunks).at number) (S.noted shelf.old) (S.noted shelf.new)) }
+        ensures same { IfOk result (λ is_moved. is_moved ≡ false → book_of self.new.chunks ≡ book_of self.old.chunks) }
+        ensures used { all_bytes self.new.chunks ≡ all_bytes self.old.chunks }
+        ensures refused { IfErr result (λ fault. IsRefused fault (S.noted shelf.old) (S.noted shelf.new)) }
+        ensures unchanged { OnErr result (book_of self.new.chunks ≡ book_of self.old.chunks) }
+        ensures goes_on { GoesOn (S.noted shelf.old) (S.noted shelf.new) }
+    {
+        let Some(chunk) = self.chunks.get(number) else {
+            return Ok(false);
+        };
+        let is_sure = chunk.is_sure;
+        let _used = self.used();
+        let Some(place) = copied(shelf, &chunk.place)? else {
+            return Ok(false);
+        };
+        self.chunks.give(number, Chunk { place, is_sure })?;
+        Ok(true)
+    }
+}

@@ -1,0 +1,91 @@
+//! The chunks of one tenant at a server.
+
+ghost use Rattle.std.specs.Prelude.{◌≡◌, ◌≢◌, List, ◌+◌, ◌-◌, ◌<◌, ◌≤◌, ◌^◌, ℕ, Some, length, max, min, IfOk, IfErr, OnErr, slice_get};
+ghost use Rattle.gq_shelf.specs.Notes.{IsClean, GoesOn};
+ghost use Rattle.gq_shelf.specs.declared.extent.Extent.{Extent};
+
+use crate::{Keeping, Session};
+use bytes::Bytes;
+use gq_memory::{GrowVec, OutOfMemory};
+use gq_shelf::{Shelf, ShelfFault};
+use std::alloc::Global;
+
+/// The chunks of one tenant at a server: those of its sessions, and how many bytes it may have.
+#[derive(Drop)]
+pub struct Stock {
+    /// The chunks of its sessions, from the first.
+    pub sessions: Vec<Session>,
+    /// How many bytes it may have.
+    pub allowed: u64,
+}
+
+impl Stock {
+    ghost use Rattle.gq_stock.specs.Finding.{IsRefused};
+    ghost use Rattle.gq_stock.specs.Keeping.{taken_of};
+    ghost use Rattle.gq_stock.specs.Stocks.{used_in, KeptIn, SureIn, StaysIn};
+
+    /// So many sessions, which have nothing.
+    pub fn new(alloc: Global, sessions: u32, allowed: u64) -> Result<Stock, OutOfMemory>
+        ensures sessions { IfOk result (λ stock. length stock.sessions.items ≡ sessions) }
+        ensures used { IfOk result (λ stock. used_in stock.sessions.items ≡ 0) }
+        ensures allowed { IfOk result (λ stock. stock.allowed ≡ allowed) }
+    {
+        let mut all = Vec::new(alloc);
+        for _session in 0..sessions {
+            all.grow(Session::new(alloc))?;
+        }
+        Ok(Stock {
+            sessions: all,
+            allowed,
+        })
+    }
+
+    /// How many bytes its chunks have, as far as 64 bits tell.
+    pub fn used(&self) -> u64
+        ensures { result ≡ min (used_in self.now.sessions.items) (2 ^ 64 - 1) }
+    {
+        let mut used: u64 = 0;
+        for session in self.sessions.as_slice() {
+            used = used.saturating_add(session.used());
+        }
+        used
+    }
+
+    /// How many bytes it may have more.
+    pub fn free(&self) -> u64
+        ensures { result ≡ self.now.allowed - used_in self.now.sessions.items }
+    {
+        self.allowed.saturating_sub(self.used())
+    }
+
+    /// Keeps the content under the number of the session at this place. No other session changes, and what is used does not come above what is allowed, or stays.
+    /// It is refused where memory is wanting, or the shelf refuses a read or a put. Nothing changes then.
+    pub fn keep<S: Shelf>(
+        &mut self,
+        shelf: &mut S,
+        place: usize,
+        number: u64,
+        bytes: Bytes,
+        is_sure: bool,
+    ) -> Result<Keeping, ShelfFault>
+        requires there { place < length self.old.sessions.items }
+        requires long { length bytes < 2 ^ 32 }
+        ensures kept { (written : Extent → List ℕ) → IfOk result (λ told. IsClean written (S.noted shelf.new) → KeptIn written self.old.sessions.items place number bytes is_sure (self.old.allowed - used_in self.old.sessions.items) told self.new.sessions.items) }
+        ensures sessions { length self.new.sessions.items ≡ length self.old.sessions.items }
+        ensures others { (other : ℕ) → other ≢ place → slice_get self.new.sessions.items other ≡ slice_get self.old.sessions.items other }
+        ensures sure { IfOk result (λ told. told ≡ Keeping.New → SureIn self.new.sessions.items place number (S.noted shelf.new)) }
+        ensures used { IfOk result (λ told. used_in self.new.sessions.items ≡ used_in self.old.sessions.items + taken_of (length bytes) told) }
+        ensures refused { IfErr result (λ fault. IsRefused fault (S.noted shelf.old) (S.noted shelf.new)) }
+        ensures unchanged { OnErr result (StaysIn self.old.sessions.items place self.new.sessions.items) }
+        ensures as_used { OnErr result (used_in self.new.sessions.items ≡ used_in self.old.sessions.items) }
+        ensures room { IfOk result (λ told. used_in self.new.sessions.items ≤ max (used_in self.old.sessions.items) self.old.allowed) }
+        ensures allowed { self.new.allowed ≡ self.old.allowed }
+        ensures goes_on { GoesOn (S.noted shelf.old) (S.noted shelf.new) }
+    {
+        let _allowed = self.allowed;
+        let free = self.free();
+        let session = &mut self.sessions[place];
+        let _used = session.used();
+        session.keep(shelf, number, bytes, is_sure, free)
+    }
+}

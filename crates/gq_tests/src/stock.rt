@@ -1,0 +1,206 @@
+//! Chunks of a tenant over a shelf in memory: each call where memory and the shelf refuse nothing. Bytes as a word of a line.
+
+use bytes::Bytes;
+use gq_memory::filled;
+use gq_quote::{put_quoted, read_quoted};
+use gq_shelf::{Extent, MemoryShelf, Place, Shelf};
+use gq_stock::{Chunk, Found, Keeping, Run, Session, Stock};
+use std::alloc::Global;
+use std::process::Abort;
+use std::test::Fail;
+
+// One byte more than a content in memory has.
+const LONG: usize = 262_145;
+
+fn content(rt: &impl Abort, alloc: Global, text: &str) -> Bytes {
+    match Bytes::copy_from_slice(alloc, text.as_bytes()) {
+        Ok(bytes) => bytes,
+        Err(_) => panic!(rt; "out of memory"),
+    }
+}
+
+fn sevens(alloc: Global, count: usize) -> Result<Bytes, Fail> {
+    let bytes = filled(alloc, 7u8, count)?;
+    Ok(Bytes::copy_from_slice(alloc, bytes.as_slice())?)
+}
+
+fn keeps<S: Shelf>(
+    rt: &impl Abort,
+    stock: &mut Stock,
+    shelf: &mut S,
+    number: u64,
+    bytes: Bytes,
+    as_told: Keeping,
+) {
+    assert!(rt; stock.sessions.len() == 1 && bytes.len() < 1_000_000);
+    match stock.keep(shelf, 0, number, bytes, true) {
+        Ok(told) => assert!(rt; told == as_told),
+        Err(_) => panic!(rt; "not kept"),
+    }
+}
+
+fn is_found<S: Shelf>(session: &Session, shelf: &mut S, number: u64, text: &str) -> bool {
+    match session.find(shelf, number) {
+        Ok(Found::There(bytes)) => bytes.as_slice() == text.as_bytes(),
+        _ => false,
+    }
+}
+
+fn is_damaged<S: Shelf>(session: &Session, shelf: &mut S, number: u64) -> bool {
+    matches!(session.find(shelf, number), Ok(Found::Damaged))
+}
+
+fn is_nothing<S: Shelf>(session: &Session, shelf: &mut S, number: u64) -> bool {
+    matches!(session.find(shelf, number), Ok(Found::Nothing))
+}
+
+// A content is kept once, within what is free, and above the floor.
+fn keeps_contents<S: Shelf>(rt: &impl Abort, alloc: Global, stock: &mut Stock, shelf: &mut S) {
+    keeps(
+        rt,
+        stock,
+        shelf,
+        1,
+        content(rt, alloc, "hello"),
+        Keeping::New,
+    );
+    keeps(
+        rt,
+        stock,
+        shelf,
+        1,
+        content(rt, alloc, "hello"),
+        Keeping::Same,
+    );
+    keeps(
+        rt,
+        stock,
+        shelf,
+        1,
+        content(rt, alloc, "other"),
+        Keeping::Differs,
+    );
+    keeps(
+        rt,
+        stock,
+        shelf,
+        0,
+        content(rt, alloc, "hello"),
+        Keeping::Below,
+    );
+    keeps(
+        rt,
+        stock,
+        shelf,
+        2,
+        content(rt, alloc, "eight by"),
+        Keeping::Full,
+    );
+    keeps(
+        rt,
+        stock,
+        shelf,
+        2,
+        content(rt, alloc, "seven b"),
+        Keeping::New,
+    );
+    assert!(rt; stock.used() == 12 && stock.free() == 0);
+}
+
+// Contents go to the shelf, are given by a peer, and are forgotten.
+fn moves_contents<S: Shelf>(rt: &impl Abort, alloc: Global, session: &mut Session, shelf: &mut S) {
+    assert!(rt; matches!(session.shelve(shelf, 1), Ok(true)));
+    assert!(rt; matches!(session.shelve(shelf, 9), Ok(false)));
+    assert!(rt;
+        matches!(
+            session.get(1),
+            Some(Chunk {
+                place: Place::Shelved(_),
+                ..
+            })
+        )
+    );
+    assert!(rt; is_found(session, shelf, 1, "hello") && is_found(session, shelf, 2, "seven b"));
+    let given = content(rt, alloc, "given");
+    assert!(rt; given.len() < 1_000_000);
+    assert!(rt; matches!(session.give(shelf, 4, given), Ok(true)));
+    let elsewhere = Place::Shelved(Extent {
+        segment: 1,
+        at: 0,
+        len: 5,
+        sum: 0,
+    });
+    assert!(rt;
+        matches!(
+            session.put(
+                6,
+                Chunk {
+                    place: elsewhere,
+                    is_sure: false
+                }
+            ),
+            Ok(true)
+        )
+    );
+    assert!(rt; is_damaged(session, shelf, 6) && session.count() == 4 && session.used() == 22);
+    session.forget(4, &[Run { first: 2, last: 4 }]);
+    assert!(rt; is_nothing(session, shelf, 4) && session.floor() == 4);
+    assert!(rt; matches!(session.after(1), Some((6, _))) && session.after(6).is_none());
+}
+
+#[test]
+fn chunks_are_kept_moved_and_forgotten(rt: HostRuntime) -> Result<(), Fail> {
+    let alloc = rt.alloc();
+    let mut shelf = MemoryShelf::new(alloc);
+    let mut stock = Stock::new(alloc, 1, 12)?;
+    keeps_contents(&rt, alloc, &mut stock, &mut shelf);
+    assert!(rt; stock.sessions.len() == 1);
+    moves_contents(&rt, alloc, &mut stock.sessions[0], &mut shelf);
+    keeps(
+        &rt,
+        &mut stock,
+        &mut shelf,
+        6,
+        content(&rt, alloc, "hello"),
+        Keeping::Damaged,
+    );
+    Ok(())
+}
+
+#[test]
+fn a_long_content_lies_on_the_shelf(rt: HostRuntime) -> Result<(), Fail> {
+    let alloc = rt.alloc();
+    let mut shelf = MemoryShelf::new(alloc);
+    let mut stock = Stock::new(alloc, 1, 1_000_000)?;
+    keeps(
+        &rt,
+        &mut stock,
+        &mut shelf,
+        1,
+        sevens(alloc, LONG)?,
+        Keeping::New,
+    );
+    assert!(rt; stock.sessions.len() == 1);
+    assert!(rt;
+        matches!(
+            stock.sessions[0].get(1),
+            Some(Chunk {
+                place: Place::Shelved(_),
+                ..
+            })
+        )
+    );
+    Ok(())
+}
+
+#[test]
+fn bytes_are_quoted(rt: HostRuntime) -> Result<(), Fail> {
+    let alloc = rt.alloc();
+    let mut out = Vec::new(alloc);
+    put_quoted(&mut out, b"a b\n\\c")?;
+    assert!(rt; out.as_slice() == b"a\\040b\\n\\\\c".as_slice());
+    let read = read_quoted(alloc, out.as_slice())?;
+    assert!(rt; matches!(&read, Some(bytes) if bytes.as_slice() == b"a b\n\\c".as_slice()));
+    assert!(rt; read_quoted(alloc, b"\\041")?.is_none());
+    Ok(())
+}
