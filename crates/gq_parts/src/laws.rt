@@ -40,7 +40,8 @@ pub fn alike()
 /// run of the law of nodes that are lost and replaced, and each file is one register (`follow`). The program's nodes are such nodes. Of each tenant each
 /// node has a part that does the same as what the law of nodes (`gq_node::laws::nodes`) says of this tenant's requests, letters, ticks and starts, and
 /// what is told is what is written for the law's parts (`nodes`). What the calls of one node promise of a step, of a start and of a journal that is
-/// written anew is what happens there (`steps`, `starts`, `renewals`).
+/// written anew is what happens there (`steps`, `starts`, `renewals`). A letter in a short form may come where it was written with the content that the
+/// run names; a step by it is one whatever content that is.
 pub fn all_nodes()
     ensures follow { AllFollowLaw }
     ensures nodes { AllByLaw }
