@@ -12,7 +12,7 @@ sys.path.insert(0, os.path.join(HERE, "..", "clients", "python"))
 sys.path.insert(0, os.path.join(HERE, "..", "tests", "nodes"))
 from gridfs_grid.carrier import Carrier, Node, journal_of
 from processes import built_disk, disk
-from gridfs_grid.tenant import homes
+from gridfs_grid.planned import planned
 
 TENANTS = ["ann", "bob", "cid", "dan"]
 FILES, CONTENT = 64, b"61" * 64
@@ -50,8 +50,9 @@ class Load:
         self.folder, plan = folder, os.path.join(folder, "plan")
         with open(plan, "w", encoding="ascii") as out:
             out.write(plan_of(rows, cols))
-        count, self.homes = homes(plan_of(rows, cols))
-        nodes = [Node(program, number, plan, journal_of(folder, number)) for number in range(count)]
+        told = planned(program, plan_of(rows, cols))
+        self.homes = told.homes
+        nodes = [Node(program, number, plan, journal_of(folder, number)) for number in told.nodes]
         self.carrier = Carrier(nodes, self.hear, self.fall, TICK)
         self.draw, self.numbers, self.begun, self.taken = random.Random(1), {}, {}, {}
         self.is_on, self.done = True, 0

@@ -18,7 +18,7 @@ from gridfs_grid.carrier import Carrier, Node, journal_of
 from contents import word_of
 from journals import sealed
 from processes import room, words_of
-from gridfs_grid.tenant import homes
+from gridfs_grid.planned import planned
 
 MIB = 1 << 20
 # Bytes of a content, and how many are written and read: the script of the writes has at most 16 MiB.
@@ -92,7 +92,7 @@ class Nodes:
         plan = os.path.join(folder, "plan")
         with open(plan, "w", encoding="ascii") as out:
             out.write(PLAN)
-        count, _ = homes(PLAN)
+        count = len(planned(program, PLAN).nodes)
         self.nodes = [Node(program, number, plan, journal_of(folder, number)) for number in range(count)]
         self.carrier, self.told, self.number = Carrier(self.nodes, self.hear, self.fall, 3600), None, 0
         self.carrier.most_waiting = 64 * MIB

@@ -123,7 +123,7 @@ def nodes_begin():
 def plans_go_on():
     before = {name: os.stat(f"desk/{name}").st_mtime_ns for name in ("plan", "nodes", "tenants")}
     write("wrong", WRONG)
-    refuses(1, "line 3: ann had 4 sessions", "bundles", "desk", "wrong")
+    refuses(1, "wrong: does not go on from desk/plan: line 3: the tenant had 4 sessions, and may not have more or fewer; nothing was touched", "bundles", "desk", "wrong")
     check({name: os.stat(f"desk/{name}").st_mtime_ns for name in before} == before, "a plan that does not go on changed something")
     write("later", LATER)
     does("bundles", "desk", "later", "--days", "30")

@@ -8,7 +8,7 @@ import time
 
 from carrying import DEPLOY, PLAN, check, set_up
 
-LOST = PLAN + "replace 1\n"
+LOST = PLAN.replace("grid 1 2", "grid 2 1") + "replace 1\n"
 
 
 def number_of(path):
@@ -109,7 +109,7 @@ def what_it_refuses(_, folder):
         (["--deny", "../ca", "links", "plan"], 2, "--deny: ../ca"),
         (["--deny", "zed", "links", "plan"], 1, "zed has been given no certificate"),
         (["links", "none"], 1, "can't be read"),
-        (["links", "odd"], 1, "no grid"),
+        (["links", "odd"], 1, "odd: line 1: form"),
     ):
         seen = set_up_status(folder, *words)
         check(seen[0] == status and says in seen[1], f"{words}: {seen}")

@@ -168,8 +168,7 @@ class Grids:
         self.held("a plan that is not there", self.run("--plan", "/none", folder + ".none")[::2], (1, ["grid: /none: No such file or directory"]))
         with open(folder + ".plan", "w", encoding="ascii") as out:
             out.write(PLAN_WITH_A_FAULT)
-        wanted = 1, ["grid: node 0 has ended with status 1", "grid: node 0 did not start: a person has to look (docs/FAULTS.md, Faults)"]
-        self.held("a plan with a fault", self.run("--plan", folder + ".plan", folder + ".fault")[::2], wanted)
+        self.held("a plan with a fault", self.run("--plan", folder + ".plan", folder + ".fault")[::2], (1, [f"grid: {folder}.plan: line 3: zeroshare"]))
 
     @contextlib.contextmanager
     def served(self, folder, *words):

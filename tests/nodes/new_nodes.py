@@ -10,8 +10,10 @@ sys.path.insert(0, os.path.join(os.path.dirname(os.path.abspath(__file__)), ".."
 from contents import in_bytes
 from faults import PLAN, STRANGE, Faults, not_kept, of_node
 from journals import batches, sealed
+from plans import homes
 from processes import WRONG, Stepped, get, put, words_of
-from gridfs_grid.tenant import PLACES, SESSIONS, Nodes, Session, homes, nodes_of
+from gridfs_grid.planned import planned
+from gridfs_grid.tenant import PLACES, SESSIONS, Nodes, Session
 
 LOST = PLAN + b"replace 3\n"
 FILES = 6  # of the plan, all of which node 67 lacks at first
@@ -328,9 +330,8 @@ class NewNodes(Faults):
     def clients(self):
         """A session whose home was lost begins anew at the node that stands there: what was under way is gone, and a read is asked again."""
         plan = LOST.decode() + "replace 3\nreplace 0\n"
-        count, home = homes(plan)
-        self.held("the nodes of a plan", (nodes_of(plan), count, home["ann", 4], home["bob", 1]), ([64, 1, 2, 131], 4, 131, 64))
-        self.held("losses that a plan can't have", nodes_of(PLAN.decode() + "replace 4\nreplace 03\nreplace\n"), [0, 1, 2, 3])
+        told = planned(self.program, plan)
+        self.held("the nodes of a plan", (told.nodes, told.homes["ann", 4], told.homes["bob", 1]), ([64, 1, 2, 131], 131, 64))
         for kind, words in (b"read", [b"0", b"3"]), (b"write", [b"0", b"3", b"aa"]):
             nodes, session, told, sent = Nodes(range(4)), Session("ann", 4, 3, random.Random(1), 6), [], []
             session.ask(kind, words, told.append)

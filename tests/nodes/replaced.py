@@ -15,10 +15,10 @@ from contents import in_digits
 from journals import batches
 from large import MARKER as LARGE_MARKER
 from large import MOST_BLOCKS, LargeClient, LargeStorm
+from plans import nodes_of as nodes_of_text
 from processes import Wrong, get, put, words_of
 from storm import CALM, LATER, MARKER, NAMES, TURN, Client, Life, Storm, a_plan_behind, shares_of
 from gridfs_grid.tenant import PLACES, SESSIONS, Nodes, Session
-from gridfs_grid.tenant import nodes_of as nodes_of_text
 
 MOST_LOST = 5  # nodes of one storm
 LEAST_BETWEEN, MEAN_BETWEEN = 100, 250  # lines from one loss to the next

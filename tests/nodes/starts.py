@@ -30,7 +30,7 @@ class Kept:
 
     def told(self):
         """The most that `tools/plan` says that a node takes, in MiB."""
-        said = subprocess.run([TOOL, "--used", f"{self.folder}/plan"], capture_output=True, text=True, check=True)
+        said = subprocess.run([TOOL, "--used", f"{self.folder}/plan"], capture_output=True, text=True, check=True, env={**os.environ, "GRIDFS": self.program})
         return int(MOST.search(said.stdout + said.stderr)[1].replace(",", ""))
 
     def lives(self, writes, begins=False):

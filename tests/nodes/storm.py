@@ -17,10 +17,11 @@ sys.path.insert(0, os.path.join(HERE, "..", "linearizable"))
 sys.path.insert(0, os.path.join(HERE, "..", "..", "clients", "python"))
 from checker import is_linearizable
 from contents import in_digits
+from plans import homes
 from processes import MARKER, Stepped, Wrong, disk, get, lose_power, put, words_of
 from reserved import Numbers
 from spoiling import written
-from gridfs_grid.tenant import Session, homes
+from gridfs_grid.tenant import Session
 
 BOUND = 100_000
 NAMES, LATER = ["ann", "bob", "cid", "dan"], "eve"

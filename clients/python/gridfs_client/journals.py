@@ -11,13 +11,14 @@ import os
 import re
 from collections.abc import Iterator, Sequence
 from contextlib import ExitStack
-from dataclasses import dataclass, field
+from dataclasses import dataclass
 from typing import IO, BinaryIO
 
-from .answers import MOST_PLACES, Copy, PlanTold, Row, Tag, content_of
+from .answers import MOST_PLACES, Copy, Row, Tag, content_of
 from .errors import BadFile, BadSettings, Damaged, Refused
 from .layout import Layout, layout_of
 from .names import NamedFiles
+from .plans import Plan, plan_of
 from .streams import OneByOne
 from .ways import Ground
 
@@ -62,39 +63,6 @@ def batches(file: BinaryIO, path: str) -> Iterator[list[tuple[int, bytes]]]:
         elif file.read(1):
             raise Damaged(f"{path}: damaged at byte {start}")
         offset += len(line)
-
-
-@dataclass
-class Plan:
-    """What a plan says of tenants and nodes."""
-
-    rows: int = 0
-    columns: int = 0
-    tenants: dict[str, PlanTold] = field(default_factory=dict)
-    text: bytes = b""  # with the line of its node
-
-
-def plan_of(lines: Sequence[bytes]) -> Plan:
-    """A ValueError for what is no plan."""
-    plan, lost, sessions = Plan(), dict[int, int](), 0
-    volumes = dict[str, list[tuple[int, int]]]()
-    heads = dict[str, tuple[int, int, int, int]]()
-    for words in (line.decode("ascii").split() for line in lines):
-        match words:
-            case ["grid", rows, columns]:
-                plan.rows, plan.columns = int(rows), int(columns)
-            case ["tenant", name, share, many, _, *most]:
-                heads[name] = sessions, int(many), int(share), int(most[0]) if most else 0
-                volumes[name], sessions = [], sessions + int(many)
-            case [name, "open", files, blocks]:
-                volumes[name].append((int(files), int(blocks)))
-            case ["replace", place]:
-                lost[int(place)] = lost.get(int(place), 0) + 1
-    nodes = plan.rows * plan.columns
-    new_nodes = tuple(sorted(place + MOST_PLACES * many for place, many in lost.items()))
-    for name, (before, has_sessions, has_share, longest) in heads.items():
-        plan.tenants[name] = PlanTold(nodes, before % nodes, has_sessions, has_share, longest, tuple(volumes[name]), new_nodes)
-    return plan
 
 
 class Journals:

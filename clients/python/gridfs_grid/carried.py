@@ -10,7 +10,8 @@ import time
 
 from gridfs_grid.carrier import journal_of
 from gridfs_grid.one_machine import DAMAGED, NotStarted, how_ended, is_ready, keep, lock, remove_journal, seconds_to_start, with_loss, write_settings
-from gridfs_grid.tenant import PLACES, nodes_of, shape_of
+from gridfs_grid.planned import planned
+from gridfs_grid.tenant import PLACES
 
 PATIENCE = 15  # seconds that a process has to end
 
@@ -134,7 +135,8 @@ class CarriedGrid:
     def read_plan(self):
         with open(self.plan, encoding="latin1") as file:
             text = file.read()
-        self.nodes, self.shape = nodes_of(text), shape_of(text)
+        told = planned(self.program, text, self.plan)
+        self.nodes, self.shape = told.nodes, told.shape
         self.count = len(self.nodes)
 
     def in_words(self, number):

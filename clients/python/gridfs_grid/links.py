@@ -21,7 +21,7 @@ class Grid(CarriedGrid):
         """Makes certificates and the file of hosts from the plan, or completes them."""
         self.read_plan()
         self.port = self.port or free_ports(2 * self.count)
-        done = subprocess.run([setup_of("links"), "--local", str(self.port), *words, self.links, self.plan], stderr=subprocess.PIPE, text=True)
+        done = subprocess.run([setup_of("links"), "--local", str(self.port), *words, self.links, self.plan], stderr=subprocess.PIPE, text=True, env={**os.environ, "GRIDFS": self.program})
         if done.returncode:
             raise NotStarted(done.stderr.strip())
 

@@ -37,7 +37,7 @@ class Grid(CarriedGrid):
         words += () if self.tls == "none" else ("--test-authority",)
         words += ("--user", "root") if os.getuid() == 0 else ()
         plans = [f"{grid.name}={grid.plan}" if grid.name else grid.plan for grid in self.grids]
-        done = subprocess.run([setup_of("mqtt"), *words, self.broker_folder, *plans], stderr=subprocess.PIPE, text=True)
+        done = subprocess.run([setup_of("mqtt"), *words, self.broker_folder, *plans], stderr=subprocess.PIPE, text=True, env={**os.environ, "GRIDFS": self.program})
         if done.returncode:
             raise NotStarted(done.stderr.strip())
 

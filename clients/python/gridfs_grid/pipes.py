@@ -11,8 +11,9 @@ from gridfs_grid.callers import Callers
 from gridfs_grid.carrier import Carrier, Node, journal_of
 from gridfs_grid.one_machine import DAMAGED, STAY_DOWN, NotStarted, end, how_ended, how_many_are_up, keep, keep_way, lock, look_at, remove_journal, seconds_to_start, tell, way_out, with_loss, write_settings
 from gridfs_grid.places import PLAN, folder_to_start
+from gridfs_grid.planned import planned
 from gridfs_grid.talk import Talk
-from gridfs_grid.tenant import AGAIN, PLACES, Nodes, Session, homes, longest_line, nodes_of, shape_of, tick_of
+from gridfs_grid.tenant import AGAIN, PLACES, Nodes, Session, tick_of
 from gridfs_grid.trial import show
 
 LACKS = re.compile(r"gridfs: node (\d+)(?:: has all files| of \d by \d: \d+ facts(?:, lacks (\d+) files?)?)\n")
@@ -43,7 +44,7 @@ class Grid:
         self.program, self.told = program, told
         self.tick, self.carrier = tick, Carrier([], self.hear, self.fall, tick or TICK)
         self.sessions, self.homes, self.longest = {}, {}, 0
-        self.text, self.nodes = "", Nodes([])
+        self.text, self.nodes, self.shape = "", Nodes([]), ""
         self.lacks = {}  # of new nodes that told it, how many files they lacked when they started; 0 where they have all
         self.plans = {}  # tenants that asked what they have, each with the time at which a node is asked again
         self.ended = {}  # of nodes that ended by themselves, the status
@@ -61,16 +62,10 @@ class Grid:
                 text = lines.read()
         except OSError as error:
             raise Fault(f"{self.plan}: {error.strerror}") from error
-        # (of a plan with a fault the first node tells it, and does not start)
-        first, *others = nodes_of(text)
-        self.add_node(first)
-        try:
-            self.take_plan(text)
-        except (ValueError, LookupError):  # (which the first node tells, where it is not lost)
-            raise Fault(f"{self.plan}: no plan") from None
-        self.longest = longest_line(text) - MORE
-        self.carrier.carry_lines_of(longest_line(text), self.tick or tick_of(text, TICK))
-        for number in others:
+        told = self.take_plan(text)
+        self.longest = told.longest - MORE
+        self.carrier.carry_lines_of(told.longest, self.tick or tick_of(told.longest, TICK))
+        for number in told.nodes:
             self.add_node(number)
         if not any(node.child for node in self.carrier.nodes):
             raise Fault(f"{self.folder} has no journal that is whole")
@@ -80,8 +75,10 @@ class Grid:
             node.plan = self.kept
 
     def take_plan(self, text):
-        self.text, self.nodes = text, Nodes(nodes_of(text))
-        _, self.homes = homes(text)
+        """What the program tells of the plan. Fault with what it says where it is none."""
+        told = planned(self.program, text, self.plan)
+        self.text, self.nodes, self.homes, self.shape = text, Nodes(told.nodes), told.homes, told.shape
+        return told
 
     def open_door(self):
         """Lets clients come by a socket in the folder, and writes what they have to know, for each tenant."""
@@ -89,7 +86,7 @@ class Grid:
         try:
             self.carrier.callers = Callers(path, self.carrier.send)
             for name in {name for name, _ in self.homes}:
-                write_settings(self.folder, name, shape_of(self.text), {"socket": path})
+                write_settings(self.folder, name, self.shape, {"socket": path})
         except OSError as error:
             raise Fault(f"{path}: {error.strerror or error}") from error
 
@@ -270,7 +267,7 @@ class Grid:
 
     def givers(self, number):
         """The other nodes of its column that have all files."""
-        nodes, cols = self.carrier.nodes, int(self.text.split()[2])
+        nodes, cols = self.carrier.nodes, int(self.shape.partition("x")[2])
         peers = [node for node in nodes if node.number % PLACES % cols == number % PLACES % cols and node.number != number]
         return [node for node in peers if os.path.exists(node.journal) and not self.lacks.get(node.number)]
 

@@ -73,7 +73,7 @@ class All:
     def start_grid(self):
         kept = self.grid_folder / "plan"
         plan = self.asked.plan or (None if kept.exists() else S3_PLAN)
-        self.tenants = tenants_of(Path(plan or kept).read_text())
+        self.tenants = tenants_of(Path(plan or kept).read_bytes())
         if not self.tenants:
             raise NotStarted(f"{plan or kept}: no tenant has volumes for names, and others after them")
         more = {"plan": plan, **{name: getattr(self.asked, name) for name in PASSED_ON}}

@@ -22,41 +22,10 @@ PLACES, SESSIONS = 64, 16
 MOST_LOST = 14  # nodes that may be lost at a place, one after another
 
 
-def shape_of(plan):
-    """The rows and columns of the plan's grid, as a client's setting has them."""
-    grid = re.match(r"grid ([1-8]) ([1-8])\n", plan)
-    return f"{grid[1]}x{grid[2]}" if grid else "1x1"
-
-
-def nodes_of(plan):
-    """The node that stands at each place of the plan's grid. (What is wrong with a plan a node tells.)"""
-    grid = re.match(r"grid ([1-8]) ([1-8])\n", plan)
-    nodes = list(range(int(grid[1]) * int(grid[2]) if grid else 1))
-    for place in re.findall(r"(?m)^replace (0|[1-9][0-9]?)$", plan.partition("\ngo\n")[2]):
-        if int(place) < len(nodes):
-            nodes[int(place)] += PLACES
-    return nodes
-
-
-def homes(plan):
-    """How many nodes there are, and the home of each session of the plan, which are numbered in its order."""
-    nodes = nodes_of(plan)
-    tenants = [line.split() for line in plan.partition("\ngo\n")[0].split("\n") if line.startswith("tenant ")]
-    sessions = [(words[1], session) for words in tenants for session in range(1, int(words[3]) + 1)]
-    return len(nodes), {session: nodes[number % len(nodes)] for number, session in enumerate(sessions)}
-
-
-def longest_line(plan):
-    """The most bytes of a line, without its LF, that nodes of the plan take. What they write is no longer, but for the answer `plan` of a tenant
-    with very many volumes."""
-    rows = [line.split() for line in plan.partition("\ngo\n")[0].split("\n") if line.startswith("tenant ")]
-    return max([SHORT_LINE, *(128 * int(words[5]) + 255 for words in rows if words[5:] and words[5].isdecimal())])
-
-
-def tick_of(plan, least):
-    """Seconds from one tick to the next, which are so many where lines are short: a tick that comes before a long line was answered has it sent
+def tick_of(longest, least):
+    """Seconds from one tick to the next, which are so many where lines are short: a tick that comes before the longest line was answered has it sent
     again."""
-    return least + (longest_line(plan) - SHORT_LINE) / SLOWEST / 4
+    return least + (longest - SHORT_LINE) / SLOWEST / 4
 
 
 class Request:

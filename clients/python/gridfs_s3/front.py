@@ -6,6 +6,8 @@ from collections.abc import Mapping, Sequence
 from dataclasses import dataclass
 from pathlib import Path
 
+from gridfs_client.plans import plan_of
+
 NGINX = """\
 # Before the gateways of S3: each request goes to the gateway of the tenant that its access key is of. Nobody is let in here: the gateway checks the
 # signature. For TLS add a server with `listen ADDRESS:PORT ssl` and a certificate (docs/S3.md).
@@ -129,15 +131,14 @@ class Instance:
         return f"{self.first}-{self.last}"
 
 
-def tenants_of(plan: str) -> dict[str, int]:
-    """The tenants of a plan whose volumes can have names, each with its sessions: after the first volumes there are some of another shape."""
-    shapes, sessions = dict[str, set[str]](), dict[str, int]()
-    for words in (line.split() for line in plan.splitlines()):
-        if words[:1] == ["tenant"] and len(words) > 3 and words[3].isdecimal():
-            shapes[words[1]], sessions[words[1]] = set(), int(words[3])
-        elif words[1:2] == ["open"] and words[0] in shapes:
-            shapes[words[0]].add(" ".join(words[2:4]))
-    return {name: sessions[name] for name, found in shapes.items() if len(found) > 1}
+def tenants_of(plan: bytes) -> dict[str, int]:
+    """The tenants of a plan whose volumes can have names, each with its sessions: after the first volumes there are some of another shape. None where
+    it is no plan, which a node tells."""
+    try:
+        tenants = plan_of(plan.splitlines()).tenants
+    except (ValueError, IndexError):
+        return {}
+    return {name: told.sessions for name, told in tenants.items() if len(set(told.volumes)) > 1}
 
 
 def instances_of(tenant: str, sessions: int, count: int) -> list[Instance]:

@@ -22,7 +22,7 @@ FRONT = Path("/run/gridfs-s3-front")  # where nginx has its own files, as its un
 
 
 def set_up(folder: Path, plan: Path, listen: str, count: int) -> None:
-    tenants = tenants_of(plan.read_text())
+    tenants = tenants_of(plan.read_bytes())
     if not tenants:
         sys.exit(f"setup: {plan}: no tenant has volumes for names, and others after them")
     folder.mkdir(mode=0o755, parents=True, exist_ok=True)

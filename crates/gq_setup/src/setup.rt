@@ -2,7 +2,7 @@
 
 ghost use Rattle.std.specs.Prelude.{◌≡◌, ◌++◌, ◌∷◌, ◌+◌, ◌<◌, ◌≤◌, ◌^◌, true, length, map, is_none, Ok, Some, [], IfOk, IfErr, IfSome, OnOk, OnErr};
 ghost use Rattle.std.specs.List.{All, flat_map};
-ghost use Rattle.gq_desk.specs.Volumes.{account_at};
+ghost use Rattle.gq_desk.specs.Volumes.{account_at, free_of};
 ghost use Rattle.gq_desk.specs.declared.limits.TheConstants.{MOST_VOLUMES};
 ghost use Rattle.gq_model.specs.Events.{IsIn};
 ghost use Rattle.gq_text.specs.Words.{number_of};
@@ -23,7 +23,7 @@ use crate::going_on::{
     NotKept, accounts_not_kept, losses_not_kept, rows_not_kept, servers_not_kept,
 };
 use crate::openings::{MOST_LOSSES, Opening, SetupFault, loss_word, many_told, read_opening};
-use gq_desk::{Desk, OpenRefused, Plan};
+use gq_desk::{Desk, OpenRefused, Plan, VolumeRow};
 use gq_grid::MOST_SERVERS;
 use gq_memory::{GrowCopies, GrowVec, OutOfMemory, RoomInVec};
 use gq_model::{Event, Line};
@@ -221,13 +221,30 @@ impl Setup {
         place < self.plan.grid().servers() && u32::from(self.lost.node_at(place)) == number
     }
 
+    /// The tenant's volumes, in order.
+    pub fn volume_rows(&self, tenant: u8) -> &[VolumeRow]
+        requires { tenant < length self.now.plan.rows }
+        ensures volumes { result.now ≡ (account_at (holdings self.now) tenant).volumes }
+        ensures few { length result.now ≤ MOST_VOLUMES }
+    {
+        self.desk.volumes(tenant)
+    }
+
+    /// The blocks of the tenant's share that none of its volumes takes.
+    pub fn free(&self, tenant: u8) -> u32
+        requires { tenant < length self.now.plan.rows }
+        ensures { result ≡ free_of (account_at (holdings self.now) tenant) }
+    {
+        self.desk.free(tenant)
+    }
+
     /// How many volumes the tenant has once all are opened.
     pub fn volumes(&self, tenant: u8) -> usize
         requires { tenant < length self.now.plan.rows }
         ensures count { result ≡ length (account_at (holdings self.now) tenant).volumes }
         ensures few { result ≤ MOST_VOLUMES }
     {
-        self.desk.volumes(tenant).len()
+        self.volume_rows(tenant).len()
     }
 
     // Appends the lines of the canonical text.

@@ -185,7 +185,8 @@ other_is_met name (inr (inr (inl is))) = rw is refl
 other_is_met name (inr (inr (inr (inl is)))) = rw is refl
 other_is_met name (inr (inr (inr (inr (inl is))))) = rw is refl
 other_is_met name (inr (inr (inr (inr (inr (inl is)))))) = rw is refl
-other_is_met name (inr (inr (inr (inr (inr (inr is)))))) = rw is refl
+other_is_met name (inr (inr (inr (inr (inr (inr (inl is))))))) = rw is refl
+other_is_met name (inr (inr (inr (inr (inr (inr (inr is))))))) = rw is refl
 
 -- words behind it are its own
 pub rest_is_kept : (words : List Text) (name : Text) (own : List Text) (w : Walk) → (fold (walked top.rules names) (record w { stopped = Some (name, own) }) words).stopped ≡ Some (name, own ++ words)
@@ -201,9 +202,9 @@ at_level s subs h words is_entered under none = let parts = both _ _ none in (pa
 stopped_at : (stop : Option (Text × List Text)) (words : List Text) → stop ≡ Some (codes "live", words) → entered_fault (built gridfs) stop ≡ level_fault live_built [] nothing_held words false []
 stopped_at stop words is = rw is refl
 
-dashes_alone : (word : Text) → bytes_eq (codes "run") word ≡ false → bytes_eq (codes "order") word ≡ false → bytes_eq (codes "finish") word ≡ false → bytes_eq (codes "live") word ≡ false → bytes_eq (codes "step") word ≡ false → bytes_eq (codes "history") word ≡ false → bytes_eq (codes "picture") word ≡ false → bytes_eq (codes "node") word ≡ false → bytes_eq (codes "help") word ≡ false → bytes_eq word (codes "--") ≡ true → built_fault (built gridfs) nothing_held (word ∷ []) ≡ MissingSubcommand ∷ []
+dashes_alone : (word : Text) → bytes_eq (codes "run") word ≡ false → bytes_eq (codes "order") word ≡ false → bytes_eq (codes "finish") word ≡ false → bytes_eq (codes "live") word ≡ false → bytes_eq (codes "step") word ≡ false → bytes_eq (codes "history") word ≡ false → bytes_eq (codes "picture") word ≡ false → bytes_eq (codes "node") word ≡ false → bytes_eq (codes "plan") word ≡ false → bytes_eq (codes "help") word ≡ false → bytes_eq word (codes "--") ≡ true → built_fault (built gridfs) nothing_held (word ∷ []) ≡ MissingSubcommand ∷ []
 unfolding clap_on_literals
-dashes_alone word run order finish live step history picture node help dashes = rw (run, order, finish, live, step, history, picture, node, help, dashes) refl
+dashes_alone word run order finish live step history picture node plan help dashes = rw (run, order, finish, live, step, history, picture, node, plan, help, dashes) refl
 
 -- the words are that word, behind which `--` may stand
 abbrev pub Alone : Text → List Text → Type 0
@@ -233,36 +234,38 @@ alone_by word words none same met =
       | inr dashed ↦ inr (ap₂ (λ w ws. w ∷ ws) named dashed)
     ]
 
-asks_by : (word : Text) (words : List Text) → built_fault (built gridfs) nothing_held (word ∷ words) ≡ [] → (is_run is_order is_finish is_live is_step is_history is_picture is_node is_help is_dashes : Bool)
+asks_by : (word : Text) (words : List Text) → built_fault (built gridfs) nothing_held (word ∷ words) ≡ [] → (is_run is_order is_finish is_live is_step is_history is_picture is_node is_plan is_help is_dashes : Bool)
     → bytes_eq (codes "run") word ≡ is_run → bytes_eq (codes "order") word ≡ is_order → bytes_eq (codes "finish") word ≡ is_finish
     → bytes_eq (codes "live") word ≡ is_live → bytes_eq (codes "step") word ≡ is_step → bytes_eq (codes "history") word ≡ is_history
-    → bytes_eq (codes "picture") word ≡ is_picture → bytes_eq (codes "node") word ≡ is_node → bytes_eq (codes "help") word ≡ is_help → bytes_eq word (codes "--") ≡ is_dashes → Asks (word ∷ words)
-asks_by word words none true is_order is_finish is_live is_step is_history is_picture is_node is_help is_dashes run order finish live step history picture node help dashes =
+    → bytes_eq (codes "picture") word ≡ is_picture → bytes_eq (codes "node") word ≡ is_node → bytes_eq (codes "plan") word ≡ is_plan → bytes_eq (codes "help") word ≡ is_help → bytes_eq word (codes "--") ≡ is_dashes → Asks (word ∷ words)
+asks_by word words none true is_order is_finish is_live is_step is_history is_picture is_node is_plan is_help is_dashes run order finish live step history picture node plan help dashes =
     begins (codes "run") word words (inl refl) run
-asks_by word words none false true is_finish is_live is_step is_history is_picture is_node is_help is_dashes run order finish live step history picture node help dashes =
+asks_by word words none false true is_finish is_live is_step is_history is_picture is_node is_plan is_help is_dashes run order finish live step history picture node plan help dashes =
     begins (codes "order") word words (inr (inl refl)) order
-asks_by word words none false false true is_live is_step is_history is_picture is_node is_help is_dashes run order finish live step history picture node help dashes =
+asks_by word words none false false true is_live is_step is_history is_picture is_node is_plan is_help is_dashes run order finish live step history picture node plan help dashes =
     begins (codes "finish") word words (inr (inr (inl refl))) finish
-asks_by word words none false false false true is_step is_history is_picture is_node is_help is_dashes run order finish live step history picture node help dashes =
+asks_by word words none false false false true is_step is_history is_picture is_node is_plan is_help is_dashes run order finish live step history picture node plan help dashes =
     inl (alone_by word words none live (live_is_met word run order finish live))
-asks_by word words none false false false false true is_history is_picture is_node is_help is_dashes run order finish live step history picture node help dashes =
+asks_by word words none false false false false true is_history is_picture is_node is_plan is_help is_dashes run order finish live step history picture node plan help dashes =
     begins (codes "step") word words (inr (inr (inr (inl refl)))) step
-asks_by word words none false false false false false true is_picture is_node is_help is_dashes run order finish live step history picture node help dashes =
+asks_by word words none false false false false false true is_picture is_node is_plan is_help is_dashes run order finish live step history picture node plan help dashes =
     begins (codes "history") word words (inr (inr (inr (inr (inl refl))))) history
-asks_by word words none false false false false false false true is_node is_help is_dashes run order finish live step history picture node help dashes =
+asks_by word words none false false false false false false true is_node is_plan is_help is_dashes run order finish live step history picture node plan help dashes =
     begins (codes "picture") word words (inr (inr (inr (inr (inr (inl refl)))))) picture
-asks_by word words none false false false false false false false true is_help is_dashes run order finish live step history picture node help dashes =
-    begins (codes "node") word words (inr (inr (inr (inr (inr (inr refl)))))) node
-asks_by word words none false false false false false false false false true is_dashes run order finish live step history picture node help dashes =
-    let told : turn_fault top names start word ≡ DisplayHelp ∷ InvalidSubcommand ∷ [] = rw (run, order, finish, live, step, history, picture, node, help) refl in
+asks_by word words none false false false false false false false true is_plan is_help is_dashes run order finish live step history picture node plan help dashes =
+    begins (codes "node") word words (inr (inr (inr (inr (inr (inr (inl refl))))))) node
+asks_by word words none false false false false false false false false true is_help is_dashes run order finish live step history picture node plan help dashes =
+    begins (codes "plan") word words (inr (inr (inr (inr (inr (inr (inr refl))))))) plan
+asks_by word words none false false false false false false false false false true is_dashes run order finish live step history picture node plan help dashes =
+    let told : turn_fault top names start word ≡ DisplayHelp ∷ InvalidSubcommand ∷ [] = rw (run, order, finish, live, step, history, picture, node, plan, help) refl in
     let nothing = sym told ∙ (turns top names start word words (at_level _ _ _ _ _ _ none).0).0 in
     absurd (cc)
-asks_by word words none false false false false false false false false false false run order finish live step history picture node help dashes =
-    absurd (other_is_wrong false names word (rw (run, order, finish, live, step, history, picture, node, help) refl) dashes (turns top names start word words (at_level _ _ _ _ _ _ none).0).0)
-asks_by word [] none false false false false false false false false false true run order finish live step history picture node help dashes = let nothing = sym (dashes_alone word run order finish live step history picture node help dashes) ∙ none in absurd (cc)
-asks_by word (x ∷ words) none false false false false false false false false false true run order finish live step history picture node help dashes =
+asks_by word words none false false false false false false false false false false false run order finish live step history picture node plan help dashes =
+    absurd (other_is_wrong false names word (rw (run, order, finish, live, step, history, picture, node, plan, help) refl) dashes (turns top names start word words (at_level _ _ _ _ _ _ none).0).0)
+asks_by word [] none false false false false false false false false false false true run order finish live step history picture node plan help dashes = let nothing = sym (dashes_alone word run order finish live step history picture node plan help dashes) ∙ none in absurd (cc)
+asks_by word (x ∷ words) none false false false false false false false false false false true run order finish live step history picture node plan help dashes =
     let trail = turns top names start word (x ∷ words) (at_level _ _ _ _ _ _ none).0 in
-    let nothing : x ∷ words ≡ [] = nothing_trails false names (x ∷ words) (ap (λ (w : Walk). walk_fault top names w (x ∷ words)) (sym (dashes_trail false names word (rw (run, order, finish, live, step, history, picture, node, help) refl) dashes)) ∙ trail.1) in
+    let nothing : x ∷ words ≡ [] = nothing_trails false names (x ∷ words) (ap (λ (w : Walk). walk_fault top names w (x ∷ words)) (sym (dashes_trail false names word (rw (run, order, finish, live, step, history, picture, node, plan, help) refl) dashes)) ∙ trail.1) in
     absurd (cc)
 
 -- with no words there is no subcommand
@@ -275,4 +278,4 @@ asks words none = by (drop 1 words) none
   where
     by : (args : List Text) → built_fault (built gridfs) nothing_held args ≡ [] → Asks args
     by [] wrong = let nothing = sym nothing_is_wrong ∙ wrong in absurd (cc)
-    by (word ∷ args) right = asks_by word args right (bytes_eq (codes "run") word) (bytes_eq (codes "order") word) (bytes_eq (codes "finish") word) (bytes_eq (codes "live") word) (bytes_eq (codes "step") word) (bytes_eq (codes "history") word) (bytes_eq (codes "picture") word) (bytes_eq (codes "node") word) (bytes_eq (codes "help") word) (bytes_eq word (codes "--")) refl refl refl refl refl refl refl refl refl refl
+    by (word ∷ args) right = asks_by word args right (bytes_eq (codes "run") word) (bytes_eq (codes "order") word) (bytes_eq (codes "finish") word) (bytes_eq (codes "live") word) (bytes_eq (codes "step") word) (bytes_eq (codes "history") word) (bytes_eq (codes "picture") word) (bytes_eq (codes "node") word) (bytes_eq (codes "plan") word) (bytes_eq (codes "help") word) (bytes_eq word (codes "--")) refl refl refl refl refl refl refl refl refl refl refl

@@ -9,7 +9,7 @@ use Rattle.clap.specs.declared.parser.matches.ArgMatches.{ArgMatches}
 use Rattle.clap.specs.Walk.{Row, Text, Walk, nothing_held, walk, walked}
 use Rattle.clap.proofs.OnLiterals.{clap_on_literals}
 use Rattle.gq_words.specs.declared.words.CommandLine.{CommandLine}
-use Rattle.gq_words.specs.declared.words.CommandLine.TheVariants.{Streams, Node}
+use Rattle.gq_words.specs.declared.words.CommandLine.TheVariants.{Streams, Node, Plan}
 use Rattle.gq_words.specs.declared.words.Request.TheVariants.{Run, Step, Order, History, Picture, Finish, Live}
 use Rattle.gq_words.specs.Words.{AsksForLive, IsAlone, IsAskedBy, IsFirst, IsOther, NamesCommand, command_name, gridfs}
 use Rattle.gq_words.proofs.Asking.{Alone, Asks, Behind, names, other_is_met, rest_is_kept, start, top}
@@ -51,7 +51,8 @@ other_enters name (inr (inr (inl is))) own = rw is refl
 other_enters name (inr (inr (inr (inl is)))) own = rw is refl
 other_enters name (inr (inr (inr (inr (inl is))))) own = rw is refl
 other_enters name (inr (inr (inr (inr (inr (inl is)))))) own = rw is refl
-other_enters name (inr (inr (inr (inr (inr (inr is)))))) own = rw is refl
+other_enters name (inr (inr (inr (inr (inr (inr (inl is))))))) own = rw is refl
+other_enters name (inr (inr (inr (inr (inr (inr (inr is))))))) own = rw is refl
 
 other_is_named : (words : List Text) (name : Text) → IsOther name → IsFirst name words → named words ≡ Some name
 other_is_named words name other (own, is) = ap named_by is ∙ (ap (λ stop. option_map first_part (entered (built gridfs) stop)) stops ∙ other_enters name other own)
@@ -82,7 +83,8 @@ not_live name other is = let same : bytes_eq name (codes "live") ≡ true = ap (
     differs (inr (inr (inr (inl x)))) = rw x refl
     differs (inr (inr (inr (inr (inl x))))) = rw x refl
     differs (inr (inr (inr (inr (inr (inl x)))))) = rw x refl
-    differs (inr (inr (inr (inr (inr (inr x)))))) = rw x refl
+    differs (inr (inr (inr (inr (inr (inr (inl x))))))) = rw x refl
+    differs (inr (inr (inr (inr (inr (inr (inr x))))))) = rw x refl
 
 -- a word alone is at the front
 behind_alone : (word : Text) (words : List Text) → Alone word words → Behind word words
@@ -114,3 +116,4 @@ asked_by words (Streams (Picture tenant volume file)) asks is = begins_so words 
 asked_by words (Streams (Finish tenant session)) asks is = begins_so words _ asks is
 asked_by words (Streams Live) asks is = is_alone words asks is
 asked_by words (Node node) asks is = begins_so words _ asks is
+asked_by words (Plan plan) asks is = begins_so words _ asks is

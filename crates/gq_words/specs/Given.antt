@@ -1,11 +1,13 @@
 -- The values that the words of a command line give, by the rules that clap states for its commands.
 use Rattle.std.specs.Prelude.{◌≡◌, ◌<◌, ◌^◌, ℕ, Bool, true, false, List, [], Option, Some, None, unwrap_or, option_map, codes}
 use Rattle.std.specs.Str.Parse.{IsNumeral, digits_value, without_leading_plus}
+use Rattle.std.specs.Borrow.{Bor}
 use Rattle.clap.specs.Simple.{subcommand_of}
 use Rattle.clap.specs.Walk.{Row, Text, first_of, one_of}
 use Rattle.gq_words.specs.declared.words.CommandLine.{CommandLine}
-use Rattle.gq_words.specs.declared.words.CommandLine.TheVariants.{Streams, Node}
+use Rattle.gq_words.specs.declared.words.CommandLine.TheVariants.{Streams, Node, Plan}
 use Rattle.gq_words.specs.declared.words.NodeRequest.{NodeRequest}
+use Rattle.gq_words.specs.declared.words.PlanRequest.{PlanRequest}
 use Rattle.gq_words.specs.declared.words.Request.{Request}
 use Rattle.gq_words.specs.declared.words.Request.TheVariants.{Run, Step, Order, History, Picture, Finish, Live}
 use Rattle.gq_words.specs.Words.{gridfs}
@@ -69,7 +71,16 @@ HasNodeValues rows node =
     × (node.journal.now ≡ text_given rows (codes "JOURNAL"))
     × IsFlagGiven rows (codes "NEW") node.is_new
 
+-- the path, if there is one
+abbrev pub path_in : Option (Bor Text) → Option Text
+path_in path = option_map (λ p. p.now) path
+
+-- the path is the one that is given, and the other one too, if one is
+abbrev pub HasPlanValues : List Row → PlanRequest → Type 0
+HasPlanValues rows plan = (plan.plan.now ≡ text_given rows (codes "FILE")) × (path_in plan.old ≡ first_of (codes "NEXT") rows)
+
 -- what is asked for has the values that are given
 abbrev pub HasValues : List Row → CommandLine → Type 0
 HasValues rows (Streams request) = HasRequestValues rows request
 HasValues rows (Node node) = HasNodeValues rows node
+HasValues rows (Plan plan) = HasPlanValues rows plan

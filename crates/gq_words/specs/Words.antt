@@ -9,7 +9,7 @@ use Rattle.clap.specs.declared.builder.action.ArgAction.TheVariants.{Set, SetTru
 use Rattle.clap.specs.declared.builder.value_parser.ValueParser.TheVariants.{Signed}
 use Rattle.clap.specs.declared.error.kind.ErrorKind.{ErrorKind}
 use Rattle.gq_words.specs.declared.words.CommandLine.{CommandLine}
-use Rattle.gq_words.specs.declared.words.CommandLine.TheVariants.{Streams, Node}
+use Rattle.gq_words.specs.declared.words.CommandLine.TheVariants.{Streams, Node, Plan}
 use Rattle.gq_words.specs.declared.words.Request.{Request}
 use Rattle.gq_words.specs.declared.words.Request.TheVariants.{Run, Step, Order, History, Picture, Finish, Live}
 use Rattle.gq_words.specs.declared.words.Usage.{Usage}
@@ -65,6 +65,16 @@ node_shape = record (new_shape (codes "node")) {
   rules = number_rule (codes "NUMBER") ∷ file_rule (codes "PLAN") (codes "plan") ∷ file_rule (codes "JOURNAL") (codes "journal") ∷ begin_rule ∷ [];
 }
 
+-- the subcommand `plan`, which takes a file, which has to be given, and may be given another one
+abbrev pub path_rule : Rule
+path_rule = record (new_rule (codes "FILE")) { required = true; action = Some Set }
+
+abbrev pub next_rule : Rule
+next_rule = record (new_rule (codes "NEXT")) { long = Some (codes "next"); action = Some Set; value_names = 1 }
+
+abbrev pub plan_shape : Shape
+plan_shape = record (new_shape (codes "plan")) { rules = path_rule ∷ next_rule ∷ [] }
+
 -- the command line without its subcommands: `gridfs`, which has a version and wants one of them
 abbrev pub bare_gridfs : App
 bare_gridfs = on_top (λ top. record top { has_version = true; subcommand_required = true }) (new_app (codes "gridfs"))
@@ -75,7 +85,7 @@ gridfs =
     let to_order = with_subcommand (with_subcommand bare_gridfs run_shape) order_shape in
     let to_live = with_subcommand (with_subcommand to_order finish_shape) live_shape in
     let to_picture = with_subcommand (with_subcommand (with_subcommand to_live step_shape) history_shape) picture_shape in
-    with_subcommand to_picture node_shape
+    with_subcommand (with_subcommand to_picture node_shape) plan_shape
 
 -- what is wrong with the words, the program's name first; a call for help or for the version counts
 abbrev pub faults_in : List Text → Kinds
@@ -106,6 +116,7 @@ name_of Live = codes "live"
 abbrev pub command_name : CommandLine → Text
 command_name (Streams request) = name_of request
 command_name (Node node) = codes "node"
+command_name (Plan plan) = codes "plan"
 
 -- the words ask for it: the first is its name
 abbrev pub IsAskedBy : List Text → CommandLine → Type 0
@@ -116,7 +127,7 @@ IsAskedBy words asked = IsFirst (command_name asked) words
 abbrev pub IsOther : Text → Type 0
 IsOther name =
     (name ≡ codes "run") ⊎ ((name ≡ codes "order") ⊎ ((name ≡ codes "finish") ⊎ ((name ≡ codes "step")
-    ⊎ ((name ≡ codes "history") ⊎ ((name ≡ codes "picture") ⊎ (name ≡ codes "node"))))))
+    ⊎ ((name ≡ codes "history") ⊎ ((name ≡ codes "picture") ⊎ ((name ≡ codes "node") ⊎ (name ≡ codes "plan")))))))
 
 abbrev pub IsCommand : Text → Type 0
 IsCommand name = (name ≡ codes "live") ⊎ IsOther name

@@ -3,4 +3,4 @@
 
 mod words;
 
-pub use words::{CommandLine, NodeRequest, Request, Usage, read_words};
+pub use words::{CommandLine, NodeRequest, PlanRequest, Request, Usage, read_words};

@@ -3,12 +3,12 @@
 ghost use Rattle.std.specs.Prelude.{◌≡◌, ◌∷◌, [], Some, false, codes, IfOk, IfErr, IsErrAnd};
 ghost use Rattle.clap.specs.Matches.{found_of, subcommand_name_of};
 ghost use Rattle.clap.specs.Simple.{App, Shape, app_of, new_app, subcommand_rows_of, with_subcommand};
-ghost use Rattle.clap.specs.Walk.{rows_of, rule_of};
+ghost use Rattle.clap.specs.Walk.{first_of, rows_of, rule_of};
 ghost use Rattle.clap.specs.declared.builder.command.Command.TheViews.{out-Command as fields_of};
 ghost use Rattle.clap.specs.Walk.{Text, texts};
 ghost use Rattle.clap.specs.declared.error.kind.ErrorKind.TheVariants.{DisplayHelp, DisplayVersion};
-ghost use Rattle.gq_words.specs.Words.{AsksForLive, IsAlone, IsAskedBy, IsMemory, NamesCommand, ShownFor, Shows, bare_gridfs, begin_rule, command_name, finish_shape, file_rule, file_shape, gridfs, name_rule, node_shape, number_rule, jobs_rule, run_shape, step_shape};
-ghost use Rattle.gq_words.specs.Given.{HasValues, IsFlagGiven, IsNumberGiven, given_by, rows_behind, text_given};
+ghost use Rattle.gq_words.specs.Words.{AsksForLive, IsAlone, IsAskedBy, IsMemory, NamesCommand, ShownFor, Shows, bare_gridfs, begin_rule, command_name, finish_shape, file_rule, file_shape, gridfs, name_rule, node_shape, number_rule, jobs_rule, run_shape, step_shape, next_rule, path_rule, plan_shape};
+ghost use Rattle.gq_words.specs.Given.{HasValues, IsFlagGiven, IsNumberGiven, given_by, path_in, rows_behind, text_given};
 
 use clap::error::ErrorKind;
 use clap::{Arg, ArgAction, ArgMatches, Command, Error};
@@ -21,6 +21,8 @@ pub enum CommandLine<'a> {
     Streams(Request<'a>),
     /// To be one server of a grid.
     Node(NodeRequest<'a>),
+    /// To tell what a plan says.
+    Plan(PlanRequest<'a>),
 }
 
 /// Which node of a grid a process is asked to be.
@@ -34,6 +36,15 @@ pub struct NodeRequest<'a> {
     pub journal: &'a str,
     /// Whether the journal is to be begun: there is none yet.
     pub is_new: bool,
+}
+
+/// Which plan a process is asked to tell of.
+#[derive(Clone, Copy, PartialEq, Eq)]
+pub struct PlanRequest<'a> {
+    /// The path of the plan's file.
+    pub plan: &'a str,
+    /// The path of an older plan's file, where the question is whether the plan may follow that one.
+    pub old: Option<&'a str>,
 }
 
 /// What is asked for between standard input and standard output.
@@ -236,6 +247,34 @@ journal is lost can't come back: a new one, whose number is greater by 64, takes
 On standard error the node says when it is ready. It ends with status 0 at the end of its input, 1 where the plan, the number, a
 file or a stream is at fault, 3 where memory is wanting, 4 where the journal is damaged.";
 
+const PLAN: &str = "\
+FILE is a plan as a node takes it: that of `gridfs run`, and behind `go` only lines `NAME open FILES BLOCKS`, also with `times N`, and
+`replace PLACE`. What it says is written in lines of words NAME=VALUE. The first word of a line tells what the line is of:
+
+    rows=       the grid: rows, columns, nodes, room (the blocks of each server), tenants, losses; line, the most bytes of a line
+                that nodes take; answer, those of the answer `plan`; memory, the bytes that a node takes as it starts; peak, the most
+                that it takes at any time
+    place=      a place of the grid, and the node that stands there
+    replace=    the place of a node that was lost; the lines are in order
+    tenant=     a tenant: its share in blocks, how many of them no volume takes (free), its sessions, steps, the most blocks of a file
+                (most), how many volumes it may open (volumes), and how many volumes are open, with how many files
+    session=    a session, its tenant, and the place of its home
+    open=       volumes of this tenant that are alike and follow one another: files, blocks of a file, and how many they are (times)
+
+Later programs may write more lines, and more words in a line: pass over those that you don't know. On the plan of `gridfs run --help`
+this is written:
+
+    rows=1 columns=1 nodes=1 room=1 tenants=1 losses=0 line=4095 answer=400 memory=80 peak=134218112
+    place=0 node=0
+    tenant=ann share=1 free=1 sessions=1 steps=100 most=16 volumes=64 open=0 files=0
+    session=1 tenant=ann home=0
+
+With `--next OLD` nothing is written of the plan but `follows=yes`, where a node that has the plan OLD may start with FILE. Where it
+may not, the line and the reason are told on standard error, as a node tells them. The status is 1 then, and where a plan is at
+fault or a file can't be read; 3 where memory is wanting.
+
+    gridfs plan --next OLD NEW";
+
 // A whole number that has to be given.
 fn number<'a>(alloc: Global, id: &'a str, help: &'a str) -> Arg<'a>
     ensures rule { rule_of result ≡ number_rule id.entry.now }
@@ -283,6 +322,29 @@ fn file_option<'a>(alloc: Global, id: &'a str, long: &'a str, help: &'a str) -> 
         .action(ArgAction::Set)
         .value_name("FILE")
         .help(help)
+}
+
+// A file that has to be given.
+fn path<'a>(alloc: Global) -> Arg<'a>
+    ensures rule { rule_of result ≡ path_rule }
+    ensures local { result.global ≡ false }
+{
+    Arg::new(alloc, "FILE")
+        .required(true)
+        .action(ArgAction::Set)
+        .help("The plan's file")
+}
+
+// The file of an older plan, which may be left out.
+fn next<'a>(alloc: Global) -> Arg<'a>
+    ensures rule { rule_of result ≡ next_rule }
+    ensures local { result.global ≡ false }
+{
+    Arg::new(alloc, "NEXT")
+        .long("next")
+        .action(ArgAction::Set)
+        .value_name("OLD")
+        .help("Say whether the plan may follow this one")
 }
 
 // Whether the journal is to be begun.
@@ -379,6 +441,22 @@ fn node<'a>(alloc: Global) -> Result<Command<'a>, AllocError>
     Ok(node)
 }
 
+// The subcommand `plan`.
+fn plan<'a>(alloc: Global) -> Result<Command<'a>, AllocError>
+    ensures shape { IfOk result (λ c. (app_of c).top ≡ plan_shape) }
+    ensures local { IfOk result (λ c. (fields_of c).has_globals ≡ false) }
+{
+    let plan = subcommand(
+        alloc,
+        "plan",
+        "Tell what a plan says, or whether it may follow another",
+        PLAN,
+    )
+    .arg(path(alloc))?
+    .arg(next(alloc))?;
+    Ok(plan)
+}
+
 // The command line without its subcommands.
 fn bare<'a>(alloc: Global) -> Command<'a>
     ensures app { app_of result ≡ bare_gridfs }
@@ -457,7 +535,8 @@ fn command<'a>(alloc: Global) -> Result<Command<'a>, AllocError>
             PICTURE,
         ),
     );
-    with(to_picture, node(alloc))
+    let to_node = with(to_picture, node(alloc));
+    with(to_node, plan(alloc))
 }
 
 // The text given for this id, the empty one where none is.
@@ -465,6 +544,13 @@ fn text_of<'a>(matches: &ArgMatches<'a>, id: &str) -> &'a str
     ensures { result.now ≡ text_given (rows_of (found_of matches.now)) id.now }
 {
     matches.get_str(id).unwrap_or("")
+}
+
+// The path given for this id, if one is.
+fn path_of<'a>(matches: &ArgMatches<'a>, id: &str) -> Option<&'a str>
+    ensures { path_in result ≡ first_of id.now (rows_of (found_of matches.now)) }
+{
+    matches.get_str(id)
 }
 
 // The number given for this id, the other one where none is.
@@ -527,6 +613,12 @@ fn command_of<'a>(matches: &ArgMatches<'a>) -> CommandLine<'a>
             plan: text_of(node, "PLAN"),
             journal: text_of(node, "JOURNAL"),
             is_new: flag_of(node, "NEW"),
+        });
+    }
+    if let Some(plan) = matches.subcommand_matches("plan") {
+        return CommandLine::Plan(PlanRequest {
+            plan: text_of(plan, "FILE"),
+            old: path_of(plan, "NEXT"),
         });
     }
     let jobs = match matches.subcommand_matches("run") {

@@ -7,9 +7,10 @@ use built::BUILD_NOTE;
 use clap::error::ErrorKind;
 use gq_cli::carry_out;
 use gq_keeper::Stream;
+use gq_plan::{ToldFault, answer_plan};
 use gq_script::{Notice, Watched};
 use gq_service::{Durable, Standard, Told, run_node};
-use gq_words::{CommandLine, NodeRequest, Request, Usage, read_words};
+use gq_words::{CommandLine, NodeRequest, PlanRequest, Request, Usage, read_words};
 use std::alloc::Global;
 use std::fmt::Display;
 use std::io::IsTerminal;
@@ -94,6 +95,25 @@ fn serves(rt: &HostRuntime, alloc: Global, asked: &NodeRequest<'_>) -> ExitCode 
     }
 }
 
+// Tells what the plan says that is asked for, or whether it may follow another.
+fn tells(rt: &HostRuntime, alloc: Global, asked: &PlanRequest<'_>) -> ExitCode {
+    let mut writer = Watched::new(io::writer(rt));
+    match answer_plan(rt, alloc, asked, &mut writer) {
+        Ok(()) => ExitCode::SUCCESS,
+        Err(fault) => {
+            let status = fault.status();
+            told(
+                rt,
+                &ToldFault {
+                    fault: &fault,
+                    asked,
+                },
+                status,
+            )
+        }
+    }
+}
+
 fn main(rt: HostRuntime) -> ExitCode {
     let alloc = rt.alloc();
     let given = match env::args(&rt) {
@@ -115,6 +135,7 @@ fn main(rt: HostRuntime) -> ExitCode {
             answered(&rt, alloc, rt.stdin().is_terminal(), request)
         }
         Ok(CommandLine::Node(asked)) => serves(&rt, alloc, &asked),
+        Ok(CommandLine::Plan(asked)) => tells(&rt, alloc, &asked),
         Err(Usage::Shown(error)) => {
             let _ = error.print(&rt);
             if error.kind() == ErrorKind::DisplayVersion {

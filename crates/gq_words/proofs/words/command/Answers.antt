@@ -11,4 +11,5 @@ returns c =
     let to_step = c.with-to_step.ensures.app _ _ to_live (ap top_of c.subcommand-2.ensures.app) in
     let to_history = c.with-to_history.ensures.app _ _ to_step c.of_file-2.ensures.shape in
     let to_picture = c.with-to_picture.ensures.app _ _ to_history c.of_file-3.ensures.shape in
-    record { app = c.with.ensures.app _ _ to_picture c.node.ensures.shape }
+    let to_node = c.with-to_node.ensures.app _ _ to_picture c.node.ensures.shape in
+    record { app = c.with.ensures.app _ _ to_node c.plan.ensures.shape }

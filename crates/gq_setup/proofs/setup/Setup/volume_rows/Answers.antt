@@ -1,7 +1,7 @@
 use Rattle.std.proofs.Common.{◌<◌, length, sym, ap, ◌∙◌, subst}
 use Rattle.gq_setup.specs.Setups.{Setup}
 use Rattle.gq_setup.proofs.LineByLine.{holdings-length}
-use Rattle.gq_setup.proofs.setup.Setup.volumes.Goals as goal
+use Rattle.gq_setup.proofs.setup.Setup.volume_rows.Goals as goal
 
 pub volumes-requires : goal.volumes-requires
 volumes-requires c =

@@ -1,0 +1,27 @@
+"""What the program tells of a grid's plan."""
+
+import functools
+
+from gridfs_client.errors import BadFile
+from gridfs_client.plans import ask, nodes_in, of_kind
+from gridfs_grid.one_machine import NotStarted
+
+
+class Planned:
+    """The sides of the grid, as a client's setting has them; the node that stands at each place; the home of each session; and the most bytes of a line
+    that nodes take."""
+
+    def __init__(self, lines):
+        (grid,) = of_kind(lines, "rows")
+        self.shape, self.longest = f"{grid['rows']}x{grid['columns']}", int(grid["line"])
+        self.nodes = nodes_in(lines)
+        self.homes = {(words["tenant"], int(words["session"])): self.nodes[int(words["home"])] for words in of_kind(lines, "session")}
+
+
+@functools.cache
+def planned(program, text, path="the plan"):
+    """What the program tells of the text of a plan. NotStarted with the fault that it tells where it is none."""
+    try:
+        return Planned(ask(path, by=program, text=text))
+    except BadFile as fault:
+        raise NotStarted(str(fault)) from None

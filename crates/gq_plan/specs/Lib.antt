@@ -1,0 +1,4 @@
+pub mod PlanWords
+pub mod Following
+pub mod Laws
+pub mod Answers
