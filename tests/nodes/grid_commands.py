@@ -19,6 +19,7 @@ from gridfs_grid.one_machine import InUse, lock
 CLIENT = os.path.join(HERE, "..", "..", "clients", "python", "gridfs-client")
 NAMES = ["ann", "bob"]
 SECONDS = 25  # that something may take until it is told to be wrong
+LINE_FORM = 2  # of lines between nodes: that of this program
 DAY = 86_400
 UP = "nodes are up"
 FILES = {"plan", "begun"}  # what others may read, as far as the folder lets them
@@ -164,7 +165,7 @@ class Machine:
         self.held("the first one goes on", self.client("read", "0", "1"), (0, "hi"))
         told = lambda: [metrics.read(f"metrics/gridfs-{number}.prom", number) for number in range(4)]
         forms = lambda: [sorted((labels, value) for (name, labels), value in it.items() if name.endswith("_line_form")) for it in told()]
-        wanted = [[("", 1), *((f'peer="{peer}"', 1) for peer in range(4) if peer != number)] for number in range(4)]
+        wanted = [[("", LINE_FORM), *((f'peer="{peer}"', LINE_FORM) for peer in range(4) if peer != number)] for number in range(4)]
         wait_for(lambda: forms() == wanted, GREET + SECONDS)  # (a greeting that no link took is told again)
         self.held("forms of lines", forms(), wanted)
         self.held("SIGINT to a background job", (grid.end(signal.SIGINT), self.is_free()), ((0, False), True))
