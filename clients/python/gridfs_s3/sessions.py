@@ -213,11 +213,11 @@ class Pool:
         """Whether all sessions are still this gateway's, as each of them was found to be in the last two seconds. (It may have been stopped, and replaced by
         another one, which nobody tells it.)"""
         async with self.asking_all:
-            begun = time.monotonic()
-            if begun <= self.sure_until:
+            now = time.monotonic()
+            if now <= self.sure_until:
                 return True
             found = all(await asyncio.gather(*(self.has_session(number) for number in list(self.workers))))
-            self.sure_until = begun + SURE_FOR if found else 0.0
+            self.sure_until = now + SURE_FOR if found else 0.0
             return found
 
     async def has_session(self, number: int) -> bool:
