@@ -146,7 +146,10 @@ class Pages(unittest.TestCase):
             for _ in range(50):
                 grid.change()
             index.say("grid", "word")
+            self.assertEqual({os.stat(each).st_mode & 0o777 for each in os.scandir(folder)}, {0o600})
             index.close()
+            with self.assertRaisesRegex(sqlite3.OperationalError, "No such file"):
+                Index(os.path.join(folder, "nowhere", "index"))
             later = Index(path)
             self.assertEqual((told(later), later.tags, later.about("grid")), (right([grid]), index.tags, "word"))
             grid.index = later

@@ -4,6 +4,7 @@ import base64
 import http.client
 import json
 import os
+import socket
 import sys
 import time
 import unittest
@@ -220,6 +221,14 @@ class Posts(unittest.TestCase):
         self.s3.put_bucket_versioning(Bucket="versions", VersioningConfiguration={"Status": "Enabled"})
         told = [self.post(self.form(bucket="versions"), content, path="/versions")[1]["x-amz-version-id"] for content in (b"one", b"two")]
         self.assertEqual([self.get("a", "versions", VersionId=version)[0] for version in told], [b"one", b"two"])
+
+    def test_no_host(self):
+        """As of HTTP/1.0: it is put, and told where as far as that is known."""
+        content, kind = encode_multipart_formdata([*self.form("no host").items(), ("file", ("n", b"hello"))])
+        with socket.create_connection(("127.0.0.1", self.gateway.port)) as asking:
+            asking.sendall(f"POST /some HTTP/1.0\r\nContent-Type: {kind}\r\nContent-Length: {len(content)}\r\n\r\n".encode() + content)
+            self.assertIn(b" 204 ", asking.makefile("rb").readline())
+        self.assertEqual(self.get("no host")[0], b"hello")
 
     def test_expect(self):
         self.assertEqual(self.post(self.form("expected"), headers={"Expect": "100-continue"})[0], 204)

@@ -290,7 +290,7 @@ class Forms(Operations):
             found = await self.objects.put(asked, target, source, values, algorithm_wanted(asked))
         etag = f'"{found.etag}"'
         scheme = asked.request.headers.get("X-Forwarded-Proto", asked.request.scheme)
-        place = f"{'https' if scheme == 'https' else 'http'}://{asked.headers['host']}{asked.path.rstrip('/')}/{quote(asked.key, safe='/-_.~')}"
+        place = f"{'https' if scheme == 'https' else 'http'}://{asked.headers.get('host', '')}{asked.path.rstrip('/')}/{quote(asked.key, safe='/-_.~')}"
         headers = {"ETag": etag, "Location": place, **(found.checksum.headers() if found.checksum else {}), **target.told}
         page = form.fields.get("success_action_redirect", form.fields.get("redirect", ""))
         if PAGE.fullmatch(page):

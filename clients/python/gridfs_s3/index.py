@@ -183,6 +183,11 @@ class Index:
                 self.base = self.opened(path)
 
     def opened(self, path: str) -> sqlite3.Connection:
+        if self.is_kept:
+            try:
+                os.close(os.open(path, os.O_RDWR | os.O_CREAT, 0o600))  # (names are nobody else's to read)
+            except OSError as fault:
+                raise sqlite3.OperationalError(fault.strerror) from None
         base = sqlite3.connect(path, timeout=1, check_same_thread=False, isolation_level=None)
         try:
             base.execute("pragma locking_mode = exclusive")
