@@ -96,6 +96,7 @@ BUGS = {
     "an origin is allowed that ends as an allowed one": ("test_cors.py Rules.test_patterns", "cors.py", "text.startswith(begin) and text.endswith(end)", "text.endswith(end)"),
     "leave is given for any method": ("test_cors.py Browsers.test_leave", "cors.py", "self.origin_of(origin) is not None and method in self.methods and", "self.origin_of(origin) is not None and"),
     "headers of a browser are not asked for": ("test_cors.py Browsers.test_leave", "cors.py", "each.lets(origin, method, wanted)", "each.lets(origin, method)"),
+    "a key that is empty is passed over": ("test_operations.py Words.test_no_key", "objects.py", "        if not all(key for key, _ in listed):\n", "        if False:\n"),
     "a client that leaves is a fault": ("test_malformed.py Malformed.test_a_client_that_leaves", "connections.py", " or isinstance(exc, (ConnectionError, RequestPayloadError)):", ":"),
 }
 

@@ -96,6 +96,57 @@ def empty(s3, bucket):
         s3.delete_objects(Bucket=bucket, Delete={"Objects": [{"Key": each["Key"]} for each in found]})
 
 
+class Words(Case):
+    """What OpenStack's suites of S3 asked for, and was told otherwise."""
+
+    def test_ids(self):
+        self.put("a", b"b")
+        told = [self.get("a"), self.s3.list_objects_v2(Bucket=self.bucket), self.fails("NoSuchKey", self.get, key="no-such")]
+        for each in told:
+            self.assertTrue(each["ResponseMetadata"]["HostId"])
+            self.assertEqual(each["ResponseMetadata"]["HTTPHeaders"]["x-amz-id-2"], each["ResponseMetadata"]["HostId"])
+        self.assertEqual(told[-1]["Error"]["Message"], "The specified key does not exist.")
+
+    def test_blank_words(self):
+        self.assertNotIn("Delimiter", self.s3.list_objects_v2(Bucket=self.bucket, Delimiter="", Prefix=""))
+        told = self.s3.list_object_versions(Bucket=self.bucket, Delimiter="", KeyMarker="", Prefix="")
+        self.assertEqual((told["Delimiter"], told["KeyMarker"], told["Prefix"]), ("", "", ""))
+
+    def test_no_key(self):
+        self.put("stays")
+        s3 = boto3.client("s3", endpoint_url=URL, aws_access_key_id=ACCESS, aws_secret_access_key=SECRET, region_name="us-east-1", config=Config(s3={"addressing_style": "path"}, parameter_validation=False))
+        for listed in ([{"Key": ""}], [{"Key": "stays"}, {"Key": ""}]):
+            self.fails("UserKeyMustBeSpecified", s3.delete_objects, Bucket=self.bucket, Delete={"Objects": listed})
+        self.get("stays")
+
+    def test_source_of_a_copy(self):
+        self.put("from", b"what is copied")
+        for words in ("?nonsense", "?versionId=null&nonsense", "?nonsense&versionId=null"):
+            s3 = client()
+            s3.meta.events.register("before-call.s3.CopyObject", lambda params, words=words, **_: params["headers"].update({"x-amz-copy-source": f"{self.bucket}/from{words}"}))
+            self.fails("InvalidArgument", s3.copy_object, Bucket=self.bucket, Key="to", CopySource="any/thing")
+        self.fails("NoSuchKey", self.get, key="to")
+        self.s3.copy_object(Bucket=self.bucket, Key="to", CopySource=f"{self.bucket}/from?versionId=null")
+        self.assertEqual(self.get("to")["Body"].read(), b"what is copied")
+
+    def test_times(self):
+        self.put("a", b"b")
+        (listed,) = self.s3.list_objects_v2(Bucket=self.bucket, Prefix="a")["Contents"]
+        self.assertEqual(listed["LastModified"], self.get("a")["LastModified"])
+
+    def test_next_uploads(self):
+        told = self.s3.list_multipart_uploads(Bucket=self.bucket)
+        self.assertEqual((told["NextKeyMarker"], told["NextUploadIdMarker"]), ("", ""))
+        upload = self.s3.create_multipart_upload(Bucket=self.bucket, Key="a")["UploadId"]
+        told = self.s3.list_multipart_uploads(Bucket=self.bucket)
+        self.assertEqual((told["NextKeyMarker"], told["NextUploadIdMarker"], told["IsTruncated"]), ("a", upload, False))
+
+    def test_status_of_versions(self):
+        for state in ("Disabled", "enabled", ""):
+            self.fails("MalformedXML", self.s3.put_bucket_versioning, Bucket=self.bucket, VersioningConfiguration={"Status": state})
+        self.assertNotIn("Status", self.s3.get_bucket_versioning(Bucket=self.bucket))
+
+
 class Buckets(Case):
     def test_buckets(self):
         names = [each["Name"] for each in self.s3.list_buckets()["Buckets"]]
@@ -475,7 +526,7 @@ class Tags(Case):
     def all_else(self, key):
         """What a change of tags leaves as it is."""
         found = self.get(key, ChecksumMode="ENABLED")
-        told = {name: value for name, value in found["ResponseMetadata"]["HTTPHeaders"].items() if name not in ("date", "x-amz-request-id", "x-amz-tagging-count")}
+        told = {name: value for name, value in found["ResponseMetadata"]["HTTPHeaders"].items() if name not in ("date", "x-amz-request-id", "x-amz-id-2", "x-amz-tagging-count")}
         listed = self.s3.list_objects_v2(Bucket=self.bucket, Prefix=key)["Contents"]
         return found["Body"].read(), told, [(each["Key"], each["LastModified"], each["ETag"]) for each in listed]
 
@@ -661,6 +712,8 @@ class Requests(Case):
         self.assertEqual(status, 200)
         # A header of Amazon's that is not signed
         self.assertEqual(self.code(self.ask("GET", "/", headers={**request.headers, "x-amz-meta-a": "b"}, sign=False)), "AccessDenied")
+        undated = {name: value for name, value in request.headers.items() if name != "X-Amz-Date"}
+        self.assertEqual(self.code(self.ask("GET", "/", headers=undated, sign=False)), "AccessDenied")
         old = {**request.headers, "X-Amz-Date": "20200101T000000Z"}
         self.assertIn(self.code(self.ask("GET", "/", headers=old, sign=False)), ("AuthorizationHeaderMalformed", "RequestTimeTooSkewed"))
         self.assertEqual(self.code(self.ask("GET", "/?x=y", headers=dict(request.headers), sign=False)), "SignatureDoesNotMatch")

@@ -96,12 +96,12 @@ class Buckets(Operations):
         return answer(document("VersioningConfiguration", element("Status", state) if state else None))
 
     async def put_bucket_versioning(self, asked: Asked) -> web.Response:
-        """200. Other gateways go on for two seconds by what was before. The errors of a body; 400 IllegalVersioningConfigurationException; 404 NoSuchBucket; 501
+        """200. Other gateways go on for two seconds by what was before. The errors of a body; 400 MalformedXML; 404 NoSuchBucket; 501
         NotImplemented over several grids."""
         await self.gateway.need_bucket(asked.bucket)
         state = (await self.gateway.document(asked, "VersioningConfiguration")).told("Status") or ""
         if state not in (versions.ENABLED, versions.SUSPENDED):
-            raise S3Error("IllegalVersioningConfigurationException")
+            raise S3Error("MalformedXML")
         if self.grids.map:
             raise S3Error("NotImplemented", "Versions are not told apart over several grids.")
         name, words = BUCKETS + asked.bucket, dict[str, str]()

@@ -26,7 +26,7 @@ def error_answer(fault: S3Error, asked: Asked | None) -> web.Response:
 def error_text(fault: S3Error, asked: Asked | None) -> bytes:
     body = [element("Code", fault.code), element("Message", legible(fault.message)), *(element(name, legible(value)) for name, value in fault.more.items())]
     if asked:
-        body += [element("Resource", asked.path), element("RequestId", asked.id)]
+        body += [element("Resource", asked.path), element("RequestId", asked.id), element("HostId", asked.id)]
     return document("Error", *body, space="")
 
 

@@ -79,7 +79,10 @@ class Copies(Operations):
     async def source_of(self, asked: Asked) -> Place:
         """Where the object is looked for that is to be copied. 400 InvalidArgument; 403 AccessDenied, where the access key is not for that bucket; 404
         NoSuchBucket."""
-        text, _, version = asked.headers["x-amz-copy-source"].partition("?versionId=")
+        text, mark, words = asked.headers["x-amz-copy-source"].partition("?")
+        version = words.removeprefix("versionId=")
+        if mark and (version == words or "&" in version):
+            raise S3Error("InvalidArgument", "Unsupported copy source parameter.")
         try:
             bucket, _, key = unquote(text, errors="strict").removeprefix("/").partition("/")
             key.encode()

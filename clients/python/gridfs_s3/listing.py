@@ -137,7 +137,7 @@ class Listings(Operations):
         owner, kind = self.gateway.owner() if is_owned else None, element("StorageClass", "STANDARD") if content else None
         return many(name, element("Key", encoded(each.key, coding)), *version, element("LastModified", iso(each.time)), *content, owner, kind)
 
-    def told(self, asked: Asked, cut: Cut, marks: list[str], rows: list[str]) -> list[str]:
+    def told(self, asked: Asked, cut: Cut, marks: list[str], rows: list[str], is_of_versions: bool = False) -> list[str]:
         """What all listings tell, in the order of S3's schema: there marks say where this one begins, and the next one."""
         prefix, delimiter, most = self.words_of(asked)
         coding = coding_of(asked)
@@ -146,7 +146,7 @@ class Listings(Operations):
             element("Prefix", encoded(prefix, coding)),
             *marks,
             element("MaxKeys", most),
-            element("Delimiter", encoded(delimiter, coding)) if delimiter else "",
+            element("Delimiter", encoded(delimiter, coding)) if delimiter or (is_of_versions and "delimiter" in asked.query) else "",
             element("EncodingType", coding) if coding else "",
             element("IsTruncated", "true" if cut.is_cut else "false"),
         ]
@@ -175,7 +175,7 @@ class Listings(Operations):
         for each in cut.rows:
             inner = [element("VersionId", each.version), element("IsLatest", "true" if each.name in latest else "false")]
             rows.append(self.row("DeleteMarker" if each.is_marker else "Version", each, coding, inner, True))
-        return answer(document("ListVersionsResult", *self.told(asked, cut, marks, rows)))
+        return answer(document("ListVersionsResult", *self.told(asked, cut, marks, rows, True)))
 
     async def list_multipart_uploads(self, asked: Asked) -> web.Response:
         """200. 400 InvalidArgument, 404 NoSuchBucket."""
@@ -206,8 +206,8 @@ class Listings(Operations):
             element("Bucket", asked.bucket),
             element("KeyMarker", encoded(query.get("key-marker", ""), coding)),
             element("UploadIdMarker", query.get("upload-id-marker", "")),
-            element("NextKeyMarker", encoded(last[0], coding)) if is_cut else None,
-            element("NextUploadIdMarker", last[1]) if is_cut else None,
+            element("NextKeyMarker", encoded(last[0], coding)),
+            element("NextUploadIdMarker", last[1]),
             element("Delimiter", encoded(delimiter, coding)) if delimiter else None,
             element("Prefix", encoded(prefix, coding)),
             element("MaxUploads", most),

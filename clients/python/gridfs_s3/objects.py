@@ -89,7 +89,7 @@ def begun(asked: Asked, place: Place, found: Object, part: tuple[int, int] | Non
     """The answer whose body is an object, or a part of it."""
     first, end = part or (0, found.size)
     # (in a browser an object is no page of this host, whatever it is: other tenants have their pages here)
-    headers = {**headers_of(found, asked), **place.told(found), **asked.cors, "x-amz-request-id": asked.id, "Server": SERVER, "Content-Security-Policy": "sandbox"}
+    headers = {**headers_of(found, asked), **place.told(found), **asked.cors, **asked.ids, "Server": SERVER, "Content-Security-Policy": "sandbox"}
     if found.checksum and not part and asked.headers.get(f"{HEADER}mode", "").upper() == "ENABLED":
         headers |= found.checksum.headers()
     if count := len(tags.among(found.values)):
@@ -344,12 +344,14 @@ class Objects(Operations):
         return {**of_marker, **({VERSION: place.version} if place.state and place.version else {})}
 
     async def delete_objects(self, asked: Asked) -> web.Response:
-        """200, with what was told of each key. 400 MalformedXML, BadDigest; 404 NoSuchBucket."""
+        """200, with what was told of each key. 400 MalformedXML, UserKeyMustBeSpecified, BadDigest; 404 NoSuchBucket."""
         await self.gateway.need_bucket(asked.bucket)
         wanted = await self.gateway.document(asked, "Delete")
         listed = [(each.told("Key") or "", each.told("VersionId") or None) for each in wanted.all("Object")]
-        if not 1 <= len(listed) <= 1_000 or not all(key for key, _ in listed):
+        if not 1 <= len(listed) <= 1_000:
             raise S3Error("MalformedXML")
+        if not all(key for key, _ in listed):
+            raise S3Error("UserKeyMustBeSpecified")
         at_once = asyncio.Semaphore(max(1, self.grids.workers))
 
         async def one(key: str, version: str | None) -> str | None:

@@ -19,7 +19,8 @@ SERVER = "gridfs-s3"
 
 
 def iso(ms: int) -> str:
-    return f"{iso_of_seconds(ms // 1000)}.{ms % 1000:03}Z"
+    """A time as S3 tells it in XML: of whole seconds, as Last-Modified is."""
+    return f"{iso_of_seconds(ms // 1000)}.000Z"
 
 
 @lru_cache(1_024)
@@ -44,6 +45,7 @@ class Asked:
 
     def __init__(self, request: web.BaseRequest, domain: str | None):
         self.request, self.method, self.id = request, request.method, secrets.token_hex(8)
+        self.ids = {"x-amz-request-id": self.id, "x-amz-id-2": self.id}  # (clients look for both)
         self.path, _, self.raw_query = request.raw_path.partition("?")
         self.headers = {name.lower(): value for name, value in request.headers.items()}
         self.pairs = signing.pairs_of(self.raw_query)

@@ -111,7 +111,7 @@ class Endpoint:
                 response = error_answer(told, asked)
             status = response.status
             if asked and not response.prepared:
-                response.headers["x-amz-request-id"] = asked.id
+                response.headers.update(asked.ids)
                 response.headers["Server"] = SERVER
                 response.headers.update(asked.cors)
                 # The rest of a body is not waited for. And a client that expects a word before its body may not know where it stands.

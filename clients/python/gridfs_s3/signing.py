@@ -134,6 +134,8 @@ def check(method: str, path: str, query: str, headers: list[tuple[str, str]], ke
     if not scope:
         raise S3Error(code, "The credential has to be KEY/DAY/REGION/s3/aws4_request.")
     access, day, region = scope.groups()
+    if "authorization" in told and not stamp:
+        raise S3Error("AccessDenied", "AWS authentication requires a valid Date or x-amz-date header")
     if not stamp.startswith(day + "T"):
         raise S3Error(code, "The credential is of another day than the request.")
     seconds = seconds_of(stamp, code)

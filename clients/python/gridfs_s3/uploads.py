@@ -33,7 +33,7 @@ def expect_key(asked: Asked, held: Held) -> None:
 def part_number(asked: Asked) -> int:
     number = asked.number("partNumber", 0, 99_999)
     if not 1 <= number <= 10_000:
-        raise S3Error("InvalidArgument", "A part's number is from 1 to 10,000.")
+        raise S3Error("InvalidArgument", "Part number must be an integer between 1 and 10000, inclusive")
     return number
 
 
