@@ -152,7 +152,8 @@ class Signing(Case):
                 self.fails(code, self.check, headers, "x=1&y=%2F", now + skew)
             else:
                 self.check(headers, "x=1&y=%2F", now + skew)
-        for wrong in ("", "20300101", "99999999T999999Z", "20300317T174640", "x" * 5_000, "00000000T000000Z"):
+        self.fails("AccessDenied", self.check, [(name, "" if name == "x-amz-date" else value) for name, value in headers])
+        for wrong in ("20300101", "99999999T999999Z", "20300317T174640", "x" * 5_000, "00000000T000000Z"):
             self.fails("AuthorizationHeaderMalformed", self.check, [(name, wrong if name == "x-amz-date" else value) for name, value in headers])
 
     def test_urls(self):
