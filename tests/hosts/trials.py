@@ -46,7 +46,7 @@ import boto3, botocore.config
 access, secret = open("/etc/gridfs/s3/carol.keys").read().split()[:2]
 s3 = boto3.client("s3", endpoint_url="http://127.0.0.1:9000", aws_access_key_id=access, aws_secret_access_key=secret, region_name="us-east-1",
                   config=botocore.config.Config(s3={"addressing_style": "path"}))
-s3.create_bucket(Bucket="bucket")
+"bucket" in [each["Name"] for each in s3.list_buckets()["Buckets"]] or s3.create_bucket(Bucket="bucket")
 s3.put_object(Bucket="bucket", Key="a/b", Body=b"body" * 5000)
 print(s3.get_object(Bucket="bucket", Key="a/b")["Body"].read() == b"body" * 5000)
 """
@@ -191,6 +191,11 @@ def objects(grid):
         words = ["rclone", "--config", "/etc/gridfs/s3/carol.rclone"]
         desk.does(*words, "copy", "/usr/share/gridfs", "grid:bucket/shared")
         desk.does(*words, "check", "--download", "/usr/share/gridfs", "grid:bucket/shared")
+    # Several tenants: the same object by the unit that has all gateways
+    desk.shell("systemctl stop gridfs-s3@carol && rm -f /run/gridfs-s3-carol/socket && systemctl start gridfs-s3-several")
+    desk.waits_for(lambda: desk.run("test", "-S", "/run/gridfs-s3-carol/socket").returncode == 0, "the gateway of several is not there", READY)
+    check(desk.does("ps", "-C", "gridfs-s3", "-o", "user:20=").split() == ["root", "gridfs-s3-carol"], "several: other users")
+    check(desk.does("/usr/bin/python3", "-", given=OBJECTS) == "True\n", "several: an object has another content")
 
 
 def metrics(grid):

@@ -97,6 +97,10 @@ BUGS = {
     "leave is given for any method": ("test_cors.py Browsers.test_leave", "cors.py", "self.origin_of(origin) is not None and method in self.methods and", "self.origin_of(origin) is not None and"),
     "headers of a browser are not asked for": ("test_cors.py Browsers.test_leave", "cors.py", "each.lets(origin, method, wanted)", "each.lets(origin, method)"),
     "a key that is empty is passed over": ("test_operations.py Words.test_no_key", "objects.py", "        if not all(key for key, _ in listed):\n", "        if False:\n"),
+    "a gateway that falls stays away": ("test_several.py Several.test_one_falls", "several.py", "            child.due = now + child.pause\n", "            child.due = now + 9e9\n"),
+    "gateways outlive who sees to them": ("test_several.py Several.test_ends", "several.py", "        ctypes.CDLL(None).prctl(WITH_PARENT, signal.SIGTERM)\n", ""),
+    "a gateway of several is anybody's": ("test_several.py Several.test_users", "several.py", "            os.setuid(user.pw_uid)\n", ""),
+    "lines that are wrong end what runs": ("test_several.py Several.test_lines_that_change", "several.py", "            tell(f\"{fault}; the gateways stay as they were\")\n            return\n", "            raise\n"),
     "a client that leaves is a fault": ("test_malformed.py Malformed.test_a_client_that_leaves", "connections.py", " or isinstance(exc, (ConnectionError, RequestPayloadError)):", ":"),
 }
 

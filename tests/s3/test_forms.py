@@ -530,14 +530,15 @@ class Installed(unittest.TestCase):
                 self.assertTrue(os.path.isfile(path), path)
             for command in ("gridfs-client", "gridfs-fleet", "gridfs-s3", "gridfs-s3-setup"):
                 self.assertIn("usage: " + command, subprocess.run([f"{prefix}/bin/{command}", "--help"], capture_output=True, text=True).stdout)
-            with open(f"{prefix}/lib/systemd/system/gridfs-s3@.service") as unit:
-                started = next(line for line in unit if line.startswith("ExecStart="))
-            self.assertTrue(os.access(started.removeprefix("ExecStart=").split()[0], os.X_OK), started)
+            for name in ("gridfs-s3@", "gridfs-s3-several"):
+                with open(f"{prefix}/lib/systemd/system/{name}.service") as unit:
+                    started = next(line for line in unit if line.startswith("ExecStart="))
+                self.assertTrue(os.access(started.removeprefix("ExecStart=").split()[0], os.X_OK), started)
             told = subprocess.run([f"{prefix}/bin/gridfs-s3-setup", "--gateways", "2", folder, plan], capture_output=True, text=True)
             self.assertEqual((told.returncode, told.stdout), (0, f"setup: {folder}: carol-1 (session = 1-4), carol-2 (session = 5-8)\n"))
             shutil.copytree(folder, copy, symlinks=True)
             shutil.rmtree(folder)
-            self.assertEqual(sorted(os.listdir(copy)), ["carol-1.keys", "carol-2.keys", "carol.keys", "carol.rclone", "carol.s3cfg", "nginx.conf", "sysusers.conf"])
+            self.assertEqual(sorted(os.listdir(copy)), ["carol-1.keys", "carol-2.keys", "carol.keys", "carol.rclone", "carol.s3cfg", "nginx.conf", "several", "sysusers.conf", "tmpfiles.conf"])
             for name in os.listdir(copy):
                 with open(f"{copy}/{name}") as file:
                     self.assertNotIn(room, file.read(), name)

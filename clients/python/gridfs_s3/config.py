@@ -17,20 +17,21 @@ The status is 1 where it can't start, 2 where the words are no request.
 WANTED = {"aiohttp": "python3-aiohttp", "crcmod": "python3-crcmod", "botocore": "python3-botocore", "prometheus_client": "python3-prometheus-client"}
 
 
-def parser() -> argparse.ArgumentParser:
-    found = argparse.ArgumentParser(
+def parser(kind: type[argparse.ArgumentParser] = argparse.ArgumentParser) -> argparse.ArgumentParser:
+    found = kind(
         prog="gridfs-s3", description="An endpoint of S3 in front of one tenant's files by name.", epilog=EPILOG,
         formatter_class=argparse.RawDescriptionHelpFormatter, allow_abbrev=False,
     )  # fmt: skip
     found.add_argument("--config", metavar="FILE", help="the file of settings, as for gridfs-client")
     found.add_argument("--map", metavar="FILE", help="a map of several grids (gridfs-fleet), in place of the settings of one")
-    found.add_argument("--keys", metavar="FILE", required=True, help="the access keys with their secrets; others may not read it")
+    found.add_argument("--keys", metavar="FILE", help="the access keys with their secrets; others may not read it")
     found.add_argument("--listen", metavar="WHERE", default="127.0.0.1:9000", help="ADDRESS:PORT, or unix:PATH (127.0.0.1:9000)")
     found.add_argument("--index", metavar="FILE", help="keeps what pages say for the next start; else, and over several grids, that goes with the process")
     found.add_argument("--region", default="us-east-1", metavar="WORD", help="the region that is told (us-east-1)")
     found.add_argument("--domain", metavar="NAME", help="BUCKET.NAME is a bucket's own host name")
     found.add_argument("--timeout", metavar="SECONDS", default=None, help="seconds to wait for a node's answer (20)")
     found.add_argument("--lifecycle", metavar="SECONDS", type=float, default=3600, help="seconds between looks for what has expired by the rules of its bucket (3600)")
+    found.add_argument("--several", metavar="FILE", help="a gateway for each line of the file, which has its words, in processes that share the program's memory (docs/S3.md)")
     found.add_argument("--drain", metavar="SECONDS", type=float, default=30, help="seconds in which what is under way has to end after SIGTERM (30)")
     return found
 

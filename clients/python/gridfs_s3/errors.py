@@ -79,8 +79,17 @@ class S3Error(Exception):
         super().__init__(self.message)
 
 
+speaks = "gridfs-s3: "
+
+
 def tell(text: str) -> None:
-    print(f"gridfs-s3: {visible(text)}", file=sys.stderr, flush=True)
+    print(f"{speaks}{visible(text)}", file=sys.stderr, flush=True)
+
+
+def speak_for(name: str) -> None:
+    """From now on what is told begins with the name too, as several gateways tell it in one place."""
+    global speaks
+    speaks = f"gridfs-s3: {name}: "
 
 
 def error_of(fault: BaseException) -> S3Error:

@@ -12,6 +12,7 @@ from pathlib import Path
 from typing import TYPE_CHECKING
 
 from . import config
+from .several import run_all
 
 if TYPE_CHECKING:
     from .routes import Endpoint
@@ -124,7 +125,13 @@ async def drained(endpoint: "Endpoint", seconds: float) -> None:
 
 
 def main(words: Sequence[str] | None = None) -> None:
-    asked = config.parser().parse_args(words)
+    parser = config.parser()
+    asked = parser.parse_args(words)
+    if not (asked.keys or asked.several):
+        parser.error("--keys is wanted, or --several")
     if missing := config.missing():
         raise SystemExit(f"gridfs-s3: not there: {' '.join(missing)} (as root on Debian: apt-get install {' '.join(missing)})")
-    asyncio.run(serve(asked))
+    if asked.several:
+        run_all(asked.several, lambda each: asyncio.run(serve(each)))
+    else:
+        asyncio.run(serve(asked))

@@ -2,7 +2,7 @@
 
     gridfs-s3-setup [--listen ADDRESS:PORT] [--gateways N] FOLDER PLAN     (/etc/gridfs/s3 /etc/gridfs/plan, as the units of systemd have it)
 
-FOLDER gets NAME.keys, NAME.s3cfg and NAME.rclone of each tenant, nginx.conf, and sysusers.conf, by which `systemd-sysusers FOLDER/sysusers.conf` makes a user for
+FOLDER gets NAME.keys, NAME.s3cfg and NAME.rclone of each tenant, nginx.conf, several and tmpfiles.conf, by which one unit has all gateways, and sysusers.conf, by which `systemd-sysusers FOLDER/sysusers.conf` makes a user for
 each gateway. Once that is done, and setup is run again as root, the keys of a tenant can be read by the users of its gateways alone. Run again with a new plan it adds
 the new tenants; keys that are there stay. A gateway's socket is /run/gridfs-s3-NAME/socket, as its unit has it. Nothing in FOLDER names FOLDER, so it may be copied to
 another machine, links as links (cp -a). With --gateways each tenant has so many, NAME-1, NAME-2 and so on, each with a share of its sessions, which is told,
@@ -35,6 +35,8 @@ def set_up(folder: Path, plan: Path, listen: str, count: int) -> None:
             (folder / f"{each.name}.keys").unlink(missing_ok=True)
             (folder / f"{each.name}.keys").symlink_to(f"{each.tenant}.keys")
     (folder / "sysusers.conf").write_text(users_of(gateways))
+    (folder / "several").write_text(lines_of(every))
+    (folder / "tmpfiles.conf").write_text("".join(f"d /run/gridfs-s3-{each.name} 0750 gridfs-s3-{each.name} gridfs-s3\nd /var/cache/gridfs-s3-{each.name} 0700 gridfs-s3-{each.name} gridfs-s3\n" for each in every))
     lacking = [name for name in tenants if not give_to_group(folder / f"{name}.keys", f"gridfs-s3-{name}")]
     sockets = {each.name: f"/run/gridfs-s3-{each.name}/socket" for each in every}
     (folder / "nginx.conf").write_text(nginx_conf(FRONT, gateways, sockets, listen))
@@ -53,6 +55,16 @@ def users_of(gateways: Mapping[str, Sequence[Instance]]) -> str:
             lines.append(f'u gridfs-s3-{each.name} - "gateway of S3 of {tenant}"')
             if each.name != tenant:
                 lines.append(f"m gridfs-s3-{each.name} gridfs-s3-{tenant}")
+    return "".join(f"{line}\n" for line in lines)
+
+
+def lines_of(gateways: Sequence[Instance]) -> str:
+    """The gateways for `gridfs-s3 --several`, as the unit gridfs-s3@NAME begins each of them."""
+    lines = ["# A gateway a line; its files are in the folder of this one (docs/S3.md, Several tenants)"]
+    for name in (each.name for each in gateways):
+        run, cache = f"/run/gridfs-s3-{name}", f"/var/cache/gridfs-s3-{name}"
+        who = f"user=gridfs-s3-{name} group=gridfs-s3 GRIDFS_LOCKS={run}/locks TMPDIR={cache}"
+        lines.append(f"{who} --config {name}.ini --keys {name}.keys --listen unix:{run}/socket --drain 30 --index {cache}/index")
     return "".join(f"{line}\n" for line in lines)
 
 
