@@ -59,7 +59,7 @@ LINES = [
     (b"0 1 bob 2 9 2 0 0 store 7 2 0d0e", b"1 0 bob 2 9 2 0 0 stored\n"),
     (b"0 1 bob 2 10 1 0 0 ask", b"1 0 bob 2 10 1 0 0 copy 7 2 0d0e\n"),
     (b"0 0 bob 1 2 1 0 1 copy 4 1 aabb", b""),
-    (b"0 1 bob 1 2 1 0 1 copy 4 1 aabb", b"0 0 bob 1 2 2 0 1 confirm 4 1\n2 0 bob 1 2 2 0 1 store 4 1 aabb\n"),
+    (b"0 1 bob 1 2 1 0 1 copy 4 1 aabb", b"0 0 bob 1 2 2 0 1 confirm 4 1\n2 0 bob 1 2 2 0 1 confirm 4 1\n"),
     (b"0 bob list 1 3 0", b"bob 0 refused busy 1 3 2\n"),
     (b"0 0 tick", b""),
     (b"0 0 tick", b"1 0 bob 1 2 2 0 1 store 4 1 aabb\n3 0 bob 1 2 2 0 1 store 4 1 aabb\n"),

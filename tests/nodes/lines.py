@@ -58,7 +58,7 @@ LINES = {
     ),
     "an answer that is asked for again": (
         READ + b"0 0 ann 1 1 1 0 0 copy 3 2 aB\n0 1 ann 1 1 1 0 0 copy 0 0 -\n0 0 ann 1 1 2 0 0 stored\n0 2 ann 1 1 2 0 0 stored\n" + READ + WRITE + b"cd\n0 ann abandon 1 1\n",
-        ASK + CONFIRM % (0, 3, 2) + b"2 0 ann 1 1 2 0 0 store 3 2 ab\n" + 4 * b"ann 0 done read 1 1 tag 3 2 ab\n",
+        ASK + CONFIRM % (0, 3, 2) + CONFIRM % (2, 3, 2) + 4 * b"ann 0 done read 1 1 tag 3 2 ab\n",
     ),
     "the row that served stays": (
         READ + 2 * b"0 0 tick\n" + b"0 2 ann 1 1 1 0 0 copy 0 0 -\n0 3 ann 1 1 1 0 0 copy 0 0 -\n0 0 ann 1 1 2 0 0 stored\n0 2 ann 1 1 2 0 0 stored\n0 ann read 1 2 0 0\n",
@@ -68,7 +68,7 @@ LINES = {
     ),
     "a listing": (
         b"0 ann list 1 1 1\n0 0 ann 1 1 1 1 0 copy 3 2 aB\n0 1 ann 1 1 1 1 0 copy 0 0 -\n0 0 ann 1 1 2 1 0 stored\n0 2 ann 1 1 2 1 0 stored\n",
-        b"1 0 ann 1 1 1 1 0 ask\n0 0 ann 1 1 2 1 0 confirm 3 2\n2 0 ann 1 1 2 1 0 store 3 2 ab\nann 0 done list 1 1 1:3.2\n",
+        b"1 0 ann 1 1 1 1 0 ask\n0 0 ann 1 1 2 1 0 confirm 3 2\n2 0 ann 1 1 2 1 0 confirm 3 2\nann 0 done list 1 1 1:3.2\n",
     ),
     "ticks": (READ + 3 * b"0 0 tick\n", ASK + b"2 0 ann 1 1 1 0 0 ask\n3 0 ann 1 1 1 0 0 ask\n" + ASK),
     "a number of a tag at its limit": (
@@ -97,11 +97,16 @@ LINES = {
     "a read hears a greater tag alone": (READ + b"0 1 ann 1 1 1 0 0 tag 7 3\n0 0 ann 1 1 1 0 0 tag 7 3\n", ASK),
     "a read hears a tag that it knows": (
         b"0 0 ann 1 1 2 0 0 store 7 3 ee\n" + READ + b"0 1 ann 1 1 1 0 0 tag 7 3\n",
-        ASK[:-1] + b" 7 3\n" + CONFIRM % (0, 7, 3) + b"2 0 ann 1 1 2 0 0 store 7 3 ee\n",
+        ASK[:-1] + b" 7 3\n" + CONFIRM % (0, 7, 3) + CONFIRM % (2, 7, 3),
     ),
     "a server wants the store whole": (
         READ + b"0 1 ann 1 1 1 0 0 copy 3 2 aB\n0 3 ann 1 1 2 0 0 want\n0 3 ann 1 1 4 0 0 want\n0 3 ann 1 1 2 0 1 want\n0 3 ann 1 2 2 0 0 want\n0 4 ann 1 1 2 0 0 want\n",
-        ASK + CONFIRM % (0, 3, 2) + b"2 0 ann 1 1 2 0 0 store 3 2 ab\n3 0 ann 1 1 2 0 0 store 3 2 ab\n",
+        ASK + CONFIRM % (1, 3, 2) + CONFIRM % (3, 3, 2) + b"3 0 ann 1 1 2 0 0 store 3 2 ab\n",
+    ),
+    "a store that goes out again, and those behind it": (
+        READ + b"0 1 ann 1 1 1 0 0 copy 3 2 aB\n" + 3 * b"0 0 tick\n" + b"0 2 ann 1 1 2 0 0 stored\n0 ann read 1 2 0 0\n0 1 ann 1 2 1 0 0 copy 4 2 cd\n",
+        ASK + CONFIRM % (1, 3, 2) + CONFIRM % (3, 3, 2) + b"".join(b"%d 0 ann 1 1 2 0 0 store 3 2 ab\n" % n for n in (1, 3, 2))
+        + b"ann 0 done read 1 1 tag 3 2 ab\n1 0 ann 1 2 1 0 0 ask 3 2\n0 0 ann 1 2 2 0 0 confirm 4 2\n2 0 ann 1 2 2 0 0 store 4 2 cd\n",
     ),
     "more lines of nobody": (b" ?\n00 ann read 1 1 0 0\nann 0 gone 1 1\n0 960 ann 1 5 3 0 3 ask\n1 ann plan\n0 1 plan\n", b""),
     "requests with no form": (b"0 ann quorum 1 1\n0 ann retry 1 1\n0 ann write 1 7 0 3\n0 ann read 1 7 0 3 0\n0 ann read 01 7 0 3\n0 ann plan \n0 ann  plan\n0 ann plans\n", 8 * BAD),
@@ -128,8 +133,8 @@ ROOM_LINES = {
     "with room, a content of one byte more": (WRITE + b"ab" * 2561 + b"\n", b"ann 0 refused toolong 1 1 0 0 2561\n"),
     "with room, a content in bytes of the most bytes": (WRITE + b"=" + b"\\b" * 2560 + b"\n", ASK_TAG),
     "with room, a content in bytes of one byte more": (WRITE + b"=" + b"\\b" * 2561 + b"\n", b"ann 0 refused toolong 1 1 0 0 2561\n"),
-    "with room, a store of the most bytes": (OWN + b"1 1 " + b"ab" * 2560 + b"\n" + HEARD, ASK[:-1] + b" 1 1\n" + CONFIRM % (0, 1, 1) + b"2 0 ann 1 1 2 0 0 store 1 1 " + b"ab" * 2560 + b"\n"),
-    "with room, a store of one byte more": (OWN + b"1 1 " + b"ab" * 2561 + b"\n" + HEARD, ASK + CONFIRM % (0, 0, 0) + b"2 0 ann 1 1 2 0 0 store 0 0 -\n"),
+    "with room, a store of the most bytes": (OWN + b"1 1 " + b"ab" * 2560 + b"\n" + HEARD, ASK[:-1] + b" 1 1\n" + CONFIRM % (0, 1, 1) + CONFIRM % (2, 1, 1)),
+    "with room, a store of one byte more": (OWN + b"1 1 " + b"ab" * 2561 + b"\n" + HEARD, ASK + CONFIRM % (0, 0, 0) + CONFIRM % (2, 0, 0)),
 }
 
 

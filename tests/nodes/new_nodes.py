@@ -91,7 +91,7 @@ LINES = {
     "one of the node that was lost": (b"67 ann read 4 1 0 0\n67 ann read 36 1 0 0\n", b"ann 67 refused nosession 4 1\nann 67 refused nosession 36 1\n"),
     "one whose home was not lost": (b"67 ann read 1 1 0 0\n67 ann read 17 1 0 0\n", b"ann 67 refused home 0 1 1\nann 67 refused nosession 17 1\n"),
     "a letter of the node that was lost": (GIVEN + b"67 3 ann 4 1 1 0 0 ask\n67 0 ann 4 1 1 0 0 ask\n67 67 ann 4 1 1 0 0 ask\n", NEXT),
-    "a letter of its own, brought by a line": (READ + GIVEN + b"67 67 ann 20 1 1 0 0 ask\n67 2 ann 20 1 1 0 0 copy 0 0 -\n", ASKS + NEXT + b"1 67 ann 20 1 2 0 0 store 5 1 aa\n67 67 ann 20 1 2 0 0 confirm 5 1\n"),
+    "a letter of its own, brought by a line": (READ + GIVEN + b"67 67 ann 20 1 1 0 0 ask\n67 2 ann 20 1 1 0 0 copy 0 0 -\n", ASKS + NEXT + b"1 67 ann 20 1 2 0 0 confirm 5 1\n67 67 ann 20 1 2 0 0 confirm 5 1\n"),
     "a late store": (GIVEN + STORE + b"67 0 ann 1 1 2 0 0 store 4 1 bb\n" + ASK, NEXT + 2 * b"0 67 ann 1 1 2 0 0 stored\n" + COPY.replace(b"5 1 aa", b"9 1 ff")),
     "lines for the node that was lost": (b"3 ann plan\n3 0 joins 1\n3 3 tick\n", b""),
 }

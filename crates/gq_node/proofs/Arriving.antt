@@ -22,7 +22,7 @@ use Rattle.gq_replace.specs.Fleet.{World, Fleet, Posted, MayDo, MayCome, plan_of
 use Rattle.gq_node.specs.declared.output.Admission.{Admission}
 use Rattle.gq_node.specs.declared.output.Admission.TheVariants.{Tells, Passes, Goes}
 use Rattle.gq_node.specs.Bridge.{setting_in, AtHome, request_act, letter_act, hear_act, short_act, tick_act, waited_act}
-use Rattle.gq_node.specs.Local.{Local, part_in, state_of, state_for, aim_at, tries_next, asker, begins, admission_in, letter_fits, goes_between, file_fits, has_above, of_round}
+use Rattle.gq_node.specs.Local.{Local, part_in, state_of, state_for, aim_at, aim_behind, tries_next, asker, begins, admission_in, letter_fits, goes_between, file_fits, has_above, of_round}
 use Rattle.gq_node.specs.Nodes.{NodeWorld, site_at, plan_volumes, Nodes, StoodFor, IsAlike}
 use Rattle.gq_node.specs.Shorts.{OwnShort, letter_with, column_of}
 use Rattle.gq_node.specs.Sites.{Site}
@@ -145,7 +145,7 @@ letter_may w nodes u n from m begun alike volumes was = elim (cases_Bool (letter
       | inr deaf ↦ (let e : letter_act from m site local ≡ None = rw (fits, goes, deaf) refl in subst (MayIf w u n site local) (sym e) tt)
       | inl hears ↦ (
           let p : Parts site limit from m = parts site limit from m fits in
-          let aim : Servers = aim_at site.grid (local.residents m.session) in
+          let aim : Servers = aim_behind site local m in
           let e : letter_act from m site local ≡ Some (Comes m aim) = rw (fits, goes, hears) refl in
           let come : MayCome w.world u from n m = (rw goes (eqb-true (site.home m.session) n (session_here site from m goes p.between))) in
           subst (MayIf w u n site local) (sym e) ((from, posted, come), tt, letter_goes (setting_in site local) (part_in local) m aim))
@@ -204,7 +204,7 @@ short_may w nodes u n from s bytes begun alike volumes stood = by_arms (λ act d
     hears : IsHeard site from s bytes → (b : Bool) → (has_above (local.residents s.session).session.floor && of_round (operation (state_for site local s.session) s.session) s.file) ≡ b → (a : Act) → hear_act site local m ≡ Some a → May a
     hears h false deaf a is = let e : hear_act site local m ≡ None = rw deaf refl in absurd (none_is_some a (sym e ∙ is))
     hears h true heard a is =
-        let act : Act = Comes m (aim_at site.grid (local.residents s.session)) in
+        let act : Act = Comes m (aim_behind site local m) in
         let e : hear_act site local m ≡ Some act = rw heard refl in
         let come : MayCome w.world u from n m = (rw h.goes h.home) in
         subst May (some_act a act (sym e ∙ is)) ((from, posted (h.was nodes n stood), come), tt)

@@ -470,6 +470,7 @@ begun_settles w t k op task line causes code messages local h agrees =
         row = session_state.row;
         column = session_state.column;
         waited = refl;
+        stays = session_state.stays;
       };
       left = ap (λ (d : Doing). d.local) (does_is w t k op task line causes code messages local h agrees);
     }
@@ -556,7 +557,7 @@ abandon_acts w t k op out shaped within goes told =
           let now : P ((changed (entry_of state (Own (Abandon k)) (quiet Abandoned)) state).session k) = subst P (sym ended) (session_state.op, last_agrees w.plan.grid t k old (local.residents k) session_state) in
           record {
             resident = record (local.residents k) { session = (changed (entry_of state (Own (Abandon k)) (quiet Abandoned)) state).session k; outcome = None };
-            agrees = record { op = now.0; reserved_op = session_state.reserved_op; reserved_floor = session_state.reserved_floor; sits = now.1; outcome = refl; row = session_state.row; column = session_state.column; waited = session_state.waited };
+            agrees = record { op = now.0; reserved_op = session_state.reserved_op; reserved_floor = session_state.reserved_floor; sits = now.1; outcome = refl; row = session_state.row; column = session_state.column; waited = session_state.waited; stays = session_state.stays };
             left = ap (λ (d : Doing). d.local) (does local agrees);
           });
       gives = λ local agrees. subst (λ (d : Doing). Gives t d out) (sym (does local agrees)) (record { answer = told.answer_is; letters = told.letters; transfer = told.transfer; fact = told.fact });

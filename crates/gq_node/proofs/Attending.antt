@@ -1,5 +1,5 @@
 -- A letter comes to a session.
-use Rattle.std.proofs.Common.{◌≡◌, ◌∙◌, ℕ, ◌<◌, Bool, true, false, List, [], length, map, refl, sym, ap, subst, Option, Some, None, inl, inr}
+use Rattle.std.proofs.Common.{◌≡◌, ◌∙◌, ℕ, ◌-◌, ◌<◌, Bool, true, false, List, [], length, map, refl, sym, ap, subst, Option, Some, None, inl, inr}
 use Rattle.std.specs.Prelude.{option_map, slice_set, ◌&&◌, unwrap_or}
 use Rattle.std.proofs.lemmas.Bool.{cases_Bool, eq-eqb}
 use Rattle.std.proofs.lemmas.List.{set-get_or}
@@ -21,13 +21,15 @@ use Rattle.gq_node.specs.declared.session_states.SessionState.{SessionState}
 use Rattle.gq_node.specs.declared.output.Output.{Output}
 use Rattle.gq_node.specs.Sites.{Site, session_state_place, site_of}
 use Rattle.gq_cluster.specs.Facts.{Reserved, reserved_by}
-use Rattle.gq_node.specs.Local.{Local, Resident, Doing, state_of, state_for, silently, goes_on, brings, hears, has_above, of_round, aim_at, outcome_after, waits_after, answer_of, session_fact}
-use Rattle.gq_node.specs.Heard.{HeardGives, heard_answer, heard_fact, heard_run, heard_outcome, heard_waits}
-use Rattle.gq_node.specs.SessionStates.{has_heard, is_of_round, session_state_aim, SessionStateHears, SessionStateAttends, SaysAndGives, GivesNothing, said_by, operation_after, last_of, last_in}
+use Rattle.gq_node.specs.Local.{Local, Resident, Doing, state_of, state_for, silently, goes_on, brings, hears, has_above, of_round, aim_behind, state_behind, outcome_after, waits_after, answer_of, session_fact}
+use Rattle.gq_node.specs.Columns.{stays_after}
+use Rattle.gq_node.specs.Heard.{HeardGives, heard_answer, heard_fact, heard_run, heard_outcome, heard_waits, heard_stays}
+use Rattle.gq_node.specs.SessionStates.{has_heard, is_of_round, session_state_aim_behind, SessionStateHears, SessionStateAttends, SaysAndGives, GivesNothing, said_by, operation_after, last_of, last_in}
 use Rattle.gq_node.specs.Shape.{IsShaped}
 use Rattle.gq_node.specs.Tables.{Tables, Agrees, Acts, Leads, Gives, SessionStateAgrees, IsOfPlan, Sits, session_states_at, session_state_at, with_session_state, no_session_state}
 use Rattle.gq_node.proofs.Reserving.{heard_keeps, heard_reserves, heard_gives_fact}
-use Rattle.gq_node.proofs.Placing.{Settles, aim_is, session_state_of, session_state_leads, session_state_there, same_leads, last_is, last_agrees}
+use Rattle.gq_node.proofs.Choosing.{aim_behind_is}
+use Rattle.gq_node.proofs.Placing.{Settles, session_state_of, session_state_leads, session_state_there, same_leads, last_is, last_agrees}
 
 -- ---- what the model says
 
@@ -46,13 +48,13 @@ heard_in site local m = has_above (local.residents m.session).session.floor && o
 -- and what it then does
 abbrev heard_by : Site → Local → OwnMessage → Saying → Doing
 heard_by site local m s =
-    goes_on local m.session (local.residents m.session).session.op (heard_servers (local.residents m.session).session.heard m.server) (state_for site local m.session) (delivery m s)
+    goes_on local m.session (local.residents m.session).session.op (heard_servers (local.residents m.session).session.heard m.server) (state_behind site local m) (delivery m s)
 
 hears_is : (site : Site) (local : Local) (m : OwnMessage) → heard_in site local m ≡ true →
-    hears site local m ≡ heard_by site local m (said_by site.grid (aim_at site.grid (local.residents m.session)) (operation (state_for site local m.session) m.session) m)
+    hears site local m ≡ heard_by site local m (said_by site.grid (aim_behind site local m) (operation (state_for site local m.session) m.session) m)
 hears_is site local m fits =
-    rw fits (ap (λ step. goes_on local m.session (local.residents m.session).session.op (heard_servers (local.residents m.session).session.heard m.server) (state_for site local m.session) (brings m step))
-    (hears_as site.grid (state_for site local m.session) m (operation (state_for site local m.session) m.session)))
+    rw fits (ap (λ step. goes_on local m.session (local.residents m.session).session.op (heard_servers (local.residents m.session).session.heard m.server) (state_behind site local m) (brings m step))
+    (hears_as site.grid (state_behind site local m) m (operation (state_for site local m.session) m.session)))
 
 hears_nothing : (site : Site) (local : Local) (m : OwnMessage) → heard_in site local m ≡ false → hears site local m ≡ silently local
 hears_nothing site local m none = rw none refl
@@ -112,6 +114,12 @@ waits_is grid up t k own (Some code) session (Some task) m old new sits same =
     let s : Saying = said_by grid up (Some (operation_with k session task)) m in
     ap (λ (set : Servers). heard_waits (heard_as t s) (set m.server) old) sits.heard ∙ waits_as t s (heard_servers session.heard m.server) old new same
 
+stays_as : (t : ℕ) (s : Saying) (old new : ℕ) → old ≡ new → heard_stays (heard_as t s) old ≡ stays_after (heard_step 0 s).told new
+stays_as t HeardStale old new same = same
+stays_as t HeardNoted old new same = same
+stays_as t (HeardNext round tag messages) old new same = ap (λ n. n - 1) same
+stays_as t (HeardDone outcome) old new same = same
+
 outcome_as : (t : ℕ) (s : Saying) (old new : Option Outcome) → old ≡ new → heard_outcome (heard_as t s) old ≡ outcome_after (heard_step 0 s).told new
 outcome_as t HeardStale old new same = same
 outcome_as t HeardNoted old new same = same
@@ -133,6 +141,7 @@ heard_resident local state m s = record (local.residents m.session) {
   reserved = reserved_by (session_fact local m.session state (delivery m s)) (local.residents m.session).reserved;
   outcome = outcome_after (heard_step 0 s).told (local.residents m.session).outcome;
   waited = waits_after (heard_step 0 s).told (heard_servers (local.residents m.session).session.heard m.server) (local.residents m.session).waited;
+  stays = stays_after (heard_step 0 s).told (local.residents m.session).stays;
 }
 
 -- the run that had to be reserved is
@@ -173,6 +182,7 @@ heard_agrees grid t local up M old new heard goes agrees h reserved =
       column = h.column ∙ agrees.column;
       waited = h.waited ∙ ap (λ x. heard_waits x (has_heard old.operation M.server) old.waited) is
           ∙ waits_is grid up t k old.floor old.operation session session.current m old.waited (local.residents k).waited agrees.sits agrees.waited;
+      stays = h.stays ∙ ap (λ x. heard_stays x old.stays) is ∙ stays_as t s old.stays (local.residents k).stays agrees.stays;
     }
 
 -- ---- what is given
@@ -218,7 +228,7 @@ heard_gives grid t local up M old new heard out goes agrees h reserved gives =
 abbrev session_state_hears_it : SessionState → Message → Bool
 session_state_hears_it session_state M = has_above (last_in session_state) && is_of_round session_state.operation (file_place M.file)
 
-attends_it : (t k : ℕ) (grid : Grid) (old new : SessionState) (M : Message) (out : Output) → session_state_hears_it old M ≡ true → SessionStateAttends t k grid old new M out → SaysAndGives t k (session_state_aim grid old) old new M out
+attends_it : (t k : ℕ) (grid : Grid) (old new : SessionState) (M : Message) (out : Output) → session_state_hears_it old M ≡ true → SessionStateAttends t k grid old new M out → SaysAndGives t k (session_state_aim_behind grid old M) old new M out
 attends_it t k grid old new M out fits attends = rw fits at attends
 
 attends_not : (t k : ℕ) (grid : Grid) (old new : SessionState) (M : Message) (out : Output) → session_state_hears_it old M ≡ false → SessionStateAttends t k grid old new M out → (new ≡ old) × GivesNothing out
@@ -247,18 +257,19 @@ attended w t M session_state out local goes at fits attends agrees =
     let old : SessionState = session_state_at w t k in
     let r : Resident = local.residents k in
     let before : SessionStateAgrees grid t k old r = session_state_of w t k local agrees at in
-    let h : SaysAndGives t k (session_state_aim grid old) old session_state M out = attends_it t k grid old session_state M out fits attends in
-    let hears' : SessionStateHears old session_state (aim_at grid r) M h.heard = subst (λ (x : Servers). SessionStateHears old session_state x M h.heard) (aim_is grid t k old r before) h.hears in
+    let h : SaysAndGives t k (session_state_aim_behind grid old M) old session_state M out = attends_it t k grid old session_state M out fits attends in
+    let up : Servers = aim_behind site local m in
+    let hears' : SessionStateHears old session_state up M h.heard = subst (λ (x : Servers). SessionStateHears old session_state x M h.heard) (aim_behind_is grid t k old r M before) h.hears in
     let is = hears_is site local m (sym (hears_it site t local old M before) ∙ fits) in
-    let state : State = state_for site local k in
-    let s : Saying = said_by grid (aim_at grid r) (operation state k) m in
+    let state : State = state_behind site local m in
+    let s : Saying = said_by grid up (operation state k) m in
     record {
       settles = record {
         resident = heard_resident local state m s;
-        agrees = heard_agrees grid t local (aim_at grid r) M old session_state h.heard goes before hears' h.reserved;
+        agrees = heard_agrees grid t local up M old session_state h.heard goes before hears' h.reserved;
         left = ap (λ (d : Doing). d.local) is;
       };
-      gives = subst (λ (d : Doing). Gives t d out) (sym is) (heard_gives grid t local (aim_at grid r) M old session_state h.heard out goes before hears' h.reserved h.gives);
+      gives = subst (λ (d : Doing). Gives t d out) (sym is) (heard_gives grid t local up M old session_state h.heard out goes before hears' h.reserved h.gives);
     }
 
 gives_nothing : (t : ℕ) (local : Local) (out : Output) → GivesNothing out → Gives t (silently local) out

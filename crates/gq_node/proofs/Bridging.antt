@@ -23,9 +23,10 @@ use Rattle.gq_node.specs.declared.output.Answer.{Answer}
 use Rattle.gq_node.specs.declared.output.Answer.TheVariants.{Bad as IsBad}
 use Rattle.gq_node.specs.declared.output.Admission.{Admission}
 use Rattle.gq_node.specs.declared.output.Admission.TheVariants.{Tells, Passes, Goes}
-use Rattle.gq_node.specs.Local.{Local, Resident, Doing, part_in, state_of, state_for, aim_at, tries_next, answer_of, asker, begins, admission_in, asks, asked_by, goes_on, with_resident, tells, silently, session_fact, receives, serves, hears, brings, ticks, waits_on, outcome_after, waits_after, letter_fits, goes_between, has_above, of_round}
+use Rattle.gq_node.specs.Local.{Local, Resident, Doing, part_in, state_of, state_for, state_behind, aim_at, aim_behind, tries_next, answer_of, asker, begins, admission_in, asks, asked_by, goes_on, with_resident, tells, silently, session_fact, receives, serves, hears, brings, ticks, waits_on, outcome_after, waits_after, letter_fits, goes_between, has_above, of_round}
 use Rattle.gq_node.specs.Shorts.{OwnShort, letter_with, column_of, takes_short}
 use Rattle.gq_node.specs.Sites.{Site, has_session}
+use Rattle.gq_node.specs.Columns.{stays_after}
 use Rattle.gq_node.specs.Bridge.{setting_in, AtHome, request_act, request_answer, letter_act, waited_act, tick_act, hear_act, short_act, short_tell, Bridges, AllRequestsAct, AllQuestionsTell, AllLettersAct, AllTicksAct}
 use Rattle.gq_node.proofs.Placing.{is_number}
 use Rattle.gq_node.proofs.Asking.{goes_home}
@@ -81,6 +82,7 @@ went local k heard_before state e = record (local.residents k) {
   reserved = reserved_by (session_fact local k state e) (local.residents k).reserved;
   outcome = outcome_after e.told (local.residents k).outcome;
   waited = waits_after e.told heard_before (local.residents k).waited;
+  stays = stays_after e.told (local.residents k).stays;
 }
 
 accepted : (s : Setting) (n : ℕ) (part : Part) (act : Act) → is_refusal (step_of s part act).told ≡ false →
@@ -295,8 +297,8 @@ reply_brings serving session op round server file Stored before n f goes = refl
 
 heard_act : (site : Site) (local : Local) (m : OwnMessage) → to_server m.body ≡ false → has_session site m.session ≡ true → site.home m.session ≡ site.here → AtHome site local →
     let k : ℕ = m.session in
-    let state : State = state_for site local k in
-    Bridges site local (Some (Comes m (aim_at site.grid (local.residents k)))) None (answer_of k (local.residents k).session.op (local.residents k).session.op)
+    let state : State = state_behind site local m in
+    Bridges site local (Some (Comes m (aim_behind site local m))) None (answer_of k (local.residents k).session.op (local.residents k).session.op)
     (goes_on local k (local.residents k).session.op (heard_servers (local.residents k).session.heard m.server) state (brings m (hear_step site.grid state m (operation state k))))
 heard_act site local m goes inside here home = record {
   does = record {
@@ -321,7 +323,7 @@ heard_act site local m goes inside here home = record {
     heard_before = heard_servers (local.residents k).session.heard m.server
 
     aim : Servers
-    aim = aim_at site.grid (local.residents k)
+    aim = aim_behind site local m
 
     act : Act
     act = Comes m aim
@@ -330,7 +332,7 @@ heard_act site local m goes inside here home = record {
     s = setting_in site local
 
     state : State
-    state = state_for site local k
+    state = state_behind site local m
 
     step : Step
     step = hear_step site.grid state m (operation state k)
@@ -372,8 +374,8 @@ all_letters_act from m site local home = elim (cases_Bool (letter_fits site (lim
           | inr deaf ↦ (passes site local (letter_act from m site local) tell (receives from m site local) (rw (fits, goes, deaf) refl) (rw (fits, goes, deaf) refl) home)
           | inl hears' ↦ (
               let k : ℕ = m.session in
-              let state : State = state_for site local k in
-              bridged_as site local (letter_act from m site local) (Some (Comes m (aim_at site.grid (local.residents k)))) None None tell (receives from m site local)
+              let state : State = state_behind site local m in
+              bridged_as site local (letter_act from m site local) (Some (Comes m (aim_behind site local m))) None None tell (receives from m site local)
               (goes_on local k (local.residents k).session.op (heard_servers (local.residents k).session.heard m.server) state (brings m (hear_step site.grid state m (operation state k))))
               (rw (fits, goes, hears') refl) refl (to_a_session from m site local fits goes ∙ hears_so hears')
               (heard_act site local m goes p.session (its_home site from m goes p.between) home))
@@ -385,7 +387,7 @@ all_letters_act from m site local home = elim (cases_Bool (letter_fits site (lim
     tell = answer_of m.session (local.residents m.session).session.op (local.residents m.session).session.op
 
     hears_so : (has_above (local.residents m.session).session.floor && of_round (operation (state_for site local m.session) m.session) m.file) ≡ true → hears site local m
-        ≡ goes_on local m.session (local.residents m.session).session.op (heard_servers (local.residents m.session).session.heard m.server) (state_for site local m.session) (brings m (hear_step site.grid (state_for site local m.session) m (operation (state_for site local m.session) m.session)))
+        ≡ goes_on local m.session (local.residents m.session).session.op (heard_servers (local.residents m.session).session.heard m.server) (state_behind site local m) (brings m (hear_step site.grid (state_behind site local m) m (operation (state_for site local m.session) m.session)))
     hears_so is = rw is refl
 
     its_home : (site : Site) (from : ℕ) (m : OwnMessage) → to_server m.body ≡ false → goes_between site from m ≡ true → site.home m.session ≡ site.here
@@ -539,8 +541,8 @@ hears_act site local m goes inside here home = elim (cases_Bool (has_above (loca
   | inr deaf ↦ (passes site local (hear_act site local m) tell (hears site local m) (rw deaf refl) (rw deaf refl) home)
   | inl hears' ↦ (
       let k : ℕ = m.session in
-      let state : State = state_for site local k in
-      bridged_as site local (hear_act site local m) (Some (Comes m (aim_at site.grid (local.residents k)))) None None tell (hears site local m)
+      let state : State = state_behind site local m in
+      bridged_as site local (hear_act site local m) (Some (Comes m (aim_behind site local m))) None None tell (hears site local m)
       (goes_on local k (local.residents k).session.op (heard_servers (local.residents k).session.heard m.server) state (brings m (hear_step site.grid state m (operation state k))))
       (rw hears' refl) refl (rw hears' refl) (heard_act site local m goes inside here home))
 ]

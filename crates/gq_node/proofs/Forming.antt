@@ -22,7 +22,7 @@ use Rattle.gq_node.specs.declared.shorts.ShortBody.{ShortBody}
 use Rattle.gq_node.specs.declared.shorts.ShortBody.TheVariants.{AskAbove, Tagged, Confirm, Want}
 use Rattle.gq_node.specs.Forms.{IsFormOf, AllFormsStand, StandsAmong, IsWritten, AllShortsAreWritten}
 use Rattle.gq_node.specs.Local.{Local, Doing, silently, state_of, state_for, serves, hears, letter_fits}
-use Rattle.gq_node.specs.Shorts.{OwnShort, letter_as, short_as, wholly, copy_of, goes_short, takes_tag, asks_above, hears_tag, is_of_store, store_in, column_of, stores_again, confirms, takes_short, body_from, bound_for, short_form}
+use Rattle.gq_node.specs.Shorts.{OwnShort, letter_as, short_as, wholly, copy_of, goes_short, takes_tag, asks_above, hears_tag, is_of_store, store_in, column_of, stores_again, confirms, takes_short, body_from, bound_for, short_form, goes_without}
 use Rattle.gq_node.specs.Sites.{Site, has_session}
 use Rattle.gq_node.proofs.Receiving.{parts}
 use Rattle.gq_node.proofs.Shortly.{asks_short, asks_whole}
@@ -54,8 +54,8 @@ pub forms_stand : AllFormsStand
 forms_stand site local m s is = elim (cases_Bool (has_session site m.session)) [
   | inr outside ↦ (let e : short_form site local m ≡ None = rw outside refl in absurd (none_is_some s (sym e ∙ is)))
   | inl inside ↦ (
-      let e : short_form site local m ≡ option_map (short_as m) (body_from m.body (bound_for site local m) (site.node_at m.server == site.here)) = rw inside refl in
-      form_of m.session m.op m.round m.server m.file m.body (bound_for site local m) (site.node_at m.server == site.here) s (sym e ∙ is))
+      let e : short_form site local m ≡ option_map (short_as m) (body_from m.body (bound_for site local m) (goes_without site local m)) = rw inside refl in
+      form_of m.session m.op m.round m.server m.file m.body (bound_for site local m) (goes_without site local m) s (sym e ∙ is))
 ]
 
 -- ---- the quorum of a column is that column

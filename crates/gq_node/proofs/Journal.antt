@@ -22,7 +22,7 @@ use Rattle.gq_laws.proofs.OperationMoments.{same_file}
 use Rattle.gq_node.specs.declared.output.Admission.{Admission}
 use Rattle.gq_node.specs.declared.output.Admission.TheVariants.{Tells, Passes, Goes}
 use Rattle.gq_cluster.specs.Facts.{OwnFact, Begun, Numbered, Kept, Had, Reserved, greatest_op, greatest_number, last_of_run, reserving, reserved_by}
-use Rattle.gq_node.specs.Local.{Local, Resident, Doing, part_in, state_of, state_for, aim_at, tries_next, asker, begins, admission_in, asks, asked_by, goes_on, answer_of, with_resident, receives, serves, hears, brings, ticks, waits_on, letter_fits, file_fits, has_above, of_round, fits_local, given, recalls, recalled, rested}
+use Rattle.gq_node.specs.Local.{Local, Resident, Doing, part_in, state_of, state_for, state_behind, aim_at, tries_next, asker, begins, admission_in, asks, asked_by, goes_on, answer_of, with_resident, receives, serves, hears, brings, ticks, waits_on, letter_fits, file_fits, has_above, of_round, fits_local, given, recalls, recalled, rested}
 use Rattle.gq_node.specs.Inputs.{Input, Asked, AskedPlan, Brought, Shortened, Ticked, Looked, Joined, Fetching, Fetched, does}
 use Rattle.gq_node.specs.Joining.{hears_joined, all_joined, next_peer, first_lacked, asks_peer, looks, is_peer, has_file, gives, takes}
 use Rattle.gq_node.specs.Resting.{IsBare}
@@ -154,11 +154,11 @@ all_requests_keep op line site local = no_line_keeps op line site local refl
 
 heard_keeps : (site : Site) (local : Local) (m : OwnMessage) → IsHome site m.session →
     let k : ℕ = m.session in
-    let state : State = state_for site local k in
+    let state : State = state_behind site local m in
     Keeps site local (goes_on local k (local.residents k).session.op (heard_servers (local.residents k).session.heard m.server) state (brings m (hear_step site.grid state m (operation state k))))
 heard_keeps site local m inside =
     let k : ℕ = m.session in
-    let state : State = state_for site local k in
+    let state : State = state_behind site local m in
     let step : Step = hear_step site.grid state m (operation state k) in
     told_keeps site local k _ step.told _ inside refl
 
@@ -207,7 +207,7 @@ hears_keep : (site : Site) (local : Local) (m : OwnMessage) → IsHome site m.se
 hears_keep site local m inside = by (has_above (local.residents m.session).session.floor && of_round (operation (state_for site local m.session) m.session) m.file) refl
   where
     by : (b : Bool) → (has_above (local.residents m.session).session.floor && of_round (operation (state_for site local m.session) m.session) m.file) ≡ b → Keeps site local (hears site local m)
-    by true is = let same : hears site local m ≡ goes_on local m.session (local.residents m.session).session.op (heard_servers (local.residents m.session).session.heard m.server) (state_for site local m.session) (brings m (hear_step site.grid (state_for site local m.session) m (operation (state_for site local m.session) m.session))) = rw is refl in
+    by true is = let same : hears site local m ≡ goes_on local m.session (local.residents m.session).session.op (heard_servers (local.residents m.session).session.heard m.server) (state_behind site local m) (brings m (hear_step site.grid (state_behind site local m) m (operation (state_for site local m.session) m.session))) = rw is refl in
         subst (Keeps site local) (sym same) (heard_keeps site local m inside)
     by false is = rw is refl
 

@@ -9,6 +9,7 @@ pub mod Beginning
 pub mod Beginnings
 pub mod Bereaving
 pub mod Bounds
+pub mod Choosing
 pub mod Bridging
 pub mod Counting
 pub mod Events

@@ -28,7 +28,7 @@ use Rattle.gq_node.specs.declared.output.Admission.TheVariants.{Tells, Passes, G
 use Rattle.gq_node.specs.Again.{told_at_home, told_again, AllToldAgain, session_in, number_in, TellsEnd}
 use Rattle.gq_node.specs.Inputs.{Input, Asked, AskedPlan, Brought, Shortened, Ticked, Looked, Joined, Fetching, Fetched, does}
 use Rattle.gq_node.specs.Joining.{hears_joined, all_joined, next_peer, first_lacked, asks_peer, looks, is_peer, has_file, gives, takes}
-use Rattle.gq_node.specs.Local.{Local, Resident, Doing, Brings, given, file_fits, part_in, silently, state_of, state_for, aim_at, with_resident, tries_next, asker, begins, ended, again, own_admission, admission, admission_in, asks, asks_in, asked_by, goes_on, answer_of, refused_with, outcome_after, receives, at_server, serves, hears, brings, ticks, waits_on, letter_fits, has_above, of_round}
+use Rattle.gq_node.specs.Local.{Local, Resident, Doing, Brings, given, file_fits, part_in, silently, state_of, state_for, state_behind, aim_at, with_resident, tries_next, asker, begins, ended, again, own_admission, admission, admission_in, asks, asks_in, asked_by, goes_on, answer_of, refused_with, outcome_after, receives, at_server, serves, hears, brings, ticks, waits_on, letter_fits, has_above, of_round}
 use Rattle.gq_node.specs.Once.{begun_by}
 use Rattle.gq_node.specs.Shorts.{OwnShort, letter_with, takes_short}
 use Rattle.gq_node.specs.Sites.{Site, has_session, is_new, has_node}
@@ -619,7 +619,7 @@ hears_move site local m goes here = by (has_above (local.residents m.session).se
     r = local.residents k
 
     state : State
-    state = state_for site local k
+    state = state_behind site local m
 
     step : Step
     step = hear_step site.grid state m (operation state k)

@@ -44,7 +44,7 @@ begun_leads w t k op shaped within inside =
     let at = placed w t k inside in
     session_state_leads w t k (recalled_session_state (session_state_at w t k) op (session_state_at w t k).reserved_floor) (recalls (Begun k op)) (session_state_there w t k shaped within at) (λ local agrees. record {
       resident = rested (local.residents k) (reserved_by (Some (Begun k op)) (local.residents k).reserved);
-      agrees = record { op = refl; reserved_op = refl; reserved_floor = (session_state_of w t k local agrees at).reserved_floor; sits = (session_state_of w t k local agrees at).reserved_floor; outcome = refl; row = (session_state_of w t k local agrees at).row; column = (session_state_of w t k local agrees at).column; waited = refl };
+      agrees = record { op = refl; reserved_op = refl; reserved_floor = (session_state_of w t k local agrees at).reserved_floor; sits = (session_state_of w t k local agrees at).reserved_floor; outcome = refl; row = (session_state_of w t k local agrees at).row; column = (session_state_of w t k local agrees at).column; waited = refl; stays = refl };
       left = ap (λ (d : Doing). d.local) (recalls_fits (Begun k op) (site_of w.plan w.here t) local inside);
     })
 
@@ -53,7 +53,7 @@ number_leads w t k number shaped within inside =
     let at = placed w t k inside in
     session_state_leads w t k (recalled_session_state (session_state_at w t k) (session_state_at w t k).reserved_op number) (recalls (Numbered k number)) (session_state_there w t k shaped within at) (λ local agrees. record {
       resident = rested (local.residents k) (reserved_by (Some (Numbered k number)) (local.residents k).reserved);
-      agrees = record { op = (session_state_of w t k local agrees at).reserved_op; reserved_op = (session_state_of w t k local agrees at).reserved_op; reserved_floor = refl; sits = refl; outcome = refl; row = (session_state_of w t k local agrees at).row; column = (session_state_of w t k local agrees at).column; waited = refl };
+      agrees = record { op = (session_state_of w t k local agrees at).reserved_op; reserved_op = (session_state_of w t k local agrees at).reserved_op; reserved_floor = refl; sits = refl; outcome = refl; row = (session_state_of w t k local agrees at).row; column = (session_state_of w t k local agrees at).column; waited = refl; stays = refl };
       left = ap (λ (d : Doing). d.local) (recalls_fits (Numbered k number) (site_of w.plan w.here t) local inside);
     })
 

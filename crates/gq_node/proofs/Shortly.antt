@@ -1,6 +1,6 @@
 -- What the tables do by a short letter is what the tenant's part does.
 use Rattle.std.proofs.Common.{◌≡◌, ◌∙◌, ℕ, Bool, true, false, ◌&&◌, List, [], ◌∷◌, refl, sym, ap, subst, Option, Some, None, inl, inr}
-use Rattle.std.specs.Prelude.{◌/◌, option_map, is_some, not, ◌==◌, if◌then◌else◌}
+use Rattle.std.specs.Prelude.{◌||◌, ◌/◌, option_map, is_some, not, ◌==◌, if◌then◌else◌}
 use Rattle.std.proofs.lemmas.Bool.{cases_Bool}
 use Rattle.gq_grid.specs.Grid.{Grid, Servers}
 use Rattle.gq_tag.specs.declared.Tag.{Tag}
@@ -31,9 +31,10 @@ use Rattle.gq_node.specs.declared.shorts.ShortBody.TheVariants.{AskAbove, Tagged
 use Rattle.gq_node.specs.declared.shorts.ShortOutput.{ShortOutput}
 use Rattle.gq_node.specs.Local.{Local, Doing, silently, state_of, state_for, serves, hears, letter_fits}
 use Rattle.gq_node.specs.SessionStates.{GivesNothing}
-use Rattle.gq_node.specs.Shorts.{OwnShort, ShortDoing, own_short, short_with, short_as, letter_as, letter_with, body_with, wholly, copy_of, goes_short, asks_above, says_as_much, takes_tag, hears_tag, is_of_store, store_in, column_of, stores_again, confirms, takes_short, any_tag, bound_by, is_beside, bound_from, body_from, short_body, short_form}
-use Rattle.gq_node.specs.ShortSteps.{GivesOne, GivesShortly, ActsShortly, TakesContent, ShortFormIs, whole_of, reply_as, short_at, form_at, takes_in, stored_for, bound_in, is_beside_in, short_body_at}
+use Rattle.gq_node.specs.Shorts.{OwnShort, ShortDoing, own_short, short_with, short_as, letter_as, letter_with, body_with, wholly, copy_of, goes_short, asks_above, says_as_much, takes_tag, hears_tag, is_of_store, store_in, column_of, stores_again, confirms, takes_short, any_tag, bound_by, is_beside, bound_from, body_from, short_body, short_form, goes_without, bound_for}
+use Rattle.gq_node.specs.ShortSteps.{GivesOne, GivesShortly, ActsShortly, TakesContent, ShortFormIs, whole_of, reply_as, short_at, form_at, takes_in, stored_for, bound_in, is_beside_in, short_body_at, goes_without_at}
 use Rattle.gq_node.specs.Sites.{Site, site_of, has_session}
+use Rattle.gq_node.proofs.Choosing.{confirms_is}
 use Rattle.gq_node.specs.Tables.{Tables, Agrees, Acts, Gives, IsOfPlan, Sits, lacks_at, session_state_at}
 use Rattle.gq_node.proofs.Placing.{same_leads, session_state_of, placed}
 use Rattle.gq_node.proofs.Serving.{serve_acts, limit_is}
@@ -469,9 +470,13 @@ body_there w m local own at agrees =
     ap (λ limit. is_some limit && (not (lacks_at w t f) && rest)) (limit_is w t m.file local own agrees)
     ∙ ap (λ lacks. is_some (limit_at (state_of everyone local) m.file.volume m.file.file) && (not lacks && rest)) (agrees.lacks f) in
     let tag : (copy_at w.store m.file).tag ≡ (copy_of local f).tag = ap (λ (c : StoredCopy). c.tag) (copy_is w t m.file local own agrees) in
-    ap (λ b. body_from m.body (bound_from b (is_beside_in w m) (copy_at w.store m.file).tag) (site.node_at m.server == site.here)) said
-    ∙ ap (λ b. body_from m.body (bound_from (bound_by (operation (state_for site local m.session) m.session)) b (copy_at w.store m.file).tag) (site.node_at m.server == site.here)) beside
-    ∙ ap (λ x. body_from m.body (bound_from (bound_by (operation (state_for site local m.session) m.session)) (is_beside site local (own_message m)) x) (site.node_at m.server == site.here)) tag
+    let own_store : Bool = site.node_at m.server == site.here in
+    let before = session_state_of w t m.session local agrees at in
+    let without : goes_without_at w m ≡ goes_without site local (own_message m) = ap (λ b. own_store || b) (confirms_is w.plan.grid t m.session (session_state_at w t m.session) (local.residents m.session) before) in
+    ap (λ b. body_from m.body (bound_from b (is_beside_in w m) (copy_at w.store m.file).tag) (goes_without_at w m)) said
+    ∙ ap (λ b. body_from m.body (bound_from (bound_by (operation (state_for site local m.session) m.session)) b (copy_at w.store m.file).tag) (goes_without_at w m)) beside
+    ∙ ap (λ x. body_from m.body (bound_from (bound_by (operation (state_for site local m.session) m.session)) (is_beside site local (own_message m)) x) (goes_without_at w m)) tag
+    ∙ ap (body_from m.body (bound_for site local (own_message m))) without
 
 named_at : (m : Message) (body : ShortBody) → m.file.tenant ≡ m.tenant → short_at m body ≡ short_with m.tenant (short_as (own_message m) body)
 named_at m body own = λ i. record { tenant = m.tenant; session = m.session; op = m.op; round = m.round; server = m.server; file = record { tenant = own i; volume = m.file.volume; file = m.file.file }; body = body }

@@ -1,5 +1,5 @@
 -- What a session's state stands for after a message.
-use Rattle.std.proofs.Common.{◌≡◌, ◌≢◌, ◌∙◌, ℕ, ◌<◌, Bool, true, false, Option, Some, None, refl, sym, ap, subst, arith}
+use Rattle.std.proofs.Common.{◌≡◌, ◌≢◌, ◌∙◌, ℕ, ◌-◌, ◌<◌, Bool, true, false, Option, Some, None, refl, sym, ap, subst, arith}
 use Rattle.std.specs.Prelude.{◌&&◌, unwrap_or}
 use Rattle.std.proofs.lemmas.Bool.{lt-ltb}
 use Rattle.gq_grid.specs.Grid.{Grid, Servers}
@@ -13,13 +13,13 @@ use Rattle.gq_phase.specs.declared.Heard.TheVariants.{Stale, Noted, Next, Done}
 use Rattle.gq_phase.specs.declared.operation.Operation.{Operation as Code}
 use Rattle.gq_phase.specs.Phase.{Operation, Heard as Saying, HeardStale, HeardNoted, HeardNext, HeardDone, hear}
 use Rattle.gq_phase.specs.Standing.{StandsAfter, HearsAs, DifferInContent, heard_as, floor_of}
-use Rattle.gq_node.specs.Heard.{heard_run, heard_outcome, heard_waits, HeardGives}
+use Rattle.gq_node.specs.Heard.{heard_run, heard_outcome, heard_waits, heard_stays, HeardGives}
 use Rattle.gq_node.specs.Local.{has_above}
 use Rattle.gq_node.specs.ShortSteps.{TakesContent, with_content}
 use Rattle.gq_node.specs.Tables.{Sits}
 use Rattle.gq_node.specs.declared.output.Output.{Output}
 use Rattle.gq_node.specs.declared.session_states.SessionState.{SessionState}
-use Rattle.gq_node.specs.SessionStates.{TakenIn, has_heard, is_of_round, said_by, operation_after, last_of, last_in, session_state_aim, SessionStateHears, SessionStateAttends, SaysAndGives}
+use Rattle.gq_node.specs.SessionStates.{TakenIn, has_heard, is_of_round, said_by, operation_after, last_of, last_in, session_state_aim_behind, SessionStateHears, SessionStateAttends, SaysAndGives}
 
 -- what the value says is what the operation says
 pub session_state_says : (old new : Code) (floor : ℕ) (up : Servers) (m : Message) (heard : Heard) → HearsAs old new up m heard →
@@ -80,24 +80,31 @@ not_done Noted outcome not = refl
 not_done (Next round tag messages) outcome not = refl
 not_done (Done done) outcome not = absurd (not done refl)
 
-pub session_state_hears : (old : SessionState) (code new : Code) (waited : Bool) (up : Servers) (m : Message) (heard : Heard) → old.operation ≡ Some code → HearsAs code new up m heard → ((x : Outcome) → heard ≡ Done x → ⊥) →
-    waited ≡ heard_waits heard (servers code.heard m.server) old.waited → SessionStateHears old (record old { operation = Some new; waited = waited }) up m heard
-session_state_hears old code new waited up m heard is hears not waits = record {
+pub session_state_hears : (old : SessionState) (code new : Code) (waited : Bool) (stays : ℕ) (up : Servers) (m : Message) (heard : Heard) → old.operation ≡ Some code → HearsAs code new up m heard → ((x : Outcome) → heard ≡ Done x → ⊥) →
+    waited ≡ heard_waits heard (servers code.heard m.server) old.waited → stays ≡ heard_stays heard old.stays → SessionStateHears old (record old { operation = Some new; waited = waited; stays = stays }) up m heard
+session_state_hears old code new waited stays up m heard is hears not waits fewer = record {
   op = refl;
   reserved_op = refl;
   row = refl;
   column = refl;
   outcome = not_done heard old.outcome not;
   waited = waits ∙ ap (λ o. heard_waits heard (has_heard o m.server) old.waited) (sym is);
+  stays = fewer;
   says = λ grid t last o sits. session_state_says code new old.floor up m heard hears grid t last o (rw is at sits);
   sits = λ grid t last o sits. session_state_goes_on code new old.floor up m heard hears not grid t last o (rw is at sits);
 }
 
+fewer : (heard : Heard) (stays : ℕ) → ((x : Outcome) → heard ≡ Done x → ⊥) → (heard ≡ Stale → ⊥) → (heard ≡ Noted → ⊥) → stays - 1 ≡ heard_stays heard stays
+fewer Stale stays done not noted = absurd (not refl)
+fewer Noted stays done not noted = absurd (noted refl)
+fewer (Next round tag messages) stays done not noted = refl
+fewer (Done outcome) stays done not noted = absurd (done outcome refl)
+
 -- what is new ends the waiting
 pub session_state_moves : (old : SessionState) (code new : Code) (up : Servers) (m : Message) (heard : Heard) → old.operation ≡ Some code → HearsAs code new up m heard → ((x : Outcome) → heard ≡ Done x → ⊥) →
-    (heard ≡ Stale → ⊥) → (heard ≡ Noted → ⊥) → SessionStateHears old (record old { operation = Some new; waited = false }) up m heard
+    (heard ≡ Stale → ⊥) → (heard ≡ Noted → ⊥) → SessionStateHears old (record old { operation = Some new; waited = false; stays = old.stays - 1 }) up m heard
 session_state_moves old code new up m heard is hears not stale noted =
-    session_state_hears old code new false up m heard is hears not (sym (not_stale heard (servers code.heard m.server) old.waited stale noted))
+    session_state_hears old code new false (old.stays - 1) up m heard is hears not (sym (not_stale heard (servers code.heard m.server) old.waited stale noted)) (fewer heard old.stays not stale noted)
 
 pub session_state_ends : (old : SessionState) (code new : Code) (floor : ℕ) (up : Servers) (m : Message) (outcome : Outcome) → old.operation ≡ Some code → HearsAs code new up m (Done outcome) → floor ≡ floor_of new →
     SessionStateHears old (record old { floor = floor; operation = None; outcome = Some outcome; waited = false }) up m (Done outcome)
@@ -108,6 +115,7 @@ session_state_ends old code new floor up m outcome is hears own = record {
   column = refl;
   outcome = refl;
   waited = refl;
+  stays = refl;
   says = λ grid t last o sits. session_state_says code new old.floor up m (Done outcome) hears grid t last o (rw is at sits);
   sits = λ grid t last o sits. session_state_rests code new old.floor floor up m outcome hears own grid t last o (rw is at sits);
 }
@@ -120,6 +128,7 @@ session_state_is_empty old up m is = record {
   column = refl;
   outcome = refl;
   waited = refl;
+  stays = refl;
   says = λ grid t last o sits. empty_says old.floor up m grid t last o (rw is at sits);
   sits = λ grid t last o sits. rw is (empty_stays old.floor up m grid t last o (rw is at sits));
 }
@@ -134,25 +143,26 @@ session_state_reserves old heard_by floor up m heard h = record {
   column = h.column;
   outcome = h.outcome;
   waited = h.waited;
+  stays = h.stays;
   says = h.says;
   sits = h.sits;
 }
 
 pub session_state_attends : (t k : ℕ) (grid : Grid) (old heard_by new : SessionState) (up : Servers) (m : Message) (heard : Heard) (run : Option ℕ) (out : Output) →
-    (has_above (last_in old) && is_of_round old.operation (file_place m.file)) ≡ true → up ≡ session_state_aim grid old → SessionStateHears old heard_by up m heard → heard_by.reserved_floor ≡ old.reserved_floor →
+    (has_above (last_in old) && is_of_round old.operation (file_place m.file)) ≡ true → up ≡ session_state_aim_behind grid old m → SessionStateHears old heard_by up m heard → heard_by.reserved_floor ≡ old.reserved_floor →
     run ≡ heard_run heard_by.reserved_floor (last_in heard_by) heard → new ≡ record heard_by { reserved_floor = unwrap_or run heard_by.reserved_floor } → HeardGives t k run heard out → SessionStateAttends t k grid old new m out
 session_state_attends t k grid old heard_by new up m heard run out fits aims hears same reserves after gives =
     let floor : ℕ = unwrap_or run heard_by.reserved_floor in
     let run_is : run ≡ heard_run old.reserved_floor (last_in heard_by) heard = reserves ∙ ap (λ n. heard_run n (last_in heard_by) heard) same in
     let S : Servers → Type 0 = λ x. SessionStateHears old (record heard_by { reserved_floor = floor }) x m heard in
     let G : Option ℕ → Type 0 = λ r. HeardGives t k r heard out in
-    let says : SaysAndGives t k (session_state_aim grid old) old (record heard_by { reserved_floor = floor }) m out = record {
+    let says : SaysAndGives t k (session_state_aim_behind grid old m) old (record heard_by { reserved_floor = floor }) m out = record {
       heard = heard;
       hears = subst S aims (session_state_reserves old heard_by floor up m heard hears);
       reserved = ap (λ r. unwrap_or r heard_by.reserved_floor) run_is ∙ ap (unwrap_or (heard_run old.reserved_floor (last_in heard_by) heard)) same;
       gives = subst G run_is gives;
     } in
-    rw fits (subst (λ (x : SessionState). SaysAndGives t k (session_state_aim grid old) old x m out) (sym after) says)
+    rw fits (subst (λ (x : SessionState). SaysAndGives t k (session_state_aim_behind grid old m) old x m out) (sym after) says)
 
 -- ---- where the messages differ in content
 

@@ -133,7 +133,7 @@ first_agrees plan here w t first within =
       (λ place inside.
           let are : session_states_at w.session_states t ≡ replicate (row_at plan t).sessions (first_session_state plan.grid server) = ap (λ all. session_states_at all t) first.session_states ∙ session_states_are (first_session_state plan.grid server) plan.rows t within in
           let is : session_state_in (session_states_at w.session_states t) place ≡ first_session_state plan.grid server = ap (λ (session_states : List SessionState). session_state_in session_states place) are ∙ get_or-replicate (row_at plan t).sessions place (first_session_state plan.grid server) no_session_state inside in
-          subst (λ (session_state : SessionState). SessionStateAgrees plan.grid t (session_at plan here t place) session_state (new_resident plan.grid server)) (sym is) (record { op = refl; reserved_op = refl; reserved_floor = refl; sits = refl; outcome = refl; row = refl; column = refl; waited = refl })),
+          subst (λ (session_state : SessionState). SessionStateAgrees plan.grid t (session_at plan here t place) session_state (new_resident plan.grid server)) (sym is) (record { op = refl; reserved_op = refl; reserved_floor = refl; sits = refl; outcome = refl; row = refl; column = refl; waited = refl; stays = refl })),
     ) in
     let h : P w.plan w.here = subst (λ p. P p w.here) (sym first.plan_is) (subst (P plan) (sym first.here_is) all) in
     record {

@@ -80,8 +80,8 @@ collects_there grid t k floor code session (Some task) sits = collects_is code.c
 
 -- the next row or column of both
 tries_agrees : (grid : Grid) (t k : ℕ) (session_state : SessionState) (r : Resident) (collects : Bool) → SessionStateAgrees grid t k session_state r → SessionStateAgrees grid t k (session_state_tries grid collects session_state) (tries_next grid collects r)
-tries_agrees grid t k session_state r true a = record { op = a.op; reserved_op = a.reserved_op; reserved_floor = a.reserved_floor; sits = a.sits; outcome = a.outcome; row = ap (next_of grid.rows) a.row; column = a.column; waited = a.waited }
-tries_agrees grid t k session_state r false a = record { op = a.op; reserved_op = a.reserved_op; reserved_floor = a.reserved_floor; sits = a.sits; outcome = a.outcome; row = a.row; column = ap (next_of grid.cols) a.column; waited = a.waited }
+tries_agrees grid t k session_state r true a = record { op = a.op; reserved_op = a.reserved_op; reserved_floor = a.reserved_floor; sits = a.sits; outcome = a.outcome; row = ap (next_of grid.rows) a.row; column = a.column; waited = a.waited; stays = a.stays }
+tries_agrees grid t k session_state r false a = record { op = a.op; reserved_op = a.reserved_op; reserved_floor = a.reserved_floor; sits = a.sits; outcome = a.outcome; row = a.row; column = ap (next_of grid.cols) a.column; waited = a.waited; stays = refl }
 
 ticked : (w : Tables) (t k : ℕ) (session_state : SessionState) (messages : Option (List Message)) (out : Output) (local : Local) (code : Code) (waited : Bool) → IsOfPlan w t k → (session_state_at w t k).operation ≡ Some code → (session_state_at w t k).waited ≡ waited →
     TicksIn w.plan.grid waited (session_state_at w t k) session_state messages → IsSent messages out → Agrees w t local → Ticked w t k session_state out local
@@ -95,7 +95,7 @@ ticked w t k session_state messages out local code false at is waits h sent agre
     let sits : P (Some code) = subst P is before.sits in
     let step : ticks k site local ≡ waits_on site local k false = busy_is k site local (some_there grid t k old.floor code r.session r.session.current sits) ∙ ap (waits_on site local k) (sym before.waited ∙ waits) in
     let now : SessionStateAgrees grid t k (record old { waited = true }) (record r { waited = true }) =
-    record { op = before.op; reserved_op = before.reserved_op; reserved_floor = before.reserved_floor; sits = before.sits; outcome = before.outcome; row = before.row; column = before.column; waited = refl } in
+    record { op = before.op; reserved_op = before.reserved_op; reserved_floor = before.reserved_floor; sits = before.sits; outcome = before.outcome; row = before.row; column = before.column; waited = refl; stays = before.stays } in
     record {
       settles = record {
         resident = record r { waited = true };

@@ -11,7 +11,7 @@ use Rattle.gq_node.specs.declared.output.Answer.{Answer}
 use Rattle.gq_node.specs.declared.output.Answer.TheVariants.{Has, Bad as IsBad}
 use Rattle.gq_node.specs.declared.output.Admission.{Admission}
 use Rattle.gq_node.specs.declared.output.Admission.TheVariants.{Tells, Passes, Goes}
-use Rattle.gq_node.specs.Local.{Local, Doing, part_in, state_of, state_for, aim_at, tries_next, answer_of, asker, begins, admission_in, asks, holding, tells_holding, receives, ticks, letter_fits, has_above, of_round}
+use Rattle.gq_node.specs.Local.{Local, Doing, part_in, state_of, state_for, aim_at, aim_behind, tries_next, answer_of, asker, begins, admission_in, asks, holding, tells_holding, receives, ticks, letter_fits, has_above, of_round}
 use Rattle.gq_node.specs.declared.shorts.ShortBody.{ShortBody}
 use Rattle.gq_node.specs.declared.shorts.ShortBody.TheVariants.{AskAbove, Tagged, Confirm, Want}
 use Rattle.gq_node.specs.Shorts.{OwnShort, letter_with, copy_of, takes_tag, store_in, column_of}
@@ -59,7 +59,7 @@ letter_act from m site local = by (letter_fits site (limit_at (state_of everyone
   where
     heard : Bool → Option Act
     heard false = None
-    heard true = Some (Comes m (aim_at site.grid (local.residents m.session)))
+    heard true = Some (Comes m (aim_behind site local m))
 
     to_its_end : Bool → Option Act
     to_its_end true = if local.lacks m.file then None else Some (Comes m everyone)
@@ -72,7 +72,7 @@ letter_act from m site local = by (letter_fits site (limit_at (state_of everyone
 -- a session hears the letter, unless no number is above its own last one, or the letter is of another file than the round
 abbrev pub hear_act : Site → Local → OwnMessage → Option Act
 hear_act site local m =
-    if has_above (local.residents m.session).session.floor && of_round (operation (state_for site local m.session) m.session) m.file then Some (Comes m (aim_at site.grid (local.residents m.session))) else None
+    if has_above (local.residents m.session).session.floor && of_round (operation (state_for site local m.session) m.session) m.file then Some (Comes m (aim_behind site local m)) else None
 
 -- a store that goes out once more is a retry at the column of that server
 abbrev pub again_act : Site → Local → OwnMessage → Option Act

@@ -1,5 +1,5 @@
 -- What is told, sent and kept where an operation says this to a letter, over the code's types.
-use Rattle.std.specs.Prelude.{ℕ, ◌≡◌, ◌&&◌, nat_le, Bool, false, Option, Some, None, option_map, if◌then◌else◌}
+use Rattle.std.specs.Prelude.{ℕ, ◌-◌, ◌≡◌, ◌&&◌, nat_le, Bool, false, Option, Some, None, option_map, if◌then◌else◌}
 use Rattle.gq_phase.specs.Standing.{messages_of}
 use Rattle.gq_phase.specs.declared.Outcome.{Outcome}
 use Rattle.gq_phase.specs.declared.Heard.{Heard}
@@ -35,6 +35,11 @@ abbrev pub heard_waits : Heard → (heard_before waited : Bool) → Bool
 heard_waits Stale heard_before waited = waited
 heard_waits Noted heard_before waited = heard_before && waited
 heard_waits _ heard_before waited = false
+
+-- a round that begins is one less of those for which the session stays in its own column
+abbrev pub heard_stays : Heard → (stays : ℕ) → ℕ
+heard_stays (Next round tag messages) stays = stays - 1
+heard_stays _ stays = stays
 
 -- the outcome of the last operation
 abbrev pub heard_outcome : Heard → Option Outcome → Option Outcome

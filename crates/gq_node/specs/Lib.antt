@@ -4,6 +4,7 @@ pub mod Apart
 pub mod Asking
 pub mod Bounds
 pub mod Bridge
+pub mod Columns
 pub mod Deciding
 pub mod Forms
 pub mod Heard

@@ -23,12 +23,14 @@ use Rattle.gq_node.specs.declared.output.Admission.{Admission}
 use Rattle.gq_node.specs.declared.output.Admission.TheVariants.{Tells, Passes, Goes}
 use Rattle.gq_cluster.specs.Cluster.{Part, everyone, state_of as state_of_part}
 use Rattle.gq_cluster.specs.Facts.{OwnFact, Begun, Numbered, Kept, Had, Reserved, none_reserved, greatest_number, reserving, reserved_by, replaced_in}
+use Rattle.gq_node.specs.Columns.{column_behind, rounds_stayed, stays_after}
 use Rattle.gq_node.specs.Sites.{Site, has_session, nodes_from, aim, next_of}
 
 -- ---- a tenant's part
 
 -- a session of the tenant: the model's, the last numbers that are reserved for it, the outcome of its last operation if that was done
--- since the start, the row and the column that it tries, and whether a tick came since it last heard something new
+-- since the start, the row and the column that it tries, whether a tick came since it last heard something new, and for how many rounds more it
+-- stores in its own column, and whole
 pub record Resident : Type 0 where
   pub session : Session
   pub reserved : Reserved
@@ -36,6 +38,7 @@ pub record Resident : Type 0 where
   pub row : ℕ
   pub column : ℕ
   pub waited : Bool
+  pub stays : ℕ
 
 -- what the node has of the tenant
 pub record Local : Type 0 where
@@ -52,7 +55,7 @@ pub record Local : Type 0 where
 
 -- a session that tries the row and the column of this server
 abbrev pub new_resident : Grid → ℕ → Resident
-new_resident grid server = record { session = new_session; reserved = none_reserved; outcome = None; row = server / grid.cols; column = server % grid.cols; waited = false }
+new_resident grid server = record { session = new_session; reserved = none_reserved; outcome = None; row = server / grid.cols; column = server % grid.cols; waited = false; stays = 0 }
 
 -- of the node of that server which was never started, with these volumes
 abbrev pub new_local : Grid → ℕ → List VolumeRow → Local
@@ -73,6 +76,15 @@ aim_at grid r = aim grid r.row r.column
 -- the answers for session k, by whom it asks
 abbrev pub state_for : Site → Local → ℕ → State
 state_for site local k = state_of (aim_at site.grid (local.residents k)) local
+
+-- whom session k asks, and sends to, behind a letter that it hears; and the answers for it then
+abbrev pub aim_behind : Site → Local → OwnMessage → Servers
+aim_behind site local m =
+    let r : Resident = local.residents m.session in
+    aim site.grid r.row (column_behind site.grid r.stays r.column (operation (state_for site local m.session) m.session) m)
+
+abbrev pub state_behind : Site → Local → OwnMessage → State
+state_behind site local m = state_of (aim_behind site local m) local
 
 -- session k is another one
 abbrev pub with_resident : Local → ℕ → Resident → Local
@@ -145,6 +157,7 @@ goes_on local k op heard_before state e = record {
     reserved = reserved_by (session_fact local k state e) (local.residents k).reserved;
     outcome = outcome_after e.told (local.residents k).outcome;
     waited = waits_after e.told heard_before (local.residents k).waited;
+    stays = stays_after e.told (local.residents k).stays;
   });
   answer = answer_of k op (local.residents k).session.op e.told;
   letters = e.new;
@@ -296,12 +309,13 @@ abbrev pub of_round : Option Operation → File → Bool
 of_round None file = true
 of_round (Some o) file = is_file file (round_file o.task o.round)
 
--- a session hears the letter, unless no number is above its own last one, or the letter is of another file than the round
+-- a session hears the letter, unless no number is above its own last one, or the letter is of another file than the round. What it then stores goes to the
+-- column of one who gave it the copy, if it was given it
 abbrev pub hears : Site → Local → OwnMessage → Doing
 hears site local m = by (has_above (local.residents m.session).session.floor && of_round (operation (state_for site local m.session) m.session) m.file)
   where
     state : State
-    state = state_for site local m.session
+    state = state_behind site local m
 
     by : Bool → Doing
     by false = silently local
@@ -322,10 +336,10 @@ receives from m site local = by (letter_fits site (limit_at (state_of everyone l
 
 -- ---- a tick
 
--- the resident tries the next row where its round collects, else the next column
+-- the resident tries the next row where its round collects, else the next column, where it stays for some rounds
 abbrev pub tries_next : Grid → (collects : Bool) → Resident → Resident
 tries_next grid true r = record r { row = next_of grid.rows r.row }
-tries_next grid false r = record r { column = next_of grid.cols r.column }
+tries_next grid false r = record r { column = next_of grid.cols r.column; stays = rounds_stayed }
 
 -- a tick comes to session k, which has waited or not
 abbrev pub waits_on : Site → Local → ℕ → Bool → Doing
@@ -353,7 +367,7 @@ ticks k site local = by (is_some (local.residents k).session.current)
 
 -- a session that has no operation, and goes on behind these numbers
 abbrev pub rested : Resident → Reserved → Resident
-rested r reserved = record { session = record new_session { op = reserved.op; floor = reserved.floor }; reserved = reserved; outcome = None; row = r.row; column = r.column; waited = false }
+rested r reserved = record { session = record new_session { op = reserved.op; floor = reserved.floor }; reserved = reserved; outcome = None; row = r.row; column = r.column; waited = false; stays = 0 }
 
 -- the server has one copy of the file more; and was given the file
 abbrev pub with_copy : File → StoredCopy → Local → Local

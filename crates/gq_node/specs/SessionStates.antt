@@ -1,19 +1,22 @@
 -- What a letter and a tick do in a session, whatever is known of it.
-use Rattle.std.specs.Prelude.{◌≡◌, ℕ, ◌+◌, ◌<◌, ◌&&◌, List, [], Bool, true, false, Option, Some, None, unwrap_or}
+use Rattle.std.specs.Prelude.{◌≡◌, ℕ, ◌+◌, ◌<◌, ◌&&◌, ◌==◌, if◌then◌else◌, List, [], Bool, true, false, Option, Some, None, unwrap_or}
 use Rattle.gq_grid.specs.Grid.{Grid, Servers}
+use Rattle.gq_grid.specs.Sets.{servers}
+use Rattle.gq_phase.specs.Best.{givers_with}
 use Rattle.gq_tag.specs.declared.Message.{Message}
 use Rattle.gq_tag.specs.Tag.{File, file_place, is_file, OwnMessage, own_message}
 use Rattle.gq_phase.specs.declared.Heard.{Heard}
 use Rattle.gq_phase.specs.declared.ResendRefused.TheVariants.{NoQuorum}
 use Rattle.gq_phase.specs.declared.operation.Operation.{Operation as Code}
 use Rattle.gq_phase.specs.Phase.{Operation, Heard as Saying, HeardStale, HeardNoted, HeardNext, HeardDone, hear, with_reply, moved}
-use Rattle.gq_phase.specs.Standing.{heard_as, floor_of, heard_of, is_collecting, its_file, IsGoing, ResendsAs, RefusesAs, DifferInContent, last_number}
+use Rattle.gq_phase.specs.Standing.{heard_as, floor_of, heard_of, is_collecting, its_file, IsGoing, ResendsAs, RefusesAs, DifferInContent, is_current_as, last_number, reads}
 use Rattle.gq_node.specs.declared.session_states.SessionState.{SessionState}
 use Rattle.gq_node.specs.Sites.{aim, next_of}
 use Rattle.gq_node.specs.Tables.{Sits}
 use Rattle.gq_node.specs.declared.output.Output.{Output}
 use Rattle.gq_node.specs.Local.{has_above}
-use Rattle.gq_node.specs.Heard.{new_run, heard_run, heard_outcome, heard_waits, HeardGives}
+use Rattle.gq_node.specs.Columns.{column_among, rounds_stayed}
+use Rattle.gq_node.specs.Heard.{new_run, heard_run, heard_outcome, heard_waits, heard_stays, HeardGives}
 use Rattle.gq_cluster.specs.Facts.{greatest_op}
 
 -- the session's own last number
@@ -30,11 +33,34 @@ rested_session_state session_state = record session_state { floor = last_in sess
 
 -- a session state of a start, for which these numbers are reserved
 abbrev pub recalled_session_state : SessionState → ℕ → ℕ → SessionState
-recalled_session_state session_state op floor = record session_state { op = op; floor = floor; reserved_op = op; reserved_floor = floor; operation = None; outcome = None; waited = false }
+recalled_session_state session_state op floor = record session_state { op = op; floor = floor; reserved_op = op; reserved_floor = floor; operation = None; outcome = None; waited = false; stays = 0 }
 
 -- whom the session state asks
 abbrev pub session_state_aim : Grid → SessionState → Servers
 session_state_aim grid session_state = aim grid session_state.row session_state.column
+
+-- whether others are asked to confirm the copy that its operation stores
+abbrev pub confirms_by : (stays : ℕ) → Option Code → Bool
+confirms_by stays None = false
+confirms_by stays (Some code) = reads code.task && stays == 0
+
+abbrev pub confirms_in : SessionState → Bool
+confirms_in session_state = confirms_by session_state.stays session_state.operation
+
+-- the servers that told the greatest copy, with what the message says where it is of the round
+abbrev pub givers_behind : Code → Message → Servers
+givers_behind code m = if is_current_as code m then givers_with code.best (servers code.givers) m.server m.body else servers code.givers
+
+-- the column that it stores in behind the message, and whom it asks, and sends to, then
+abbrev pub column_by : Grid → (stays column : ℕ) → Option Code → Message → ℕ
+column_by grid stays column None m = column
+column_by grid stays column (Some code) m = if reads code.task && stays == 0 then column_among grid (givers_behind code m) column else column
+
+abbrev pub session_state_column : Grid → SessionState → Message → ℕ
+session_state_column grid session_state m = column_by grid session_state.stays session_state.column session_state.operation m
+
+abbrev pub session_state_aim_behind : Grid → SessionState → Message → Servers
+session_state_aim_behind grid session_state m = aim grid session_state.row (session_state_column grid session_state m)
 
 -- whether the server was heard in the round of this operation
 abbrev pub has_heard : Option Code → ℕ → Bool
@@ -77,6 +103,7 @@ pub record SessionStateHears (old new : SessionState) (up : Servers) (message : 
   pub column : new.column ≡ old.column
   pub outcome : new.outcome ≡ heard_outcome heard old.outcome
   pub waited : new.waited ≡ heard_waits heard (has_heard old.operation message.server) old.waited
+  pub stays : new.stays ≡ heard_stays heard old.stays
   pub says : (grid : Grid) (t last : ℕ) (o : Option Operation) → Sits grid t old.floor old.operation last o → heard ≡ heard_as t (said_by grid up o (own_message message))
   pub sits : (grid : Grid) (t last : ℕ) (o : Option Operation) → Sits grid t old.floor old.operation last o →
       Sits grid t new.floor new.operation (last_of last o) (operation_after o (own_message message) (said_by grid up o (own_message message)))
@@ -103,10 +130,10 @@ ResendsIn None up (Some messages) = ⊥
 ResendsIn (Some code) up (Some messages) = ResendsAs code up messages
 ResendsIn (Some code) up None = RefusesAs code up NoQuorum
 
--- the session state tries the next row where its round collects, else the next column
+-- the session state tries the next row where its round collects, else the next column, where it stays for some rounds
 abbrev pub session_state_tries : Grid → Bool → SessionState → SessionState
 session_state_tries grid true session_state = record session_state { row = next_of grid.rows session_state.row }
-session_state_tries grid false session_state = record session_state { column = next_of grid.cols session_state.column }
+session_state_tries grid false session_state = record session_state { column = next_of grid.cols session_state.column; stays = rounds_stayed }
 
 -- what a tick does to a session state that has waited, or has not, and what is sent
 abbrev pub TicksIn : Grid → Bool → SessionState → SessionState → Option (List Message) → Type 0
@@ -141,4 +168,4 @@ SessionStateAttends t k grid old new message out = by (has_above (last_in old) &
   where
     by : Bool → Type 0
     by false = (new ≡ old) × GivesNothing out
-    by true = SaysAndGives t k (session_state_aim grid old) old new message out
+    by true = SaysAndGives t k (session_state_aim_behind grid old message) old new message out

@@ -1,5 +1,5 @@
 -- What a node's tables do by a short letter, and by a copy of which the tag alone came.
-use Rattle.std.specs.Prelude.{◌≡◌, ℕ, ◌/◌, [], ◌∷◌, Bool, false, ◌==◌, ◌&&◌, not, Option, Some, None, is_some, option_map, if◌then◌else◌}
+use Rattle.std.specs.Prelude.{◌≡◌, ℕ, ◌/◌, [], ◌∷◌, Bool, false, ◌==◌, ◌&&◌, ◌||◌, not, Option, Some, None, is_some, option_map, if◌then◌else◌}
 use Rattle.gq_grid.specs.Sets.{servers}
 use Rattle.gq_tag.specs.declared.Tag.{Tag}
 use Rattle.gq_tag.specs.declared.StoredCopy.{StoredCopy}
@@ -19,6 +19,7 @@ use Rattle.gq_node.specs.declared.shorts.ShortBody.{ShortBody}
 use Rattle.gq_node.specs.declared.shorts.ShortOutput.{ShortOutput}
 use Rattle.gq_node.specs.Local.{Local, hears}
 use Rattle.gq_node.specs.Shorts.{ShortDoing, short_with, any_tag, bound_from, body_from, short_form}
+use Rattle.gq_node.specs.SessionStates.{confirms_in}
 use Rattle.gq_node.specs.Sites.{Site, plan_in, site_of, has_session}
 use Rattle.gq_node.specs.Tables.{Tables, Acts, Agrees, Gives, Leads, lacks_at, session_state_at}
 
@@ -93,8 +94,11 @@ is_beside_in w m =
 abbrev pub bound_at : Tables → Message → Option Tag
 bound_at w m = bound_from (bound_in (session_state_at w m.tenant m.session).operation) (is_beside_in w m) (copy_at w.store m.file).tag
 
+abbrev pub goes_without_at : Tables → Message → Bool
+goes_without_at w m = (node_at (plan_in w.here.lost) m.server == w.here.node) || confirms_in (session_state_at w m.tenant m.session)
+
 abbrev pub short_body_at : Tables → Message → Option ShortBody
-short_body_at w m = body_from m.body (bound_at w m) (node_at (plan_in w.here.lost) m.server == w.here.node)
+short_body_at w m = body_from m.body (bound_at w m) (goes_without_at w m)
 
 abbrev pub form_at : Tables → Message → Option Short
 form_at w m = if has_session (site_of w.plan w.here m.tenant) m.session then option_map (short_at m) (short_body_at w m) else None

@@ -1,7 +1,7 @@
 -- Letters in short forms, with a tag in place of a copy: what a short letter stands for, and what a tenant's part does by one.
 --
 -- A short letter does not say the content of its copy. So a step is said for each content: nothing that is told, sent or kept depends on it.
-use Rattle.std.specs.Prelude.{ℕ, ◌/◌, ◌%◌, List, [], ◌∷◌, Bool, true, false, ◌==◌, ◌&&◌, not, Option, Some, None, is_some, option_map, if◌then◌else◌}
+use Rattle.std.specs.Prelude.{ℕ, ◌/◌, ◌%◌, List, [], ◌∷◌, Bool, true, false, ◌==◌, ◌&&◌, ◌||◌, not, Option, Some, None, is_some, option_map, if◌then◌else◌}
 use Rattle.gq_grid.specs.Grid.{Grid, Servers, column_servers}
 use Rattle.gq_tag.specs.declared.Tag.{Tag}
 use Rattle.gq_tag.specs.declared.StoredCopy.{StoredCopy}
@@ -17,6 +17,7 @@ use Rattle.gq_cluster.specs.Facts.{greatest_number}
 use Rattle.gq_node.specs.declared.shorts.Short.{Short}
 use Rattle.gq_node.specs.declared.shorts.ShortBody.{ShortBody}
 use Rattle.gq_node.specs.declared.shorts.ShortBody.TheVariants.{AskAbove, Tagged, Confirm, Want}
+use Rattle.gq_node.specs.Columns.{asks_to_confirm}
 use Rattle.gq_node.specs.Local.{Local, Doing, silently, state_of, state_for, serves, hears, letter_fits}
 use Rattle.gq_node.specs.Sites.{Site, has_session}
 
@@ -179,14 +180,18 @@ bound_from None beside own = if beside then above_first own else None
 abbrev pub bound_for : Site → Local → OwnMessage → Option Tag
 bound_for site local m = bound_from (bound_by (operation (state_for site local m.session) m.session)) (is_beside site local m) (copy_of local m.file).tag
 
--- An ask goes with that tag; a store to the node's own server goes without its content, which the server has from the session. All else goes whole.
-abbrev pub body_from : Body → Option Tag → (is_own : Bool) → Option ShortBody
-body_from Ask bound is_own = option_map AskAbove bound
-body_from (Store copy) bound is_own = if is_own then Some (Confirm copy.tag) else None
-body_from _ bound is_own = None
+-- An ask goes with that tag, a store without its content or whole. All else goes whole.
+abbrev pub body_from : Body → Option Tag → (without : Bool) → Option ShortBody
+body_from Ask bound without = option_map AskAbove bound
+body_from (Store copy) bound without = if without then Some (Confirm copy.tag) else None
+body_from _ bound without = None
+
+-- whether a store goes without its content: to the node's own server, which has it from the session, and to others where these are asked to confirm it
+abbrev pub goes_without : Site → Local → OwnMessage → Bool
+goes_without site local m = (site.node_at m.server == site.here) || asks_to_confirm (local.residents m.session).stays (operation (state_for site local m.session) m.session)
 
 abbrev pub short_body : Site → Local → OwnMessage → Option ShortBody
-short_body site local m = body_from m.body (bound_for site local m) (site.node_at m.server == site.here)
+short_body site local m = body_from m.body (bound_for site local m) (goes_without site local m)
 
 -- of a letter that the part writes
 abbrev pub short_form : Site → Local → OwnMessage → Option OwnShort

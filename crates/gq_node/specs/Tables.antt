@@ -37,11 +37,11 @@ pub record Tables : Type 0 where
 
 -- a session that began nothing
 abbrev pub no_session_state : SessionState
-no_session_state = record { op = 0; floor = 0; reserved_op = 0; reserved_floor = 0; operation = None; outcome = None; row = 0; column = 0; waited = false }
+no_session_state = record { op = 0; floor = 0; reserved_op = 0; reserved_floor = 0; operation = None; outcome = None; row = 0; column = 0; waited = false; stays = 0 }
 
 -- and one that tries the row and the column of this server
 abbrev pub first_session_state : Grid → ℕ → SessionState
-first_session_state grid server = record { op = 0; floor = 0; reserved_op = 0; reserved_floor = 0; operation = None; outcome = None; row = server / grid.cols; column = server % grid.cols; waited = false }
+first_session_state grid server = record { op = 0; floor = 0; reserved_op = 0; reserved_floor = 0; operation = None; outcome = None; row = server / grid.cols; column = server % grid.cols; waited = false; stays = 0 }
 
 -- the sessions of the tenant at place t, and the one at a place of them
 abbrev pub session_states_at : List (List SessionState) → ℕ → List SessionState
@@ -99,6 +99,7 @@ pub record SessionStateAgrees (grid : Grid) (t k : ℕ) (session_state : Session
   pub row : session_state.row ≡ r.row
   pub column : session_state.column ≡ r.column
   pub waited : session_state.waited ≡ r.waited
+  pub stays : session_state.stays ≡ r.stays
 
 -- the tables have for the tenant at place t this part of the node
 pub record Agrees (w : Tables) (t : ℕ) (local : Local) : Type 0 where

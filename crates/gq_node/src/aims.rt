@@ -4,6 +4,7 @@ ghost use Rattle.std.specs.Prelude.{◌≡◌, ◌+◌, ◌*◌, ◌%◌, ◌<�
 ghost use Rattle.gq_grid.specs.Grid.{row_servers, column_servers, either};
 ghost use Rattle.gq_grid.specs.Sets.{servers};
 ghost use Rattle.gq_grid.specs.declared.TheConstants.{MOST_SERVERS};
+ghost use Rattle.gq_node.specs.Columns.{column_among, stands_in};
 ghost use Rattle.gq_node.specs.Sites.{aim, next_of};
 
 use gq_grid::{Grid, ServerSet};
@@ -41,6 +42,36 @@ pub(crate) fn aim(grid: &Grid, row: u32, column: u32) -> ServerSet
     let mut set = row_set(grid, row as usize % grid.rows());
     add_column(grid, &mut set, column as usize % grid.cols());
     set
+}
+
+// Whether one of the servers stands in the column.
+fn stands_in(grid: &Grid, set: ServerSet, column: usize) -> bool
+    requires { column < grid.now.cols }
+    ensures { result ≡ stands_in grid.now (servers set) column }
+{
+    let cols = grid.cols();
+    for row in 0..grid.rows() {
+        if set.has(row * cols + column) {
+            return true;
+        }
+    }
+    false
+}
+
+/// The column that a session stores in, where these servers gave it its copy: its own if one of them stands there, else the first in
+/// which one does.
+pub(crate) fn column_among(grid: &Grid, set: ServerSet, column: u32) -> u32
+    ensures { result ≡ column_among grid.now (servers set) column }
+{
+    if stands_in(grid, set, column as usize % grid.cols()) {
+        return column;
+    }
+    for first in 0..grid.cols() {
+        if stands_in(grid, set, first) {
+            return first as u32;
+        }
+    }
+    column
 }
 
 /// The row, or the column, after that one, of so many.

@@ -5,6 +5,7 @@ ghost use Rattle.gq_node.specs.Forms.{AllFormsStand, AllShortsAreWritten};
 ghost use Rattle.gq_node.specs.Nodes.{AllNodesFollow, AllNodesServe, AllVolumesOpen};
 ghost use Rattle.gq_node.specs.Once.{AllAgainLeave, AllTakeOnce, AllBeginNamed, AllBeginOnce};
 ghost use Rattle.gq_node.specs.Apart.{AllCallsAct, AllCallsByParts, AllTenantsApart};
+ghost use Rattle.gq_node.specs.Columns.{AllStoresGoWhereGiven};
 ghost use Rattle.gq_node.specs.Progress.{AllRowsAreTried, AllColumnsAreTried};
 ghost use Rattle.gq_node.specs.Aims.{AllAimsHaveQuorums, AllRequestsHaveQuorums};
 ghost use Rattle.gq_node.specs.Bridge.{AllRequestsAct, AllQuestionsTell, AllLettersAct, AllTicksAct};
@@ -90,4 +91,10 @@ pub fn ticks()
 pub fn short_forms()
     ensures forms { AllFormsStand }
     ensures written { AllShortsAreWritten }
+{}
+
+/// What a read or a listing was given it stores where others have it: where it asks others to confirm the copy, one who told the greatest
+/// tag of its collect round stands in the column that it asks.
+pub fn stores_where_given()
+    ensures columns { AllStoresGoWhereGiven }
 {}

@@ -8,7 +8,7 @@ ghost use Rattle.gq_tag.specs.declared.Message.{Message};
 ghost use Rattle.gq_phase.specs.Best.{copied_number};
 ghost use Rattle.gq_cluster.specs.Facts.{greatest_op, greatest_number, last_of_run};
 
-use crate::aims::{aim, next_of};
+use crate::aims::{aim, column_among, next_of};
 use crate::output::{Admission, Answer, Output, ended, heard_output};
 use gq_cluster::NUMBERS_IN_A_RUN;
 use gq_grid::{Grid, ServerSet};
@@ -20,7 +20,8 @@ use std::marker::Model;
 
 /// A session: the number of its last operation, its operation if it has one, its own last number while it has none, the last numbers
 /// that are reserved for it, of its operations and of its tags, the outcome of its last operation if that was done since the start, the
-/// row and the column that it tries, and whether a tick came since it last heard something new.
+/// row and the column that it tries, whether a tick came since it last heard something new, and for how many rounds more it stores in
+/// its own column, and whole.
 #[derive(Drop)]
 pub(crate) struct SessionState {
     pub(crate) op: u32,
@@ -32,7 +33,11 @@ pub(crate) struct SessionState {
     pub(crate) row: u32,
     pub(crate) column: u32,
     pub(crate) waited: bool,
+    pub(crate) stays: u32,
 }
+
+/// For so many rounds a session stores in its own column, and whole, once a store of it had to go out again.
+const ROUNDS_STAYED: u32 = 256;
 
 /// The sessions of a tenant. Session `k` has place `k - 1`.
 #[derive(Drop)]
@@ -78,6 +83,7 @@ impl SessionStates {
                 row,
                 column,
                 waited: false,
+                stays: 0,
             });
         }
         Ok(SessionStates { items })
@@ -162,7 +168,7 @@ fn last_number_of_run(first: u64) -> u64
 
 impl SessionState {
     ghost use Rattle.gq_node.specs.Heard.{new_run, heard_run};
-    ghost use Rattle.gq_node.specs.SessionStates.{SessionStateHears, SessionStateAttends, SessionStateTicks, TakenIn, ResendsIn, FloorIsBelow, Goes, last_in, busy_session_state, rested_session_state, recalled_session_state, is_of_round, collects_in, session_state_tries};
+    ghost use Rattle.gq_node.specs.SessionStates.{SessionStateHears, SessionStateAttends, SessionStateTicks, TakenIn, ResendsIn, FloorIsBelow, Goes, last_in, busy_session_state, rested_session_state, recalled_session_state, is_of_round, collects_in, session_state_tries, confirms_in, session_state_column};
     ghost use Rattle.gq_node.specs.Local.{again, own_admission};
 
     // The number of the session's last operation is reserved from now on. Answers the last number of the run that had to be
@@ -236,6 +242,7 @@ impl SessionState {
         self.operation = None;
         self.outcome = None;
         self.waited = false;
+        self.stays = 0;
     }
 
     // A letter comes to the session, where the servers of `up` are up.
@@ -264,9 +271,32 @@ impl SessionState {
                 Ok(Heard::Noted)
             }
             heard => {
-                self.waited = false;
+                self.move_on();
                 Ok(heard)
             }
+        }
+    }
+
+    // Whether the session's operation is a read or a listing, of which other nodes confirm that they have the copy.
+    pub(crate) fn confirms(&self) -> bool
+        ensures { result ≡ confirms_in self.now }
+    {
+        match &self.operation {
+            Some(operation) => !operation.writes() && self.stays == 0,
+            None => false,
+        }
+    }
+
+    // The column that the session stores in behind the letter: one of those that gave it its copy, if it is to be confirmed there.
+    fn column_behind(&self, grid: &Grid, message: &Message) -> u32
+        requires { message.now.server < MOST_SERVERS }
+        ensures { result ≡ session_state_column grid.now self.now message.now }
+    {
+        match &self.operation {
+            Some(operation) if self.confirms() => {
+                column_among(grid, operation.givers_after(message), self.column)
+            }
+            _ => self.column,
         }
     }
 
@@ -299,7 +329,8 @@ impl SessionState {
         if self.last() == u64::MAX || !self.is_of_round(message.file) {
             return Ok(Output::nothing(alloc));
         }
-        let heard = self.hear(message, aim(grid, self.row, self.column))?;
+        let column = self.column_behind(grid, message);
+        let heard = self.hear(message, aim(grid, self.row, column))?;
         let run = self.reserve_for(&heard);
         heard_output(alloc, message.tenant, message.session, run, heard)
     }
@@ -321,6 +352,14 @@ impl SessionState {
         ensures { self.new ≡ record self.old { waited = heard_before && self.old.waited } }
     {
         self.waited = heard_before && self.waited;
+    }
+
+    // A round begins.
+    fn move_on(&mut self)
+        ensures { self.new ≡ record self.old { waited = false; stays = self.old.stays - 1 } }
+    {
+        self.waited = false;
+        self.stays = self.stays.saturating_sub(1);
     }
 
     // The session's operation is done with that outcome, and this is its own last number.
@@ -349,7 +388,7 @@ impl SessionState {
         }
     }
 
-    // The session tries the next row where its round collects, else the next column.
+    // The session tries the next row where its round collects, else the next column, where it stays for some rounds.
     fn try_next(&mut self, grid: &Grid)
         ensures { self.new ≡ session_state_tries grid.now (collects_in self.old.operation) self.old }
     {
@@ -361,6 +400,7 @@ impl SessionState {
             self.row = next_of(grid.rows(), self.row);
         } else {
             self.column = next_of(grid.cols(), self.column);
+            self.stays = ROUNDS_STAYED;
         }
     }
 

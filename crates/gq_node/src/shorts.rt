@@ -8,7 +8,8 @@ ghost use Rattle.gq_replace.specs.Plans.{place_of};
 ghost use Rattle.gq_node.specs.Local.{file_fits};
 ghost use Rattle.gq_node.specs.Sites.{site_of, has_session};
 ghost use Rattle.gq_node.specs.Shorts.{body_with, own_short, short_with, letter_as, takes_short, above_first, asks_above, goes_short, hears_tag, confirms, stores_again};
-ghost use Rattle.gq_node.specs.ShortSteps.{whole_of, reply_as, short_at, takes_in, stored_for, bound_in, is_beside_in, bound_at, short_body_at, GivesOne, ActsShortly, ShortFormIs, form_at};
+ghost use Rattle.gq_node.specs.ShortSteps.{whole_of, reply_as, short_at, takes_in, stored_for, bound_in, is_beside_in, bound_at, short_body_at, goes_without_at, GivesOne, ActsShortly, ShortFormIs, form_at};
+ghost use Rattle.gq_node.specs.SessionStates.{confirms_in};
 ghost use Rattle.gq_node.specs.Tables.{session_state_at};
 
 use crate::homes::{home, session_state_place};
@@ -330,6 +331,15 @@ impl Core {
         self.session_states[tenant as usize].items[session_state_place(session)].bound()
     }
 
+    // Whether the session's operation is a read or a listing, of which other nodes confirm that they have the copy.
+    fn confirms(&self, tenant: u8, session: u32) -> bool
+        requires tenant { tenant < length self.now.plan.rows }
+        requires has { has_session (site_of self.now.plan self.now.here tenant) session ≡ true }
+        ensures { result ≡ confirms_in (session_state_at self.now tenant session) }
+    {
+        self.session_states[tenant as usize].items[session_state_place(session)].confirms()
+    }
+
     // Whether the node's own server is another one of the row of the letter's, and has a copy of the file.
     fn is_beside(&self, message: &Message) -> bool
         requires tenant { message.now.tenant < length self.now.plan.rows }
@@ -361,6 +371,17 @@ impl Core {
         above_first(self.store.tag(message.file))
     }
 
+    // Whether a store goes without its content: the server has it from the session where that is of its node, and has it most likely
+    // where the session read it.
+    fn goes_without(&self, message: &Message) -> bool
+        requires tenant { message.now.tenant < length self.now.plan.rows }
+        requires has { has_session (site_of self.now.plan self.now.here message.now.tenant) message.now.session ≡ true }
+        ensures { result ≡ goes_without_at self.now message.now }
+    {
+        self.lost.node_at(message.server as usize) == self.node
+            || self.confirms(message.tenant, u32::from(message.session))
+    }
+
     // What the short form of the letter says, if it has one.
     fn short_body(&self, message: &Message) -> Option<ShortBody>
         requires tenant { message.now.tenant < length self.now.plan.rows }
@@ -370,9 +391,7 @@ impl Core {
     {
         match &message.body {
             Body::Ask => self.bound_of(message).map(|tag| ShortBody::AskAbove(tag)),
-            Body::Store(copy) if self.lost.node_at(message.server as usize) == self.node => {
-                Some(ShortBody::Confirm(copy.tag))
-            }
+            Body::Store(copy) if self.goes_without(message) => Some(ShortBody::Confirm(copy.tag)),
             _ => None,
         }
     }

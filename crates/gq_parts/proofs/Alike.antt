@@ -23,8 +23,9 @@ use Rattle.gq_node.specs.declared.output.Answer.{Answer}
 use Rattle.gq_node.specs.declared.output.Answer.TheVariants.{Refused as IsRefused, Away, Old, Early, Bad as IsBad}
 use Rattle.gq_model.specs.declared.events.Refusal.TheVariants.{NoSession}
 use Rattle.gq_node.specs.Joining.{all_files, files_in_volume, lacked_files, hears_joined, all_joined, first_lacked, next_peer, asks_peer, looks, is_peer, has_file, gives, takes}
-use Rattle.gq_node.specs.Local.{Local, Resident, Doing, Wants, Brings, part_in, state_of, state_for, aim_at, tries_next, with_resident, silently, tells, answer_of, outcome_after, waits_after, goes_on, asker, begins, ended, asked_by, asks, letter_fits, file_fits, has_above, of_round, brings, serves, hears, receives, waits_on, ticks, with_copy, given}
-use Rattle.gq_node.specs.Sites.{Site, has_session, is_new, has_node}
+use Rattle.gq_node.specs.Columns.{column_behind, stays_after}
+use Rattle.gq_node.specs.Local.{Local, Resident, Doing, Wants, Brings, part_in, state_of, state_for, state_behind, aim_at, tries_next, with_resident, silently, tells, answer_of, outcome_after, waits_after, goes_on, asker, begins, ended, asked_by, asks, letter_fits, file_fits, has_above, of_round, brings, serves, hears, receives, waits_on, ticks, with_copy, given}
+use Rattle.gq_node.specs.Sites.{Site, has_session, is_new, has_node, aim}
 use Rattle.gq_node.proofs.Receiving.{Parts, parts, session_here, to_a_session, to_the_server, has_it, lacks_it}
 use Rattle.gq_parts.specs.Alike.{is_own_session, is_file_in, AreAlike, DoSame}
 use Rattle.gq_parts.proofs.Knowing.{takes_it}
@@ -82,6 +83,7 @@ goes_same site a b k m n g h sa sb ea eb own ops heards sessions tolds news alik
         reserved = reserved_by (reserving k (r i).reserved (tolds i) (sessions i).floor) (r i).reserved;
         outcome = outcome_after (tolds i) (r i).outcome;
         waited = waits_after (tolds i) (heards i) (r i).waited;
+        stays = stays_after (tolds i) (r i).stays;
       }) alike;
       answer = λ i. answer_of k (ops i) (r i).session.op (tolds i);
       letters = news;
@@ -305,8 +307,11 @@ served_same site a b m alike there has also = of m.session m.op m.round m.server
 abbrev hears_it : Site → OwnMessage → Resident → Bool
 hears_it site m r = has_above r.session.floor && of_round (operation (alone site [] r) m.session) m.file
 
+abbrev alone_behind : Site → OwnMessage → List VolumeRow → Resident → State
+alone_behind site m volumes r = lone volumes (aim site.grid r.row (column_behind site.grid r.stays r.column (operation (alone site [] r) m.session) m)) r
+
 abbrev hearing : Site → OwnMessage → List VolumeRow → Resident → Step
-hearing site m volumes r = hear_step site.grid (alone site volumes r) m (operation (alone site volumes r) m.session)
+hearing site m volumes r = hear_step site.grid (alone_behind site m volumes r) m (operation (alone site volumes r) m.session)
 
 -- a session hears it
 pub heard_same : (site : Site) (a b : Local) (m : OwnMessage) → is_own_session site m.session ≡ true → AreAlike site a b → DoSame site (hears site a m) (hears site b m)
@@ -325,15 +330,15 @@ heard_same site a b m own alike = by (hears_it site m (b.residents m.session)) r
     by false is = let also : hears_it site m (a.residents m.session) ≡ false = same ∙ is in same_as site (hears site a m) (silently a) (hears site b m) (silently b) (rw also refl) (rw is refl) (silent_same site a b alike)
     by true is =
         let also : hears_it site m (a.residents m.session) ≡ true = same ∙ is in
-        let sa : State = state_for site a m.session in
-        let sb : State = state_for site b m.session in
+        let sa : State = state_behind site a m in
+        let sb : State = state_behind site b m in
         let ea : Entry = brings m (hear_step site.grid sa m (operation sa m.session)) in
         let eb : Entry = brings m (hear_step site.grid sb m (operation sb m.session)) in
         same_as site (hears site a m) (goes_on a m.session (a.residents m.session).session.op (heard_servers (a.residents m.session).session.heard m.server) sa ea)
         (hears site b m) (goes_on b m.session (b.residents m.session).session.op (heard_servers (b.residents m.session).session.heard m.server) sb eb) (rw also refl) (rw is refl)
         (goes_same site a b m.session (a.residents m.session).session.op (b.residents m.session).session.op (heard_servers (a.residents m.session).session.heard m.server) (heard_servers (b.residents m.session).session.heard m.server) sa sb ea eb own
         (λ i. (r i).session.op) (λ i. heard_servers (r i).session.heard m.server)
-        (λ i. (changed (brings m (hearing site m (vs i) (r i))) (alone site (vs i) (r i))).session m.session) (λ i. (hearing site m (vs i) (r i)).told) (λ i. (hearing site m (vs i) (r i)).new) alike)
+        (λ i. (changed (brings m (hearing site m (vs i) (r i))) (alone_behind site m (vs i) (r i))).session m.session) (λ i. (hearing site m (vs i) (r i)).told) (λ i. (hearing site m (vs i) (r i)).new) alike)
 
 pub receives_same : (from : ℕ) (m : OwnMessage) (site : Site) (a b : Local) → AreAlike site a b → DoSame site (receives from m site a) (receives from m site b)
 receives_same from m site a b alike = by (letter_fits site (limit b) from m) refl

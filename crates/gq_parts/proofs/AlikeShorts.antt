@@ -1,6 +1,6 @@
 -- Parts that are alike do the same by a short letter, and write letters in the same forms.
 use Rattle.std.proofs.Common.{◌≡◌, ◌∙◌, ℕ, Bool, true, false, List, [], ◌∷◌, refl, sym, ap, Option, Some, None, inl, inr}
-use Rattle.std.specs.Prelude.{◌==◌, ◌&&◌, not, is_some, option_map, if◌then◌else◌, ◌/◌}
+use Rattle.std.specs.Prelude.{◌||◌, ◌==◌, ◌&&◌, not, is_some, option_map, if◌then◌else◌, ◌/◌}
 use Rattle.std.proofs.lemmas.Bool.{cases_Bool}
 use Rattle.gq_grid.specs.Grid.{no_servers}
 use Rattle.gq_tag.specs.declared.Tag.{Tag}
@@ -15,6 +15,7 @@ use Rattle.gq_node.specs.declared.shorts.ShortBody.{ShortBody}
 use Rattle.gq_node.specs.declared.shorts.ShortBody.TheVariants.{AskAbove, Tagged, Confirm, Want}
 use Rattle.gq_node.specs.declared.output.Answer.TheVariants.{Has}
 use Rattle.gq_node.specs.Inputs.{Input, Asked, AskedPlan, Brought, Shortened, Ticked, Looked, Joined, Fetching, Fetched}
+use Rattle.gq_node.specs.Columns.{asks_to_confirm}
 use Rattle.gq_node.specs.Local.{Local, Resident, Doing, silently, state_of, state_for, holding, letter_fits, serves, hears}
 use Rattle.gq_node.specs.Shorts.{OwnShort, ShortDoing, letter_as, letter_with, short_as, wholly, copy_of, goes_short, takes_tag, asks_above, hears_tag, store_in, column_of, stores_again, confirms, takes_short, bound_by, is_beside, bound_from, bound_for, body_from, short_form}
 use Rattle.gq_node.specs.Sites.{Site, has_session}
@@ -224,6 +225,16 @@ bounds_same site a b m alike = elim (cases_Bool (is_own_session site m.session))
       ap bound_by (one ∙ sym two))
 ]
 
+asked_same : (site : Site) (a b : Local) (m : OwnMessage) → AreAlike site a b →
+    asks_to_confirm (a.residents m.session).stays (operation (state_for site a m.session) m.session) ≡ asks_to_confirm (b.residents m.session).stays (operation (state_for site b m.session) m.session)
+asked_same site a b m alike = elim (cases_Bool (is_own_session site m.session)) [
+  | inl own ↦ (ap (λ (r : Resident). asks_to_confirm r.stays (option_map (operation_with m.session r.session) r.session.current)) (alike.residents m.session own))
+  | inr not' ↦ (
+      let one : operation (state_for site a m.session) m.session ≡ None = ap (option_map (operation_with m.session (a.residents m.session).session)) (alike.idle m.session not').0 in
+      let two : operation (state_for site b m.session) m.session ≡ None = ap (option_map (operation_with m.session (b.residents m.session).session)) (alike.idle m.session not').1 in
+      ap (asks_to_confirm (a.residents m.session).stays) one ∙ sym (ap (asks_to_confirm (b.residents m.session).stays) two))
+]
+
 beside_same : (site : Site) (a b : Local) (m : OwnMessage) → AreAlike site a b → is_beside site a m ≡ is_beside site b m
 beside_same site a b m alike = elim (cases_Bool (is_file_in b m.file)) [
   | inl there ↦ (
@@ -236,4 +247,4 @@ pub forms_same : (site : Site) (a b : Local) (m : OwnMessage) → AreAlike site 
 forms_same site a b m alike =
     let bound : bound_for site a m ≡ bound_for site b m =
     λ i. bound_from (bounds_same site a b m alike i) (beside_same site a b m alike i) (alike.copies m.file i).tag in
-    ap (λ (tag : Option Tag). if has_session site m.session then option_map (short_as m) (body_from m.body tag (site.node_at m.server == site.here)) else None) bound
+    λ i. if has_session site m.session then option_map (short_as m) (body_from m.body (bound i) ((site.node_at m.server == site.here) || asked_same site a b m alike i)) else None

@@ -31,10 +31,10 @@ use Rattle.gq_parts.proofs.WorkedTables.{file, site, View, tables_of, Sees, agre
 -- what a start makes of a fact: session 1 rests behind the numbers that are reserved for it; the server has one copy more
 abbrev pub recalled_view : OwnFact → View → View
 recalled_view (Begun k op) v = record v {
-  one = record { op = op; floor = v.one.reserved_floor; reserved_op = op; reserved_floor = v.one.reserved_floor; operation = None; outcome = None; row = v.one.row; column = v.one.column; waited = false };
+  one = record { op = op; floor = v.one.reserved_floor; reserved_op = op; reserved_floor = v.one.reserved_floor; operation = None; outcome = None; row = v.one.row; column = v.one.column; waited = false; stays = 0 };
 }
 recalled_view (Numbered k number) v = record v {
-  one = record { op = v.one.reserved_op; floor = number; reserved_op = v.one.reserved_op; reserved_floor = number; operation = None; outcome = None; row = v.one.row; column = v.one.column; waited = false };
+  one = record { op = v.one.reserved_op; floor = number; reserved_op = v.one.reserved_op; reserved_floor = number; operation = None; outcome = None; row = v.one.row; column = v.one.column; waited = false; stays = 0 };
 }
 recalled_view (Kept f copy) v = record v { copy = newer_of v.copy copy }
 recalled_view (Had f copy) v = record v { copy = newer_of v.copy copy; given = (true ∷ []) ∷ [] }
@@ -168,7 +168,7 @@ begun_reads op v said = record {
     lacks = sees.lacks;
     joined = sees.joined;
     peer = sees.peer;
-    one = record { op = refl; reserved_op = refl; reserved_floor = sees.one.reserved_floor; sits = sees.one.reserved_floor; outcome = refl; row = sees.one.row; column = sees.one.column; waited = refl };
+    one = record { op = refl; reserved_op = refl; reserved_floor = sees.one.reserved_floor; sits = sees.one.reserved_floor; outcome = refl; row = sees.one.row; column = sees.one.column; waited = refl; stays = refl };
     two = sees.two;
   };
 }
@@ -184,7 +184,7 @@ numbered_reads number v said = record {
     lacks = sees.lacks;
     joined = sees.joined;
     peer = sees.peer;
-    one = record { op = sees.one.reserved_op; reserved_op = sees.one.reserved_op; reserved_floor = refl; sits = refl; outcome = refl; row = sees.one.row; column = sees.one.column; waited = refl };
+    one = record { op = sees.one.reserved_op; reserved_op = sees.one.reserved_op; reserved_floor = refl; sits = refl; outcome = refl; row = sees.one.row; column = sees.one.column; waited = refl; stays = refl };
     two = sees.two;
   };
 }

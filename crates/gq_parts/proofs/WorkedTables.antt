@@ -132,6 +132,7 @@ idle_state r = record {
   row = r.row;
   column = r.column;
   waited = r.waited;
+  stays = r.stays;
 }
 
 -- ---- sets of servers
@@ -186,8 +187,8 @@ begun_sees n first p = record {
   lacks = lacks_all n p;
   joined = no_set_is;
   peer = refl;
-  one = record { op = refl; reserved_op = refl; reserved_floor = refl; sits = refl; outcome = refl; row = refl; column = refl; waited = refl };
-  two = record { op = refl; reserved_op = refl; reserved_floor = refl; sits = refl; outcome = refl; row = refl; column = refl; waited = refl };
+  one = record { op = refl; reserved_op = refl; reserved_floor = refl; sits = refl; outcome = refl; row = refl; column = refl; waited = refl; stays = refl };
+  two = record { op = refl; reserved_op = refl; reserved_floor = refl; sits = refl; outcome = refl; row = refl; column = refl; waited = refl; stays = refl };
 }
 
 pub is_begun : (n first p : ℕ) → IsNewNode grid_worked.plan (here_in grid_worked p n) (volumes_in grid_worked p) (first_in grid_worked first) (tables_of n p (begun_view n first p))

@@ -59,7 +59,7 @@ home_view copy one two = record { copy = copy; given = []; joined = record { bit
 
 abbrev pub idle_one : (op : ℕ) → Reserved → Option Outcome → Bool → SessionState
 idle_one op reserved outcome waited =
-    record { op = op; floor = op; reserved_op = reserved.op; reserved_floor = reserved.floor; operation = None; outcome = outcome; row = 0; column = 0; waited = waited }
+    record { op = op; floor = op; reserved_op = reserved.op; reserved_floor = reserved.floor; operation = None; outcome = outcome; row = 0; column = 0; waited = waited; stays = 0 }
 
 abbrev pub idle_view : (op : ℕ) → Rest → View
 idle_view op s = home_view s.copy (idle_one op s.reserved s.outcome s.waited) s.two
@@ -84,7 +84,7 @@ code_of op heard = record {
 
 abbrev busy_one : (op : ℕ) → Reserved → ServerSet → SessionState
 busy_one op reserved heard =
-    record { op = op; floor = op; reserved_op = reserved.op; reserved_floor = reserved.floor; operation = Some (code_of op heard); outcome = None; row = 0; column = 0; waited = false }
+    record { op = op; floor = op; reserved_op = reserved.op; reserved_floor = reserved.floor; operation = Some (code_of op heard); outcome = None; row = 0; column = 0; waited = false; stays = 0 }
 
 abbrev pub busy_view : (op : ℕ) → StoredCopy → Reserved → ServerSet → SessionState → View
 busy_view op copy reserved heard two = home_view copy (busy_one op reserved heard) two
@@ -112,6 +112,7 @@ resting_is op reserved outcome waited r agrees =
       row = sym agrees.row j;
       column = sym agrees.column j;
       waited = sym agrees.waited j;
+      stays = sym agrees.stays j;
     }
 
 -- the task, where there is an operation
@@ -146,6 +147,7 @@ writing_is op reserved heard r agrees =
         row = sym agrees.row j;
         column = sym agrees.column j;
         waited = sym agrees.waited j;
+        stays = sym agrees.stays j;
       };
       heard_is = has.stands.heard;
     }
@@ -289,7 +291,7 @@ asked_steps i s low number fits = record {
             lacks = home_lacks;
             joined = sees.joined;
             peer = sees.peer;
-            one = record { op = refl; reserved_op = refl; reserved_floor = refl; sits = none_stands (i + 1); outcome = refl; row = refl; column = refl; waited = refl };
+            one = record { op = refl; reserved_op = refl; reserved_floor = refl; sits = none_stands (i + 1); outcome = refl; row = refl; column = refl; waited = refl; stays = refl };
             two = sees.two;
           });
           facts_are = comes.facts;
@@ -359,7 +361,7 @@ kept_steps i c reserved two low = record {
             lacks = home_lacks;
             joined = sees.joined;
             peer = sees.peer;
-            one = record { op = refl; reserved_op = refl; reserved_floor = refl; sits = one_stands (i + 1); outcome = refl; row = refl; column = refl; waited = refl };
+            one = record { op = refl; reserved_op = refl; reserved_floor = refl; sits = one_stands (i + 1); outcome = refl; row = refl; column = refl; waited = refl; stays = refl };
             two = sees.two;
           });
           facts_are = comes.facts ∙ ap (λ x. map (fact_of 0) (flat_map option_to_list (replaced_in x file (Store (written (i + 1))) ∷ []))) (sym sees.copy);
@@ -475,7 +477,7 @@ done_steps i c reserved two low = record {
             lacks = home_lacks;
             joined = sees.joined;
             peer = sees.peer;
-            one = record { op = refl; reserved_op = refl; reserved_floor = refl; sits = refl; outcome = refl; row = refl; column = refl; waited = refl };
+            one = record { op = refl; reserved_op = refl; reserved_floor = refl; sits = refl; outcome = refl; row = refl; column = refl; waited = refl; stays = refl };
             two = sees.two;
           });
           facts_are = comes.facts;

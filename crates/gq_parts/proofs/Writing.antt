@@ -52,6 +52,7 @@ resting op round heard collected reserved outcome waited = record {
   row = 0;
   column = 0;
   waited = waited;
+  stays = 0;
 }
 
 -- and while it writes
@@ -63,6 +64,7 @@ writing op floor round heard collected reserved outcome waited = record {
   row = 0;
   column = 0;
   waited = waited;
+  stays = 0;
 }
 
 abbrev pub home_local : (File → List StoredCopy) → Servers → (peer : ℕ) → (ℕ → Resident) → Resident → Local
