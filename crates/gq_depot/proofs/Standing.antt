@@ -29,7 +29,7 @@ use Rattle.gq_depot.specs.declared.answer.Answered.{Answered}
 use Rattle.gq_depot.specs.declared.answer.ChunkAnswer.{ChunkAnswer}
 use Rattle.gq_depot.specs.declared.answer.ChunkAnswer.TheVariants.{NoSession, Kept}
 use Rattle.gq_depot.specs.declared.answer.ListedChunk.{ListedChunk}
-use Rattle.gq_depot.specs.Depots.{Placed, Standing, place_in, placed_of, placed, book_in, standing_of, forgotten, after_fact, IsSame, LeadsTo, StandsIn, FactIsSure}
+use Rattle.gq_depot.specs.Depots.{Placed, place_in, placed_of, placed, book_in, standing_of, forgotten, after_fact, IsSame, LeadsTo, FactIsSure}
 use Rattle.gq_depot.specs.declared.depot.Depot.{Depot}
 use Rattle.gq_depot.specs.declared.fact.ChunkFact.{ChunkFact}
 use Rattle.gq_depot.specs.declared.fact.ChunkFact.TheVariants.{Put, Forgot, Filled}

@@ -6,10 +6,9 @@ use Rattle.std.proofs.lemmas.Option.{same_Some, slice_get-get_or}
 use Rattle.gq_shelf.specs.Notes.{Noted}
 use Rattle.gq_ledger.specs.Steps.{Book, with_at}
 use Rattle.gq_stock.specs.Forgetting.{is_in_any}
-use Rattle.gq_stock.specs.declared.run.Run.{Run}
 use Rattle.gq_depot.specs.Depots.{Placed, Standing, standing_of, forgotten, after_fact, IsSame}
-use Rattle.gq_depot.specs.Tenants.{Step, TakesOwn, ApartFrom}
-use Rattle.gq_depot.specs.Laws.{Did, Takes, Ran, RanAlone, own_with, own, Apart, after_all, FactsRemake}
+use Rattle.gq_depot.specs.Tenants.{Step, TakesOwn}
+use Rattle.gq_depot.specs.Laws.{Did, Ran, RanAlone, own_with, own, Apart, after_all, FactsRemake}
 use Rattle.gq_depot.specs.declared.answer.Answered.{Answered}
 use Rattle.gq_depot.specs.declared.depot.Depot.{Depot}
 use Rattle.gq_depot.specs.declared.fact.ChunkFact.{ChunkFact}

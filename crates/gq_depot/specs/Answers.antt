@@ -6,7 +6,7 @@ use Rattle.gq_shelf.specs.declared.extent.Extent.{Extent}
 use Rattle.gq_ledger.specs.Ledgers.{book_of}
 use Rattle.gq_ledger.specs.Steps.{Book}
 use Rattle.gq_stock.specs.Finding.{FoundAs}
-use Rattle.gq_stock.specs.Held.{Held, held_by, contents}
+use Rattle.gq_stock.specs.Held.{held_by, contents}
 use Rattle.gq_stock.specs.Keeping.{ToldAs}
 use Rattle.gq_stock.specs.Stocks.{used_in, DamagedIn}
 use Rattle.gq_stock.specs.declared.chunk.Chunk.{Chunk}
