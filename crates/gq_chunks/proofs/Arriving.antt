@@ -5,7 +5,7 @@ use Rattle.gq_desk.specs.CheckedPlan.{CheckedPlan}
 use Rattle.gq_text.specs.Words.{Word}
 use Rattle.gq_text.specs.Input.{place_named}
 use Rattle.gq_chunks.specs.Facts.{own_fact_by, chunk_fact_of_words}
-use Rattle.gq_chunks.specs.declared.fact.ChunkFact.{ChunkFact}
+use Rattle.gq_depot.specs.declared.fact.ChunkFact.{ChunkFact}
 
 -- a verb, a tenant, and its fact
 pub fact_arrives : (plan : CheckedPlan) (words rest : List Word) (verb name : Word) (t : ℕ) → words ≡ verb ∷ name ∷ rest → place_named plan name ≡ Some t → option_map (λ (fact : ChunkFact). (t, fact)) (own_fact_by verb rest) ≡ chunk_fact_of_words plan words

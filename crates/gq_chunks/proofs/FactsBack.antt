@@ -13,8 +13,8 @@ use Rattle.gq_wire.proofs.ValuesBack.{name_is_plain, place_back}
 use Rattle.gq_journal.specs.Batches.{is_one_line, is_sealing}
 use Rattle.gq_chunks.specs.Facts.{sure_digit, sure_of, place_verb, place_words, verb_of, own_words, chunk_fact_line, chunk_fact_of_words, own_fact_by}
 use Rattle.gq_chunks.specs.Laws.{FitsPlace, FitsFact, FactsReadBack, FactsStandInBatches}
-use Rattle.gq_chunks.specs.declared.fact.ChunkFact.{ChunkFact}
-use Rattle.gq_chunks.specs.declared.fact.ChunkFact.TheVariants.{Put, Forgot, Filled}
+use Rattle.gq_depot.specs.declared.fact.ChunkFact.{ChunkFact}
+use Rattle.gq_depot.specs.declared.fact.ChunkFact.TheVariants.{Put, Forgot, Filled}
 
 -- ---- words without a space
 

@@ -9,8 +9,8 @@ use Rattle.gq_text.proofs.Plain.{is_plain, are_plain, decimal_plain, long_plain}
 use Rattle.gq_text.proofs.LinesBack.{words_back}
 use Rattle.gq_chunks.specs.Requests.{quoted_word, request_words, chunk_request_by}
 use Rattle.gq_chunks.specs.Laws.{FitsRequest, RequestsReadBack}
-use Rattle.gq_chunks.specs.declared.request.ChunkRequest.{ChunkRequest}
-use Rattle.gq_chunks.specs.declared.request.ChunkRequest.TheVariants.{Keep, Get, Forget, List as ListChunks, Room}
+use Rattle.gq_depot.specs.declared.request.ChunkRequest.{ChunkRequest}
+use Rattle.gq_depot.specs.declared.request.ChunkRequest.TheVariants.{Keep, Get, Forget, List as ListChunks, Room}
 
 quoted_plain : (bytes : List ℕ) → is_plain (quoted_word bytes) ≡ true
 quoted_plain bytes = bytes_are_a_word bytes

@@ -10,8 +10,8 @@ use Rattle.gq_text.specs.Words.{Word, words_of, number_of}
 use Rattle.gq_text.specs.Input.{◌>>=◌, place_named}
 use Rattle.gq_text.specs.AnswerText.{bytes_word, spaced, line_text}
 use Rattle.gq_wire.specs.Values.{number_then, long_then, last_content, alone}
-use Rattle.gq_chunks.specs.declared.fact.ChunkFact.{ChunkFact}
-use Rattle.gq_chunks.specs.declared.fact.ChunkFact.TheVariants.{Put, Forgot, Filled}
+use Rattle.gq_depot.specs.declared.fact.ChunkFact.{ChunkFact}
+use Rattle.gq_depot.specs.declared.fact.ChunkFact.TheVariants.{Put, Forgot, Filled}
 
 -- ---- written
 

@@ -9,10 +9,10 @@ use Rattle.gq_text.specs.Words.{words_after}
 use Rattle.gq_journal.specs.Batches.{is_batch_line}
 use Rattle.gq_chunks.specs.Facts.{chunk_fact_line, chunk_fact_of_line}
 use Rattle.gq_chunks.specs.Requests.{request_words, chunk_request_by}
-use Rattle.gq_chunks.specs.declared.request.ChunkRequest.{ChunkRequest}
-use Rattle.gq_chunks.specs.declared.request.ChunkRequest.TheVariants.{Keep, Get, Forget, List as ListChunks, Room}
-use Rattle.gq_chunks.specs.declared.fact.ChunkFact.{ChunkFact}
-use Rattle.gq_chunks.specs.declared.fact.ChunkFact.TheVariants.{Put, Forgot, Filled}
+use Rattle.gq_depot.specs.declared.request.ChunkRequest.{ChunkRequest}
+use Rattle.gq_depot.specs.declared.request.ChunkRequest.TheVariants.{Keep, Get, Forget, List as ListChunks, Room}
+use Rattle.gq_depot.specs.declared.fact.ChunkFact.{ChunkFact}
+use Rattle.gq_depot.specs.declared.fact.ChunkFact.TheVariants.{Put, Forgot, Filled}
 
 -- the numbers of an extent fit in 32 and 64 bits, as those of each extent do
 abbrev pub FitsPlace : Place → Type 0

@@ -6,8 +6,8 @@ use Rattle.gq_quote.specs.Quote.{quoted, unquoted}
 use Rattle.gq_text.specs.Words.{Word, content_of}
 use Rattle.gq_text.specs.Input.{◌>>=◌}
 use Rattle.gq_wire.specs.Values.{number_then, long_then, alone}
-use Rattle.gq_chunks.specs.declared.request.ChunkRequest.{ChunkRequest}
-use Rattle.gq_chunks.specs.declared.request.ChunkRequest.TheVariants.{Keep, Get, Forget, List as ListChunks, Room}
+use Rattle.gq_depot.specs.declared.request.ChunkRequest.{ChunkRequest}
+use Rattle.gq_depot.specs.declared.request.ChunkRequest.TheVariants.{Keep, Get, Forget, List as ListChunks, Room}
 
 -- ---- as a tenant writes it
 

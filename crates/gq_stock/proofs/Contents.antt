@@ -1,11 +1,13 @@
 -- Steps of chunks are steps of contents.
-use Rattle.std.proofs.Common.{◌≡◌, ℕ, Bool, true, false, List, Option, Some, None, refl, sym, ap, ◌∙◌}
+use Rattle.std.proofs.Common.{◌≡◌, ◌≢◌, ℕ, Bool, true, false, List, Option, Some, None, refl, sym, ap, ◌∙◌}
 use Rattle.std.specs.Prelude.{IsSome, option_map, is_some, nat_le, ◌==◌, if◌then◌else◌}
+use Rattle.std.proofs.lemmas.Bool.{ne_eqb}
 use Rattle.gq_shelf.specs.declared.extent.Extent.{Extent}
 use Rattle.gq_shelf.specs.Places.{content_at}
 use Rattle.gq_ledger.specs.Steps.{Book, Keeps, Gives, Leads, after_step, may_keep, with_at}
 use Rattle.gq_stock.specs.Held.{held_by, contents}
 use Rattle.gq_stock.specs.Forgetting.{is_in_any, ForgotAs}
+use Rattle.gq_stock.specs.Keeping.{ChangesOnly}
 use Rattle.gq_stock.specs.declared.chunk.Chunk.{Chunk}
 use Rattle.gq_stock.specs.declared.run.Run.{Run}
 
@@ -57,3 +59,15 @@ given_held written old new n chunk bytes is leads = record {
 
 pub forgot_held : (written : Extent → List ℕ) (old new : Book Chunk) (floor : ℕ) (runs : List Run) → ForgotAs old floor runs new → ForgotAs (contents written old) floor runs (contents written new)
 forgot_held written old new floor runs forgot = record { at = λ n. ap (option_map (held_by written)) (forgot.at n) ∙ map_none written (is_in_any n runs) (old.at n); risen = forgot.risen }
+
+-- nothing else changes with a chunk that was kept
+pub keeps_alone : {T : Type 0} (old new : Book T) (n : ℕ) (x : T) → Leads old (Keeps n x) new → ChangesOnly old n new
+keeps_alone {T} old new n x leads = record { others = λ m other. leads.at m ∙ at (may_keep old n) m other; floor = leads.floor ∙ floor (may_keep old n) }
+  where
+    at : (t : Bool) (m : ℕ) → m ≢ n → (if t then with_at old n (Some x) else old).at m ≡ old.at m
+    at true m other = ap (λ (t : Bool). if t then Some x else old.at m) (ne_eqb m n other)
+    at false m other = refl
+
+    floor : (t : Bool) → (if t then with_at old n (Some x) else old).floor ≡ old.floor
+    floor true = refl
+    floor false = refl

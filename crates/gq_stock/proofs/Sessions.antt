@@ -8,13 +8,14 @@ use Rattle.std.specs.Prelude.{Result, Ok, Err, IfOk, OnErr, slice_get}
 use Rattle.std.proofs.lemmas.Option.{same_Some, slice_get-get_or}
 use Rattle.gq_shelf.specs.declared.extent.Extent.{Extent}
 use Rattle.gq_ledger.specs.Ledgers.{book_of}
+use Rattle.gq_stock.specs.Finding.{FindsDamage}
 use Rattle.gq_stock.specs.Held.{contents}
-use Rattle.gq_stock.specs.Keeping.{KeptAs}
+use Rattle.gq_stock.specs.Keeping.{KeptAs, ChangesOnly}
 use Rattle.gq_stock.specs.declared.keeping.Keeping.{Keeping}
-use Rattle.gq_stock.specs.declared.keeping.Keeping.TheVariants.{New}
+use Rattle.gq_stock.specs.declared.keeping.Keeping.TheVariants.{New, Damaged}
 use Rattle.gq_shelf.specs.Notes.{Noted}
 use Rattle.gq_stock.specs.Sure.{IsSureOf}
-use Rattle.gq_stock.specs.Stocks.{used_in, KeptIn, SureIn, StaysIn}
+use Rattle.gq_stock.specs.Stocks.{used_in, KeptIn, ChangesIn, DamagedIn, SureIn, StaysIn}
 
 -- one session more
 pub used_more : (sessions : List Session) (i : ℕ) (d : Session) (before after used : ℕ) → i < length sessions → before ≡ min (used_in (take i sessions)) (2 ^ 64 - 1) → used ≡ all_bytes (get_or sessions i d).chunks → after ≡ min (before + used) (2 ^ 64 - 1) → after ≡ min (used_in (take (i + 1) sessions)) (2 ^ 64 - 1)
@@ -73,3 +74,19 @@ err_stays (Err e) sessions i d new lt is same = stays_in sessions i d new lt is 
 pub sure_in : {E : Type 0} (r : Result Keeping E) (sessions : List Session) (i n : ℕ) (new : Session) (noted : Noted) → i < length sessions → IfOk r (λ told. told ≡ New → IsSureOf ((book_of new.chunks).at n) noted) → IfOk r (λ told. told ≡ New → SureIn (set sessions i new) i n noted)
 sure_in (Err e) sessions i n new noted lt sure = tt
 sure_in (Ok told) sessions i n new noted lt sure = λ is session there. subst (λ (s : Session). IsSureOf ((book_of s.chunks).at n) noted) (sym (put_there sessions i new session lt there)) (sure is)
+
+-- ---- what changes alone
+
+pub changes_in : {E : Type 0} (r : Result Keeping E) (sessions : List Session) (i n : ℕ) (d new : Session) → i < length sessions → d ≡ get_or sessions i d → IfOk r (λ told. told ≡ New → ChangesOnly (book_of d.chunks) n (book_of new.chunks)) → IfOk r (λ told. told ≡ New → ChangesIn sessions i n (set sessions i new))
+changes_in (Err e) sessions i n d new lt is alone = tt
+changes_in (Ok told) sessions i n d new lt is alone = λ same old now was then.
+    subst (λ (s : Session). ChangesOnly (book_of s.chunks) n (book_of now.chunks)) (sym (at_place sessions i d old lt is was))
+    (subst (λ (s : Session). ChangesOnly (book_of d.chunks) n (book_of s.chunks)) (sym (put_there sessions i new now lt then)) (alone same))
+
+pub keeps_in : {E : Type 0} (r : Result Keeping E) (sessions : List Session) (i : ℕ) (d new : Session) → i < length sessions → d ≡ get_or sessions i d → IfOk r (λ told. told ≢ New → book_of new.chunks ≡ book_of d.chunks) → IfOk r (λ told. told ≢ New → StaysIn sessions i (set sessions i new))
+keeps_in (Err e) sessions i d new lt is stays = tt
+keeps_in (Ok told) sessions i d new lt is stays = λ other. stays_in sessions i d new lt is (stays other)
+
+pub damaged_in : {E : Type 0} (r : Result Keeping E) (sessions : List Session) (i n : ℕ) (d : Session) (old new : Noted) → i < length sessions → d ≡ get_or sessions i d → IfOk r (λ told. told ≡ Damaged → FindsDamage ((book_of d.chunks).at n) old new) → IfOk r (λ told. told ≡ Damaged → DamagedIn sessions i n old new)
+damaged_in (Err e) sessions i n d old new lt is damaged = tt
+damaged_in (Ok told) sessions i n d old new lt is damaged = λ same session was. subst (λ (s : Session). FindsDamage ((book_of s.chunks).at n) old new) (sym (at_place sessions i d session lt is was)) (damaged same)

@@ -31,3 +31,8 @@ pub record KeptAs (old : Book Held) (n : ℕ) (bytes : List ℕ) (is_sure : Bool
 abbrev pub taken_of : (long : ℕ) → Keeping → ℕ
 taken_of long New = long
 taken_of long _ = 0
+
+-- Something else may be under this number; all other numbers and the floor are as they were.
+pub record ChangesOnly {T : Type 0} (old : Book T) (n : ℕ) (new : Book T) : Type 0 where
+  pub others : (m : ℕ) → m ≢ n → new.at m ≡ old.at m
+  pub floor : new.floor ≡ old.floor

@@ -4,9 +4,10 @@ use Rattle.std.specs.List.{sum_by}
 use Rattle.gq_shelf.specs.declared.extent.Extent.{Extent}
 use Rattle.gq_ledger.specs.Ledgers.{book_of, all_bytes}
 use Rattle.gq_shelf.specs.Notes.{Noted}
+use Rattle.gq_stock.specs.Finding.{FindsDamage}
 use Rattle.gq_stock.specs.Held.{contents}
 use Rattle.gq_stock.specs.Sure.{IsSureOf}
-use Rattle.gq_stock.specs.Keeping.{KeptAs}
+use Rattle.gq_stock.specs.Keeping.{KeptAs, ChangesOnly}
 use Rattle.gq_stock.specs.declared.session.Session.{Session}
 use Rattle.gq_stock.specs.declared.keeping.Keeping.{Keeping}
 
@@ -25,3 +26,11 @@ StaysIn olds place news = (old new : Session) → slice_get olds place ≡ Some 
 -- What it has under the number would outlast a loss of power.
 abbrev pub SureIn : List Session → (place n : ℕ) → Noted → Type 0
 SureIn sessions place n noted = (session : Session) → slice_get sessions place ≡ Some session → IsSureOf ((book_of session.chunks).at n) noted
+
+-- The session at this place has what it had, but for what is under the number.
+abbrev pub ChangesIn : List Session → (place n : ℕ) → List Session → Type 0
+ChangesIn olds place n news = (old new : Session) → slice_get olds place ≡ Some old → slice_get news place ≡ Some new → ChangesOnly (book_of old.chunks) n (book_of new.chunks)
+
+-- A read found damage where its chunk under the number lies.
+abbrev pub DamagedIn : List Session → (place n : ℕ) → Noted → Noted → Type 0
+DamagedIn sessions place n old new = (session : Session) → slice_get sessions place ≡ Some session → FindsDamage ((book_of session.chunks).at n) old new

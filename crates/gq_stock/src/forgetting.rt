@@ -53,7 +53,8 @@ impl Session {
     /// above it. So it may be asked any number of times.
     pub fn forget(&mut self, floor: u64, runs: &[Run])
         requires { All (λ run. run.last ≤ floor) runs.now }
-        ensures { (written : Extent → List ℕ) → ForgotAs (contents written (book_of self.old.chunks)) floor runs.now (contents written (book_of self.new.chunks)) }
+        ensures contents { (written : Extent → List ℕ) → ForgotAs (contents written (book_of self.old.chunks)) floor runs.now (contents written (book_of self.new.chunks)) }
+        ensures chunks { ForgotAs (book_of self.old.chunks) floor runs.now (book_of self.new.chunks) }
     {
         self.chunks.raise(floor);
         for run in runs {

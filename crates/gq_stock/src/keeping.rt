@@ -67,7 +67,7 @@ impl Session {
     ghost use Rattle.gq_stock.specs.Held.{contents};
     ghost use Rattle.gq_stock.specs.Finding.{FindsDamage};
     ghost use Rattle.gq_stock.specs.Sure.{IsSureOf};
-    ghost use Rattle.gq_stock.specs.Keeping.{ComparesAs, KeptAs, taken_of};
+    ghost use Rattle.gq_stock.specs.Keeping.{ComparesAs, KeptAs, ChangesOnly, taken_of};
 
     // Compares the bytes with those that are there.
     fn compare<S: Shelf>(
@@ -110,6 +110,7 @@ impl Session {
         requires room { all_bytes self.old.chunks + free < 2 ^ 64 }
         requires may { verdict_of (book_of self.old.chunks) number (length bytes) free ≡ Verdict.Kept }
         ensures leads { (written : Extent → List ℕ) → OnOk result (IsClean written (S.noted shelf.new) → Leads (contents written (book_of self.old.chunks)) (Keeps number (record { bytes = bytes; is_sure = is_sure })) (contents written (book_of self.new.chunks))) }
+        ensures alone { OnOk result (ChangesOnly (book_of self.old.chunks) number (book_of self.new.chunks)) }
         ensures sure { OnOk result (IsSureOf ((book_of self.new.chunks).at number) (S.noted shelf.new)) }
         ensures used { OnOk result (all_bytes self.new.chunks ≡ all_bytes self.old.chunks + length bytes) }
         ensures refused { IfErr result (λ fault. IsRefused fault (S.noted shelf.old) (S.noted shelf.new)) }
@@ -122,7 +123,7 @@ impl Session {
         Ok(())
     }
 
-    /// Keeps the content under the number: what is told says what was there, and only a new one changes anything. So it may be asked any number of times.
+    /// Keeps the content under the number: what is told says what was there, and only a new one changes anything, under this number alone. So it may be asked any number of times.
     /// A new one that lies on the shelf was made sure of there. `Damaged` comes only where this read of the shelf found it so. It is refused where memory is wanting, or the shelf refuses a read or a put. Nothing
     /// changes then.
     pub fn keep<S: Shelf>(
@@ -136,6 +137,8 @@ impl Session {
         requires long { length bytes < 2 ^ 32 }
         requires room { all_bytes self.old.chunks + free < 2 ^ 64 }
         ensures kept { (written : Extent → List ℕ) → IfOk result (λ told. IsClean written (S.noted shelf.new) → KeptAs (contents written (book_of self.old.chunks)) number bytes is_sure free told (contents written (book_of self.new.chunks))) }
+        ensures alone { IfOk result (λ told. told ≡ Keeping.New → ChangesOnly (book_of self.old.chunks) number (book_of self.new.chunks)) }
+        ensures stays { IfOk result (λ told. told ≢ Keeping.New → book_of self.new.chunks ≡ book_of self.old.chunks) }
         ensures damaged { IfOk result (λ told. told ≡ Keeping.Damaged → FindsDamage ((book_of self.old.chunks).at number) (S.noted shelf.old) (S.noted shelf.new)) }
         ensures used { IfOk result (λ told. all_bytes self.new.chunks ≡ all_bytes self.old.chunks + taken_of (length bytes) told) }
         ensures sure { IfOk result (λ told. told ≡ Keeping.New → IsSureOf ((book_of self.new.chunks).at number) (S.noted shelf.new)) }

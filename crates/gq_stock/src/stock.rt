@@ -22,7 +22,7 @@ pub struct Stock {
 impl Stock {
     ghost use Rattle.gq_stock.specs.Finding.{IsRefused};
     ghost use Rattle.gq_stock.specs.Keeping.{taken_of};
-    ghost use Rattle.gq_stock.specs.Stocks.{used_in, KeptIn, SureIn, StaysIn};
+    ghost use Rattle.gq_stock.specs.Stocks.{used_in, KeptIn, ChangesIn, DamagedIn, SureIn, StaysIn};
 
     /// So many sessions, which have nothing.
     pub fn new(alloc: Global, sessions: u32, allowed: u64) -> Result<Stock, OutOfMemory>
@@ -59,7 +59,7 @@ impl Stock {
     }
 
     /// Keeps the content under the number of the session at this place. No other session changes, and what is used does not come above what is allowed, or stays.
-    /// It is refused where memory is wanting, or the shelf refuses a read or a put. Nothing changes then.
+    /// `Damaged` comes only where this read of the shelf found it so. It is refused where memory is wanting, or the shelf refuses a read or a put. Nothing changes then.
     pub fn keep<S: Shelf>(
         &mut self,
         shelf: &mut S,
@@ -71,9 +71,12 @@ impl Stock {
         requires there { place < length self.old.sessions.items }
         requires long { length bytes < 2 ^ 32 }
         ensures kept { (written : Extent → List ℕ) → IfOk result (λ told. IsClean written (S.noted shelf.new) → KeptIn written self.old.sessions.items place number bytes is_sure (self.old.allowed - used_in self.old.sessions.items) told self.new.sessions.items) }
+        ensures alone { IfOk result (λ told. told ≡ Keeping.New → ChangesIn self.old.sessions.items place number self.new.sessions.items) }
+        ensures stays { IfOk result (λ told. told ≢ Keeping.New → StaysIn self.old.sessions.items place self.new.sessions.items) }
         ensures sessions { length self.new.sessions.items ≡ length self.old.sessions.items }
         ensures others { (other : ℕ) → other ≢ place → slice_get self.new.sessions.items other ≡ slice_get self.old.sessions.items other }
         ensures sure { IfOk result (λ told. told ≡ Keeping.New → SureIn self.new.sessions.items place number (S.noted shelf.new)) }
+        ensures damaged { IfOk result (λ told. told ≡ Keeping.Damaged → DamagedIn self.old.sessions.items place number (S.noted shelf.old) (S.noted shelf.new)) }
         ensures used { IfOk result (λ told. used_in self.new.sessions.items ≡ used_in self.old.sessions.items + taken_of (length bytes) told) }
         ensures refused { IfErr result (λ fault. IsRefused fault (S.noted shelf.old) (S.noted shelf.new)) }
         ensures unchanged { OnErr result (StaysIn self.old.sessions.items place self.new.sessions.items) }

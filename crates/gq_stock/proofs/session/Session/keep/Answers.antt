@@ -15,3 +15,6 @@ returns-in-There-clause-kept g c written =
 
 pub returns-in-There-clause-sure : goal.returns-in-There-clause-sure
 returns-in-There-clause-sure g c = never_new c.compare.result _ c.compare.ensures.not_new
+
+pub returns-in-There-clause-alone : goal.returns-in-There-clause-alone
+returns-in-There-clause-alone g c = never_new c.compare.result _ c.compare.ensures.not_new

@@ -2,7 +2,7 @@ use Rattle.std.proofs.Common.{◌≡◌, ◌≤◌, ap, arith, get_or}
 use Rattle.gq_ledger.specs.Ledgers.{all_bytes}
 use Rattle.gq_stock.specs.declared.session.Session.{Session}
 use Rattle.gq_stock.specs.Stocks.{used_in}
-use Rattle.gq_stock.proofs.Sessions.{used_within, kept_in, others_stay, err_stays, sure_in}
+use Rattle.gq_stock.proofs.Sessions.{used_within, kept_in, others_stay, err_stays, sure_in, changes_in, keeps_in, damaged_in}
 use Rattle.gq_stock.proofs.stock.Stock.keep.Goals as goal
 
 pub keep-requires-clause-room : goal.keep-requires-clause-room
@@ -23,3 +23,12 @@ returns-clause-unchanged g c = err_stays c.keep.result c.args.self.now.sessions.
 
 pub returns-clause-sure : goal.returns-clause-sure
 returns-clause-sure g c = sure_in c.keep.result c.args.self.now.sessions.items c.args.place c.args.number c.keep.new.self (g.S.Shelf.noted c.keep.new.shelf) c.requires.there c.keep.ensures.sure
+
+pub returns-clause-alone : goal.returns-clause-alone
+returns-clause-alone g c = changes_in c.keep.result c.args.self.now.sessions.items c.args.place c.args.number c.index_mut-session.result.now c.keep.new.self c.requires.there c.index_mut-session.ensures.value c.keep.ensures.alone
+
+pub returns-clause-stays : goal.returns-clause-stays
+returns-clause-stays g c = keeps_in c.keep.result c.args.self.now.sessions.items c.args.place c.index_mut-session.result.now c.keep.new.self c.requires.there c.index_mut-session.ensures.value c.keep.ensures.stays
+
+pub returns-clause-damaged : goal.returns-clause-damaged
+returns-clause-damaged g c = damaged_in c.keep.result c.args.self.now.sessions.items c.args.place c.args.number c.index_mut-session.result.now _ _ c.requires.there c.index_mut-session.ensures.value c.keep.ensures.damaged

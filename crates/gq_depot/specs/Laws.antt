@@ -1,0 +1,55 @@
+-- What holds of any requests of any tenants.
+use Rattle.std.specs.Prelude.{◌≡◌, ℕ, Bool, true, false, ◌==◌, List, [], ◌∷◌, length, Some, slice_get}
+use Rattle.gq_shelf.specs.Notes.{Noted}
+use Rattle.gq_depot.specs.Depots.{Standing, standing_of, after_fact, IsSame}
+use Rattle.gq_depot.specs.Tenants.{Step, TakesOwn, ApartFrom}
+use Rattle.gq_depot.specs.declared.answer.Answered.{Answered}
+use Rattle.gq_depot.specs.declared.depot.Depot.{Depot}
+use Rattle.gq_depot.specs.declared.request.ChunkRequest.{ChunkRequest}
+
+-- a tenant asked this, and this came of it, and what was noted of the shelf then
+pub record Did : Type 0 where
+  pub tenant : ℕ
+  pub request : ChunkRequest
+  pub answered : Answered
+  pub noted : Noted
+
+-- ---- a run of all tenants
+
+-- the tenant's depot goes on by its request, and all others stay
+abbrev pub Takes : (losses : ℕ) → List Depot → Did → List Depot → Type 0
+Takes losses olds did news = TakesOwn did.noted losses olds did.tenant did.request did.answered news × ApartFrom did.tenant olds news × (length news ≡ length olds)
+
+-- so do all of them, the newest first
+abbrev pub Ran : (losses : ℕ) → List Depot → List Did → List Depot → Type 0
+Ran losses firsts [] nows = nows ≡ firsts
+Ran losses firsts (did ∷ before) nows = (mid : List Depot) × Ran losses firsts before mid × Takes losses mid did nows
+
+-- ---- a run of one tenant
+
+abbrev pub RanAlone : (losses : ℕ) → Depot → List Did → Depot → Type 0
+RanAlone losses first [] now = now ≡ first
+RanAlone losses first (did ∷ before) now = (mid : Depot) × RanAlone losses first before mid × Step did.noted losses mid did.request did.answered now
+
+abbrev pub own_with : (is_its : Bool) → Did → List Did → List Did
+own_with true did dids = did ∷ dids
+own_with false did dids = dids
+
+-- what the tenant at this place asked, and what came of it
+abbrev pub own : (tenant : ℕ) → List Did → List Did
+own tenant [] = []
+own tenant (did ∷ before) = own_with (did.tenant == tenant) did (own tenant before)
+
+-- each tenant's part of a run is a run of that tenant alone
+abbrev pub Apart : Type 0
+Apart = (losses tenant : ℕ) (firsts nows : List Depot) (dids : List Did) (first now : Depot) → slice_get firsts tenant ≡ Some first → slice_get nows tenant ≡ Some now → Ran losses firsts dids nows → RanAlone losses first (own tenant dids) now
+
+-- ---- facts
+
+-- what the facts of all make of what there was, the newest first
+abbrev pub after_all : List Did → Standing → Standing
+after_all [] it = it
+after_all (did ∷ before) it = after_fact did.answered.fact (after_all before it)
+
+abbrev pub FactsRemake : Type 0
+FactsRemake = (losses : ℕ) (first now : Depot) (dids : List Did) → RanAlone losses first dids now → IsSame (standing_of now) (after_all dids (standing_of first))

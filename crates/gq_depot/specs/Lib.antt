@@ -1,0 +1,4 @@
+pub mod Depots
+pub mod Answers
+pub mod Tenants
+pub mod Laws

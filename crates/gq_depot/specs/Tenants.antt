@@ -1,0 +1,30 @@
+-- What a request of a tenant does.
+use Rattle.std.specs.Prelude.{◌≡◌, ◌≢◌, ℕ, List, Some, slice_get}
+use Rattle.gq_shelf.specs.Notes.{Noted, IsClean}
+use Rattle.gq_shelf.specs.declared.extent.Extent.{Extent}
+use Rattle.gq_depot.specs.Answers.{Tells, Gives, DamageIs}
+use Rattle.gq_depot.specs.Depots.{LeadsTo, FactIsSure}
+use Rattle.gq_depot.specs.declared.answer.Answered.{Answered}
+use Rattle.gq_depot.specs.declared.answer.ChunkAnswer.{ChunkAnswer}
+use Rattle.gq_depot.specs.declared.depot.Depot.{Depot}
+use Rattle.gq_depot.specs.declared.request.ChunkRequest.{ChunkRequest}
+
+-- The tenant, of whom the server had the one depot and has the other, asked this, and this came of it, where this is noted of the shelf then. No other tenant plays
+-- a part.
+pub record Step (noted : Noted) (losses : ℕ) (old : Depot) (request : ChunkRequest) (answered : Answered) (new : Depot) : Type 0 where
+  pub tells : (written : Extent → List ℕ) → Tells (IsClean written noted) written old losses request answered.answer new
+  pub gives : (written : Extent → List ℕ) → Gives (IsClean written noted) written old request answered.answer answered.fact
+  pub leads : LeadsTo old answered.fact new
+  pub sure : FactIsSure answered.fact noted
+
+-- it is so of the tenant at this place
+abbrev pub TakesOwn : Noted → (losses : ℕ) → List Depot → (tenant : ℕ) → ChunkRequest → Answered → List Depot → Type 0
+TakesOwn noted losses olds tenant request answered news = (old new : Depot) → slice_get olds tenant ≡ Some old → slice_get news tenant ≡ Some new → Step noted losses old request answered new
+
+-- all others have what they had
+abbrev pub ApartFrom : (tenant : ℕ) → List Depot → List Depot → Type 0
+ApartFrom tenant olds news = (other : ℕ) → other ≢ tenant → slice_get news other ≡ slice_get olds other
+
+-- what this tenant is told as damaged a read found so
+abbrev pub DamageOf : List Depot → (tenant : ℕ) → Noted → Noted → ChunkAnswer → Type 0
+DamageOf depots tenant old new answer = (depot : Depot) → slice_get depots tenant ≡ Some depot → DamageIs depot old new answer

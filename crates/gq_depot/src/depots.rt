@@ -1,0 +1,46 @@
+//! The chunks of all tenants at a server.
+
+ghost use Rattle.std.specs.Prelude.{◌≡◌, ◌<◌, length, IfOk, IfErr};
+ghost use Rattle.gq_shelf.specs.Notes.{GoesOn};
+ghost use Rattle.gq_stock.specs.Finding.{IsRefused};
+
+use crate::{Answered, ChunkRequest, Depot};
+use gq_shelf::{Shelf, ShelfFault};
+use std::alloc::Global;
+
+/// The chunks of all tenants at a server, over one shelf.
+#[derive(Drop)]
+pub struct Depots<S: Shelf + Drop> {
+    /// Where contents lie that are not in memory.
+    pub shelf: S,
+    /// What each tenant has, by its place in the plan.
+    pub depots: Vec<Depot>,
+    /// How many nodes of the server's column were lost, as its plan tells.
+    pub losses: u64,
+}
+
+impl<S: Shelf + Drop> Depots<S> {
+    ghost use Rattle.gq_depot.specs.Tenants.{ApartFrom, TakesOwn, DamageOf};
+
+    /// What comes of the tenant's request. What is told of it and kept of it hangs on this tenant's chunks alone, and no other tenant's change. It is refused
+    /// where memory is wanting, or the shelf refuses a read or a put; all is given up then.
+    pub fn answer(
+        &mut self,
+        alloc: Global,
+        tenant: usize,
+        request: ChunkRequest,
+    ) -> Result<Answered, ShelfFault>
+        requires { tenant < length self.old.depots.items }
+        ensures own { IfOk result (λ a. TakesOwn (S.noted self.new.shelf) self.old.losses self.old.depots.items tenant request a self.new.depots.items) }
+        ensures damaged { IfOk result (λ a. DamageOf self.old.depots.items tenant (S.noted self.old.shelf) (S.noted self.new.shelf) a.answer) }
+        ensures apart { ApartFrom tenant self.old.depots.items self.new.depots.items }
+        ensures tenants { length self.new.depots.items ≡ length self.old.depots.items }
+        ensures losses { self.new.losses ≡ self.old.losses }
+        ensures refused { IfErr result (λ fault. IsRefused fault (S.noted self.old.shelf) (S.noted self.new.shelf)) }
+        ensures goes_on { GoesOn (S.noted self.old.shelf) (S.noted self.new.shelf) }
+    {
+        let depot = &mut self.depots[tenant];
+        let answered = depot.answer(alloc, &mut self.shelf, self.losses, request)?;
+        Ok(answered)
+    }
+}
