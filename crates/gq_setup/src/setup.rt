@@ -23,7 +23,8 @@ use crate::going_on::{
     NotKept, accounts_not_kept, losses_not_kept, rooms_not_kept, rows_not_kept, servers_not_kept,
 };
 use crate::openings::{
-    ChunkRoom, MOST_LOSSES, Opening, SetupFault, kib_of, loss_word, many_told, read_opening, room_told,
+    ChunkRoom, MOST_LOSSES, Opening, SetupFault, kib_of, loss_word, many_told, read_opening,
+    room_told,
 };
 use gq_desk::{Desk, OpenRefused, Plan, VolumeRow};
 use gq_grid::MOST_SERVERS;
@@ -416,10 +417,7 @@ fn put_room(out: &mut Vec<u8>, plan: &Plan, room: ChunkRoom) -> Result<(), OutOf
     out.grow_by(plan.row(room.tenant).name.as_bytes())?;
     put_words(
         out,
-        &[
-            Piece::Text(b"chunks"),
-            Piece::Number(u64::from(room.kib)),
-        ],
+        &[Piece::Text(b"chunks"), Piece::Number(u64::from(room.kib))],
     )
 }
 
