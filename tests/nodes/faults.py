@@ -146,6 +146,17 @@ class Faults:
         self.refused("another number", 1, of_node(0), number=1)
         self.refused("no such server", 1, b"gridfs: node 4: of 4\n", number=4)
 
+    def chunks(self):
+        """A plan that gives room for chunks is refused before a file is made, since no node keeps any yet."""
+        told = b"gridfs: %b: room for chunks, and this program keeps none\n"
+        put(self.at("chunks"), PLAN + b"bob chunks 9\n")
+        for is_new in (False, True):
+            self.held(f"room for chunks, --new {is_new}", self.node(plan="chunks", journal="of_chunks", is_new=is_new), (1, told % b"chunks", b""))
+        self.held("no files of it", [name for name in os.listdir(self.folder) if name.startswith("of_chunks")], [])
+        put(self.at("twice"), PLAN + b"bob chunks 9\nbob chunks 10\n")
+        self.refused("room for chunks, twice", 1, b"gridfs: twice: line 11: chunks\n", plan="twice")
+        self.refused("no such server, with room for chunks", 1, b"gridfs: node 4: of 4\n", number=4, plan="chunks")
+
     def forms(self):
         """A journal of a form that a later program writes is told so, and stays as it is, to the byte, whatever comes after its first line."""
         text = get(self.at("journal"))
@@ -259,6 +270,7 @@ def tell_faults(program, folder):
     faults = Faults(program, folder)
     faults.first_start()
     faults.journals()
+    faults.chunks()
     faults.forms()
     faults.plans()
     faults.plans_that_go_on()

@@ -82,6 +82,24 @@ fn reads_several_volumes_of_a_line(rt: HostRuntime) {
     assert!(rt; plan.goes_on(NODE_TEXT).ok() == Some(true));
 }
 
+// Room for chunks, among other lines; a tenant is named as its line says.
+const CHUNKS: &[u8] =
+    b"grid 2 2\nblocks 16\ntenant ann 6 2 10\ntenant chunks 4 1 10\ngo\nreplace 3\nchunks chunks 4294967295\nann open 2 1\nann chunks 7\n";
+
+const NODE_CHUNKS: &[u8] =
+    b"node 67 of 2 by 2\ngrid 2 2\nblocks 16\ntenant ann 6 2 10\ntenant chunks 4 1 10\ngo\nann open 2 1\nchunks chunks 4294967295\nann chunks 7\nreplace 3\n";
+
+#[test]
+fn reads_and_writes_room_for_chunks(rt: HostRuntime) {
+    let alloc = rt.alloc();
+    let read = setup(&rt, alloc, CHUNKS);
+    assert!(rt; read.chunk_bytes(0) == 7 * 1024);
+    assert!(rt; read.chunk_kib(1) == u32::MAX);
+    assert!(rt; read.chunk_kib(2) == 0);
+    writes(&rt, alloc, 67, CHUNKS, NODE_CHUNKS);
+    assert!(rt; setup(&rt, alloc, TEXT).chunk_bytes(0) == 0);
+}
+
 // Whether the setup is that of LOSSES.
 fn has_losses(read: &Setup) -> bool {
     read.lost().places() == [3u8, 0, 3].as_slice()
@@ -256,6 +274,27 @@ fn tells_the_first_line_at_fault(rt: HostRuntime) {
             b"grid 1 4\nblocks 4\ntenant ann 4 1 1\ngo\nreplace 0\n",
             b"line 5: replace",
         ),
+        // no tenant, none, no number of 32 bits, a second line, other words
+        (
+            b"grid 2 2\nblocks 4\ntenant ann 4 1 1\ngo\neve chunks 1\n",
+            b"line 5: chunks",
+        ),
+        (
+            b"grid 2 2\nblocks 4\ntenant ann 4 1 1\ngo\nann chunks 0\n",
+            b"line 5: chunks",
+        ),
+        (
+            b"grid 2 2\nblocks 4\ntenant ann 4 1 1\ngo\nann chunks 4294967296\n",
+            b"line 5: chunks",
+        ),
+        (
+            b"grid 2 2\nblocks 4\ntenant ann 4 1 1\ngo\nann chunks 5\nann open 1 1\nann chunks 6\n",
+            b"line 7: chunks",
+        ),
+        (
+            b"grid 2 2\nblocks 4\ntenant ann 4 1 1\ngo\nann chunks 1 1\n",
+            b"line 5: live",
+        ),
         // no line of two words
         (
             b"grid 2 2\nblocks 4\ntenant ann 4 1 1\ngo\nreplace\n",
@@ -324,6 +363,26 @@ fn goes_on_where_no_home_and_no_volume_moves(rt: HostRuntime) {
     goes_on(&rt, &plan, &NOT_BEFORE_TEXT, false);
     let own = plan.goes_on(NODE_TEXT).ok();
     assert!(rt; own == Some(true));
+}
+
+// Last plans from which the plan of CHUNKS goes on.
+const BEFORE_CHUNKS: [&str; 3] = [
+    "x\ngrid 2 2\nblocks 16\ntenant ann 6 2 10\ngo\n",
+    "x\ngrid 2 2\nblocks 16\ntenant ann 6 2 10\ntenant chunks 4 1 10\ngo\nann chunks 7\nchunks chunks 1\n",
+    "x\ngrid 2 2\nblocks 16\ntenant ann 6 2 10\ngo\nann chunks 6\nreplace 3\n",
+];
+
+// Some from which it does not: more room, also of the later tenant alone.
+const NOT_BEFORE_CHUNKS: [&str; 2] = [
+    "x\ngrid 2 2\nblocks 16\ntenant ann 6 2 10\ngo\nann chunks 8\n",
+    "x\ngrid 2 2\nblocks 16\ntenant ann 6 2 10\ntenant chunks 4 1 10\ngo\nchunks chunks 4294967295\nann chunks 8\n",
+];
+
+#[test]
+fn goes_on_with_no_less_room_for_chunks(rt: HostRuntime) {
+    let plan = node_plan(&rt, rt.alloc(), 67, CHUNKS);
+    goes_on(&rt, &plan, &BEFORE_CHUNKS, true);
+    goes_on(&rt, &plan, &NOT_BEFORE_CHUNKS, false);
 }
 
 // Last plans from which the plan of LOSSES goes on.

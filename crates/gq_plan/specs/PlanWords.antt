@@ -10,7 +10,7 @@ use Rattle.gq_text.specs.AnswerText.{line_text}
 use Rattle.gq_replace.specs.Plans.{node_at}
 use Rattle.gq_node.specs.Sites.{home_place, plan_in}
 use Rattle.gq_wire.specs.Incoming.{longest_line}
-use Rattle.gq_setup.specs.Setups.{Setup, SetupReading, holdings}
+use Rattle.gq_setup.specs.Setups.{Setup, SetupReading, holdings, kib_of}
 use Rattle.gq_plan.specs.declared.line.Named.{Named}
 use Rattle.gq_plan.specs.declared.line.Named.TheVariants.{Number, Word as Text}
 use Rattle.gq_plan.specs.declared.runs.Run.{Run}
@@ -112,9 +112,10 @@ loss_line place = line_text (number (codes "replace") place) []
 abbrev pub losses_text : List ℕ → List ℕ
 losses_text lost = flat_map loss_line lost
 
--- a tenant of this row, with so many blocks of its share that no volume takes, and so many volumes and files that are open
-abbrev pub tenant_line : TenantRow → (free volumes files : ℕ) → List ℕ
-tenant_line row free volumes files =
+-- a tenant of this row, with so many blocks of its share that no volume takes, so many volumes and files that are open, and so many KiB of
+-- chunks that it may have at each server
+abbrev pub tenant_line : TenantRow → (free volumes files chunks : ℕ) → List ℕ
+tenant_line row free volumes files chunks =
     line_text (named (codes "tenant") row.name)
     (number (codes "share") row.share
     ∷ number (codes "free") free
@@ -124,6 +125,7 @@ tenant_line row free volumes files =
     ∷ number (codes "volumes") row.most_volumes
     ∷ number (codes "open") volumes
     ∷ number (codes "files") files
+    ∷ number (codes "chunks") chunks
     ∷ [])
 
 -- a session by its place among its tenant's, and the place of its home
@@ -149,7 +151,7 @@ runs_text name runs = flat_map (run_line name) runs
 -- the lines of the tenant at place t
 abbrev pub tenant_text : Setup → (t : ℕ) → List ℕ
 tenant_text setup t =
-    tenant_line (row_at setup.plan t) (free_of (account_at (holdings setup) t)) (length (volumes_of setup t)) (files_of (volumes_of setup t))
+    tenant_line (row_at setup.plan t) (free_of (account_at (holdings setup) t)) (length (volumes_of setup t)) (files_of (volumes_of setup t)) (kib_of setup.rooms t)
     ++ sessions_text setup.plan t
     ++ runs_text (row_at setup.plan t).name (runs_of (volumes_of setup t))
 

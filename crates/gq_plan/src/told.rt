@@ -80,15 +80,16 @@ fn put_losses(out: &mut Vec<u8>, places: &[u8]) -> Result<(), OutOfMemory>
     Ok(())
 }
 
-// Appends the line of a tenant, with what is free of its share, and how many volumes and files are open.
+// Appends the line of a tenant, with what is free of its share, how many volumes and files are open, and how many KiB of chunks it may have.
 fn put_row(
     out: &mut Vec<u8>,
     row: &TenantRow,
     free: u32,
     volumes: usize,
     files: u64,
+    chunks: u32,
 ) -> Result<(), OutOfMemory>
-    ensures { OnOk result (out.new.items ≡ out.old.items ++ tenant_line row.now free volumes files) }
+    ensures { OnOk result (out.new.items ≡ out.old.items ++ tenant_line row.now free volumes files chunks) }
 {
     put_line(
         out,
@@ -102,6 +103,7 @@ fn put_row(
             Named::Number(b"volumes", u64::from(row.most_volumes)),
             Named::Number(b"open", volumes as u64),
             Named::Number(b"files", files),
+            Named::Number(b"chunks", u64::from(chunks)),
         ],
     )
 }
@@ -192,6 +194,7 @@ fn put_tenant(
         setup.free(tenant),
         volumes.len(),
         files_of(volumes),
+        setup.chunk_kib(tenant),
     )?;
     put_sessions(out, setup.plan(), tenant)?;
     put_runs(out, row, runs.as_slice())

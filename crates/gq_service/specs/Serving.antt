@@ -29,7 +29,7 @@ use Rattle.gq_setup.specs.GoingOn.{goes_on_from_read}
 use Rattle.gq_setup.specs.Texts.{node_text, setup_of_node_text, no_first, first_read, first_of_lines}
 use Rattle.gq_service.specs.Forms.{form_of}
 use Rattle.gq_service.specs.declared.fault.NodeFault.{NodeFault}
-use Rattle.gq_service.specs.declared.fault.NodeFault.TheVariants.{NoServer, PlanText, Form, Damaged, Another, Strange}
+use Rattle.gq_service.specs.declared.fault.NodeFault.TheVariants.{NoServer, Chunks, PlanText, Form, Damaged, Another, Strange}
 use Rattle.gq_service.specs.declared.mismatch.Mismatch.{Mismatch}
 use Rattle.gq_service.specs.declared.mismatch.Mismatch.TheVariants.{NoPlan, Node, Plan}
 
@@ -127,6 +127,11 @@ MayBeLeft setup number is_new synced seen left =
 abbrev pub TellsNoServer : Setup → (number : ℕ) → NodeFault → Type 0
 TellsNoServer setup number (NoServer told) = (told ≡ setup.plan.grid.rows * setup.plan.grid.cols) × (has_node setup number ≡ false)
 TellsNoServer setup number _ = Unit {0}
+
+-- where it is told that the plan gives room for chunks, it does, and has the node
+abbrev pub TellsChunks : Setup → (number : ℕ) → NodeFault → Type 0
+TellsChunks setup number Chunks = (0 < length setup.rooms) × (has_node setup number ≡ true)
+TellsChunks setup number _ = Unit {0}
 
 -- where damage is told, the journal is damaged at that place
 abbrev pub TellsDamage : (journal : List ℕ) → NodeFault → Type 0

@@ -34,6 +34,8 @@ pub enum NodeFault {
     Plan(SetupFault),
     /// The plan's text may not stand in a journal. No setup has such a text; that is not proved.
     PlanText,
+    /// The plan gives some tenant room for chunks, and this program keeps none.
+    Chunks,
     /// The grid has so many servers, and its plan has no node of the number.
     NoServer(usize),
     /// Another process has the journal.
@@ -124,6 +126,7 @@ impl Display for Told<'_, '_> {
             NodeFault::PlanRead => write!(f, "{plan}: read fault"),
             NodeFault::Plan(fault) => write!(f, "{plan}: {fault}"),
             NodeFault::PlanText => write!(f, "{plan}: no text for a journal"),
+            NodeFault::Chunks => write!(f, "{plan}: room for chunks, and this program keeps none"),
             NodeFault::NoServer(servers) => write!(f, "node {number}: of {servers}"),
             NodeFault::InUse => write!(f, "{journal}: in use"),
             NodeFault::NoJournal => write!(f, "{journal}: no journal"),

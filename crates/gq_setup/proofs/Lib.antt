@@ -1,5 +1,6 @@
 pub mod LineByLine
 pub mod Losing
+pub mod Rooms
 pub mod WholeLines
 pub mod Comparing
 pub mod Reading

@@ -13,9 +13,10 @@ use Rattle.gq_replace.specs.Plans.{times, GoesOn}
 use Rattle.gq_replace.proofs.Chains.{times_grow}
 use Rattle.gq_node.specs.Sites.{plan_in, number_of, home_place}
 use Rattle.gq_setup.specs.Setups.{Setup, holdings}
-use Rattle.gq_setup.specs.GoingOn.{come_first, row_goes_on, same_volume, account_goes_on, same_servers, same_place, losses_go_on, tenants_go_on, goes_on}
-use Rattle.gq_setup.specs.Laws.{TenantsStay, HomesStay, VolumesStay, LossesStay, TimesGrow, NodesGrow, SessionsGrow}
+use Rattle.gq_setup.specs.GoingOn.{come_first, row_goes_on, same_volume, account_goes_on, same_servers, same_place, losses_go_on, tenants_go_on, rooms_go_on, goes_on}
+use Rattle.gq_setup.specs.Laws.{TenantsStay, HomesStay, VolumesStay, LossesStay, RoomsGrow, TimesGrow, NodesGrow, SessionsGrow}
 use Rattle.gq_setup.proofs.LineByLine.{holdings-length}
+use Rattle.gq_setup.proofs.Rooms.{rooms_grow}
 
 -- ---- what comes first stands there, as the test wants it
 
@@ -34,13 +35,15 @@ record Parts (old new : Setup) : Type 0 where
   losses : losses_go_on old.lost new.lost ≡ true
   rows : come_first row_goes_on old.plan.rows new.plan.rows ≡ true
   accounts : come_first account_goes_on (holdings old) (holdings new) ≡ true
+  rooms : rooms_go_on old.rooms new.rooms ≡ true
 
 parts_of : (old new : Setup) → goes_on old new ≡ true → Parts old new
 parts_of old new on =
-    let first = and_parts (same_servers old.plan new.plan) (losses_go_on old.lost new.lost && tenants_go_on old new) on in
-    let second = and_parts (losses_go_on old.lost new.lost) (tenants_go_on old new) first.1 in
-    let tenants = and_parts (come_first row_goes_on old.plan.rows new.plan.rows) (come_first account_goes_on (holdings old) (holdings new)) second.1 in
-    record { servers = first.0; losses = second.0; rows = tenants.0; accounts = tenants.1 }
+    let first = and_parts (same_servers old.plan new.plan) (losses_go_on old.lost new.lost && (tenants_go_on old new && rooms_go_on old.rooms new.rooms)) on in
+    let second = and_parts (losses_go_on old.lost new.lost) (tenants_go_on old new && rooms_go_on old.rooms new.rooms) first.1 in
+    let third = and_parts (tenants_go_on old new) (rooms_go_on old.rooms new.rooms) second.1 in
+    let tenants = and_parts (come_first row_goes_on old.plan.rows new.plan.rows) (come_first account_goes_on (holdings old) (holdings new)) third.0 in
+    record { servers = first.0; losses = second.0; rows = tenants.0; accounts = tenants.1; rooms = third.1 }
 
 -- ---- tenants
 
@@ -107,6 +110,11 @@ volumes_first old new t on within =
 
 pub volumes_stay : VolumesStay
 volumes_stay old new t v on within less = rows_stay (account_at (holdings old) t).volumes (account_at (holdings new) t).volumes v (volumes_first old new t on within) less
+
+-- ---- room for chunks
+
+pub rooms_grow_on : RoomsGrow
+rooms_grow_on old new t on = rooms_grow old.rooms new.rooms t (parts_of old new on).rooms
 
 -- ---- losses
 

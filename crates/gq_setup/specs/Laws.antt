@@ -1,10 +1,11 @@
--- What stays where a setup goes on from an older one: the old tenants, the places of their sessions' homes, their volumes, and the losses.
+-- What stays where a setup goes on from an older one: the old tenants, the places of their sessions' homes, their volumes, their room for chunks,
+-- and the losses.
 use Rattle.std.specs.Prelude.{◌≡◌, ℕ, ◌<◌, ◌≤◌, List, ◌++◌, length, slice_get, true}
 use Rattle.gq_desk.specs.CheckedPlan.{row_at}
 use Rattle.gq_desk.specs.Volumes.{account_at}
 use Rattle.gq_replace.specs.Plans.{times, node_at}
 use Rattle.gq_node.specs.Sites.{Here, plan_in, home_place, session_at}
-use Rattle.gq_setup.specs.Setups.{Setup, holdings}
+use Rattle.gq_setup.specs.Setups.{Setup, holdings, kib_of}
 use Rattle.gq_setup.specs.GoingOn.{goes_on}
 
 -- an old tenant has its place
@@ -21,6 +22,10 @@ abbrev pub VolumesStay : Type 0
 VolumesStay =
     (old new : Setup) (t v : ℕ) → goes_on old new ≡ true → t < length old.plan.rows → v < length (account_at (holdings old) t).volumes →
     slice_get (account_at (holdings new) t).volumes v ≡ slice_get (account_at (holdings old) t).volumes v
+
+-- each tenant may have at least as many KiB of chunks as it might
+abbrev pub RoomsGrow : Type 0
+RoomsGrow = (old new : Setup) (t : ℕ) → goes_on old new ≡ true → kib_of old.rooms t ≤ kib_of new.rooms t
 
 -- the old losses are the first
 abbrev pub LossesStay : Type 0

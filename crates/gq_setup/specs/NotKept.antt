@@ -6,8 +6,9 @@ use Rattle.gq_desk.specs.declared.plans.TenantRow.{TenantRow}
 use Rattle.gq_desk.specs.declared.volumes.VolumeRow.{VolumeRow}
 use Rattle.gq_desk.specs.Volumes.{Account, account_at}
 use Rattle.gq_setup.specs.declared.going_on.NotKept.{NotKept}
-use Rattle.gq_setup.specs.declared.going_on.NotKept.TheVariants.{Grid, Blocks, Loss, Tenant, Sessions, Share, Volume}
-use Rattle.gq_setup.specs.Setups.{Setup, holdings}
+use Rattle.gq_setup.specs.declared.going_on.NotKept.TheVariants.{Grid, Blocks, Loss, Tenant, Sessions, Share, Volume, Chunks}
+use Rattle.gq_setup.specs.declared.openings.ChunkRoom.{ChunkRoom}
+use Rattle.gq_setup.specs.Setups.{Setup, holdings, kib_of}
 use Rattle.gq_setup.specs.GoingOn.{same_place, same_volume}
 
 -- whether what was there, if anything, became what is there now, as the test wants it
@@ -53,6 +54,11 @@ TellsVolume olds news (Volume t index files blocks) =
     (slice_get (account_at olds t).volumes index ≡ Some (record { files = files; blocks = blocks })) × (is_kept_at same_volume (account_at olds t).volumes (account_at news t).volumes index ≡ false)
 TellsVolume olds news _ = ⊥
 
+-- the tenant of this place had room for so many KiB of chunks, and has less
+abbrev pub TellsRoom : (olds news : List ChunkRoom) → NotKept → Type 0
+TellsRoom olds news (Chunks place before) = (before ≡ kib_of olds place) × (kib_of news place < before)
+TellsRoom olds news _ = ⊥
+
 -- what is told of the older setup was so, and the newer one does not keep it
 abbrev pub IsNotKept : (old new : Setup) → NotKept → Type 0
 IsNotKept old new what =
@@ -60,3 +66,4 @@ IsNotKept old new what =
     ⊎ TellsLoss old.lost new.lost what
     ⊎ TellsRowAt old.plan.rows new.plan.rows what
     ⊎ TellsVolume (holdings old) (holdings new) what
+    ⊎ TellsRoom old.rooms new.rooms what

@@ -1,5 +1,5 @@
--- What a node starts with: a plan, the volumes that are opened at each start, and which nodes were lost.
-use Rattle.std.specs.Prelude.{◌≡◌, ℕ, ◌+◌, ◌*◌, ◌<◌, List, [], ◌∷◌, ◌++◌, length, map, slice_set, Option, Some, None, Result, Ok, Err, Bool, true, ◌&&◌, ◌==◌, nat_lt, codes, zero, suc, if◌then◌else◌}
+-- What a node starts with: a plan, the volumes that are opened at each start, what tenants may have of chunks, and which nodes were lost.
+use Rattle.std.specs.Prelude.{◌≡◌, ℕ, ◌+◌, ◌*◌, ◌<◌, ◌^◌, List, [], ◌∷◌, ◌++◌, length, map, slice_set, Option, Some, None, Result, Ok, Err, Bool, true, ◌&&◌, ◌==◌, nat_lt, codes, zero, suc, if◌then◌else◌}
 use Rattle.std.specs.Str.{bytes_eq}
 use Rattle.gq_desk.specs.CheckedPlan.{CheckedPlan}
 use Rattle.gq_desk.specs.Volumes.{Account, open_fault, OpenFault, with_volume, account_at, new_account}
@@ -17,12 +17,14 @@ use Rattle.gq_replace.specs.Plans.{times, node_at, place_of}
 use Rattle.gq_node.specs.declared.lost.TheConstants.{MOST_TIMES}
 use Rattle.gq_node.specs.Sites.{plan_in}
 use Rattle.gq_setup.specs.declared.openings.Opening.{Opening}
+use Rattle.gq_setup.specs.declared.openings.ChunkRoom.{ChunkRoom}
 use Rattle.gq_setup.specs.declared.openings.TheConstants.{MOST_LOSSES}
 
--- a plan, the volumes that are opened, and the places whose nodes were lost, both in order
+-- a plan, the volumes that are opened, the room that tenants have for chunks, and the places whose nodes were lost, each in order
 pub record Setup : Type 0 where
   pub plan : CheckedPlan
   pub openings : List Opening
+  pub rooms : List ChunkRoom
   pub lost : List ℕ
 
 -- ---- volumes
@@ -55,6 +57,23 @@ CanOpen accounts (opening ∷ openings) = (opening.tenant < length accounts) × 
 abbrev pub holdings : Setup → List Account
 holdings setup = after_openings (accounts_of setup.plan) setup.openings
 
+-- ---- room for chunks
+
+-- how many KiB of chunks the tenant at place t may have at each server by these, 0 where none is the tenant's
+abbrev pub kib_of : List ChunkRoom → (t : ℕ) → ℕ
+kib_of [] t = 0
+kib_of (room ∷ rooms) t = if room.tenant == t then room.kib else kib_of rooms t
+
+-- whether there is some, and the tenant had none by those before
+abbrev pub can_have : List ChunkRoom → ChunkRoom → Bool
+can_have rooms room = nat_lt 0 room.kib && kib_of rooms room.tenant == 0
+
+-- each is a tenant's that is there, and has a number of 32 bits, and can be had behind those before it
+abbrev pub CanHave : CheckedPlan → (before rooms : List ChunkRoom) → Type 0
+CanHave plan before [] = Unit {0}
+CanHave plan before (room ∷ rooms) =
+    (room.tenant < length plan.rows) × (room.kib < 2 ^ 32) × (can_have before room ≡ true) × CanHave plan (before ++ room ∷ []) rooms
+
 -- ---- nodes that were lost
 
 -- whether the node at the place may be lost, where these were before: there is such a place, its column has another one, and not too many
@@ -74,11 +93,13 @@ has_node setup node = nat_lt (place_of node) (setup.plan.grid.rows * setup.plan.
 
 -- ---- as a text says it
 
--- why a line is at fault: it is no line of a plan, it opens no volume, the volume can't be opened, or the node can't be lost
+-- why a line is at fault: it is no line of a plan, it says nothing of what may be said behind one, the volume can't be opened, the tenant can't
+-- have that room for chunks, or the node can't be lost
 pub data Why : Type 0 where
   InPlan : TextFault → Why
   NoOpening : Why
   NotOpened : OpenFault → Why
+  NotHad : Why
   NotLost : Why
 
 -- what lines tell, or the number of the first line at fault and why
@@ -106,14 +127,25 @@ many_told plan (name ∷ verb ∷ files ∷ blocks ∷ word ∷ times ∷ []) =
     if bytes_eq verb (codes "open") && bytes_eq word (codes "times") then many_from (place_named plan name) files blocks times else None
 many_told plan _ = None
 
+-- the room for chunks of a line `T chunks KIB`, or none where the tenant or the number is wrong; if it is such a line
+abbrev pub room_from : Option ℕ → (kib : Word) → Option ChunkRoom
+room_from tenant kib = tenant >>= (λ tenant. number_of kib >>= (λ kib. Some (record { tenant = tenant; kib = kib })))
+
+abbrev pub room_told : CheckedPlan → List Word → Option (Option ChunkRoom)
+room_told plan (name ∷ verb ∷ kib ∷ []) = if bytes_eq verb (codes "chunks") then Some (room_from (place_named plan name) kib) else None
+room_told plan _ = None
+
 -- the word that tells the place of a loss: the one behind `replace`, in a line of these two words
 abbrev pub loss_word : List Word → Option Word
 loss_word (verb ∷ word ∷ []) = if bytes_eq verb (codes "replace") then Some word else None
 loss_word _ = None
 
--- the setup with one volume more, and with one loss more
+-- the setup with one volume more, with room for chunks of one tenant more, and with one loss more
 abbrev pub with_opening : Setup → Opening → Setup
 with_opening setup opening = record setup { openings = setup.openings ++ opening ∷ [] }
+
+abbrev pub with_room : Setup → ChunkRoom → Setup
+with_room setup room = record setup { rooms = setup.rooms ++ room ∷ [] }
 
 abbrev pub with_loss : Setup → (place : ℕ) → Setup
 with_loss setup place = record setup { lost = setup.lost ++ place ∷ [] }
@@ -131,6 +163,10 @@ abbrev pub after_loses : ℕ → Setup → Option ℕ → SetupReading Setup
 after_loses n setup None = Err (n, NotLost)
 after_loses n setup (Some place) = if can_lose setup.plan setup.lost place then Ok (with_loss setup place) else Err (n, NotLost)
 
+abbrev pub after_has : ℕ → Setup → Option ChunkRoom → SetupReading Setup
+after_has n setup None = Err (n, NotHad)
+after_has n setup (Some room) = if can_have setup.rooms room then Ok (with_room setup room) else Err (n, NotHad)
+
 -- what comes next, unless there is a fault
 abbrev pub then_told : SetupReading Setup → (Setup → SetupReading Setup) → SetupReading Setup
 then_told (Ok setup) next = next setup
@@ -146,10 +182,15 @@ abbrev pub after_opening_line : ℕ → Setup → List ℕ → Option (Opening �
 after_opening_line n setup line (Some many) = after_opens_many n setup many.0 many.1
 after_opening_line n setup line None = after_opens n setup (event_opens (event_of setup.plan line))
 
+-- or gives room for chunks
+abbrev pub after_room_line : ℕ → Setup → List ℕ → Option (Option ChunkRoom) → SetupReading Setup
+after_room_line n setup line (Some room) = after_has n setup room
+after_room_line n setup line None = after_opening_line n setup line (many_told setup.plan (words_of line))
+
 -- the setup behind line n, a loss where it has such a word; and behind lines of which the first is line n
 abbrev pub after_told : ℕ → Setup → List ℕ → Option Word → SetupReading Setup
 after_told n setup line (Some word) = after_loses n setup (number_of word)
-after_told n setup line None = after_opening_line n setup line (many_told setup.plan (words_of line))
+after_told n setup line None = after_room_line n setup line (room_told setup.plan (words_of line))
 
 abbrev pub after_line : ℕ → Setup → List ℕ → SetupReading Setup
 after_line n setup line = after_told n setup line (loss_word (words_of line))
@@ -160,7 +201,7 @@ after_lines n setup (line ∷ lines) = then_told (after_line n setup line) (λ n
 
 -- a plan alone, and the number of the first line behind it
 abbrev pub plan_alone : CheckedPlan → Setup
-plan_alone plan = record { plan = plan; openings = []; lost = [] }
+plan_alone plan = record { plan = plan; openings = []; rooms = []; lost = [] }
 
 abbrev pub first_behind : CheckedPlan → ℕ
 first_behind plan = length plan.rows + 4
@@ -170,6 +211,6 @@ abbrev pub behind_plan : Reading (CheckedPlan × List (List ℕ)) → SetupReadi
 behind_plan (Ok read) = after_lines (first_behind read.0) (plan_alone read.0) read.1
 behind_plan (Err fault) = Err (fault.0, InPlan fault.1)
 
--- the setup that a text tells: a plan, and behind `go` lines that open volumes or tell losses, and nothing else
+-- the setup that a text tells: a plan, and behind `go` lines that open volumes, give room for chunks or tell losses, and nothing else
 abbrev pub setup_of : List ℕ → SetupReading Setup
 setup_of text = behind_plan (plan_of (lines_of text))

@@ -1,6 +1,7 @@
 -- The text of a setup, as a file has it and as a node's journal has it.
 use Rattle.std.specs.Prelude.{◌≡◌, ℕ, List, [], ◌∷◌, ◌++◌, ◌==◌, map, length, codes, decimal, Ok, Err, if◌then◌else◌}
 use Rattle.std.specs.List.{flat_map}
+use Rattle.gq_desk.specs.CheckedPlan.{CheckedPlan, row_at}
 use Rattle.gq_desk.specs.Volumes.{account_at}
 use Rattle.gq_model.specs.declared.events.Event.{Event}
 use Rattle.gq_model.specs.declared.events.Event.TheVariants.{Tenant}
@@ -10,6 +11,7 @@ use Rattle.gq_text.specs.Canonical.{script_text}
 use Rattle.gq_journal.specs.Batches.{Line, lines_text}
 use Rattle.gq_node.specs.Resting.{FirstPlan}
 use Rattle.gq_setup.specs.declared.openings.Opening.{Opening}
+use Rattle.gq_setup.specs.declared.openings.ChunkRoom.{ChunkRoom}
 use Rattle.gq_setup.specs.Setups.{Setup, SetupReading, holdings, setup_of}
 
 -- the line that opens the volume
@@ -20,9 +22,17 @@ opening_event opening = Tenant opening.tenant (NewVolume opening.files opening.b
 abbrev pub loss_line : (place : ℕ) → List ℕ
 loss_line place = line_text (codes "replace") (decimal place ∷ [])
 
--- the canonical script of a plan and what it opens, and behind it the losses
+-- the line of a room for chunks, of a tenant of the plan
+abbrev pub room_line : CheckedPlan → ChunkRoom → List ℕ
+room_line plan room = line_text (row_at plan room.tenant).name (codes "chunks" ∷ decimal room.kib ∷ [])
+
+-- the lines of rooms for chunks and of losses
+abbrev pub behind_text : Setup → List ℕ
+behind_text setup = flat_map (room_line setup.plan) setup.rooms ++ flat_map loss_line setup.lost
+
+-- the canonical script of a plan and what it opens, and behind it these
 abbrev pub setup_text : Setup → List ℕ
-setup_text setup = script_text setup.plan (map opening_event setup.openings) ++ flat_map loss_line setup.lost
+setup_text setup = script_text setup.plan (map opening_event setup.openings) ++ behind_text setup
 
 -- the line `node N of R by C`
 abbrev pub head_text : (node : ℕ) → Setup → List ℕ

@@ -1,9 +1,10 @@
 //! What of an older setup a newer one does not keep.
 
 ghost use Rattle.std.specs.Prelude.{◌≡◌, ◌≤◌, ◌<◌, false, true, length, is_none, IfNone, IfSome};
-ghost use Rattle.gq_setup.specs.GoingOn.{come_first, losses_go_on, same_place, row_goes_on, same_servers, same_volume, account_goes_on};
-ghost use Rattle.gq_setup.specs.NotKept.{is_kept_at, TellsServers, TellsRow, TellsRowAt, TellsLoss, TellsVolume};
+ghost use Rattle.gq_setup.specs.GoingOn.{come_first, losses_go_on, same_place, row_goes_on, rooms_go_on, same_servers, same_volume, account_goes_on};
+ghost use Rattle.gq_setup.specs.NotKept.{is_kept_at, TellsServers, TellsRoom, TellsRow, TellsRowAt, TellsLoss, TellsVolume};
 
+use crate::openings::{ChunkRoom, kib_of};
 use gq_desk::{Desk, Plan, TenantRow, VolumeRow};
 use std::fmt;
 use std::fmt::{Display, Formatter, Write};
@@ -45,6 +46,11 @@ pub enum NotKept {
         index: usize,
         files: u32,
         blocks: u32,
+    },
+    /// The room for chunks of the tenant of this place: it had so many KiB, and has fewer.
+    Chunks {
+        place: usize,
+        before: u32,
     },
 }
 
@@ -98,6 +104,13 @@ impl Display for NotKept {
                 write!(
                     f,
                     "line {line}: volume {index} of the tenant was `open {files} {blocks}`"
+                )
+            }
+            NotKept::Chunks { place, before } => {
+                let line = line_of(*place);
+                write!(
+                    f,
+                    "line {line}: the tenant had {before} KiB of chunks, and may not have fewer"
                 )
             }
         }
@@ -217,6 +230,23 @@ pub(crate) fn accounts_not_kept(old: &Desk, new: &Desk, olds: usize) -> Option<N
                 index,
                 files,
                 blocks,
+            });
+        }
+    }
+    None
+}
+
+// The first of the old rooms for chunks that is not kept.
+pub(crate) fn rooms_not_kept(olds: &[ChunkRoom], news: &[ChunkRoom]) -> Option<NotKept>
+    ensures kept { is_none result ≡ rooms_go_on olds.now news.now }
+    ensures told { IfSome result (TellsRoom olds.now news.now) }
+{
+    for room in olds {
+        let before = kib_of(olds, room.tenant);
+        if kib_of(news, room.tenant) < before {
+            return Some(NotKept::Chunks {
+                place: room.tenant as usize,
+                before,
             });
         }
     }

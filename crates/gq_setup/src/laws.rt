@@ -1,6 +1,6 @@
 //! What stays where a setup goes on from an older one.
 
-ghost use Rattle.gq_setup.specs.Laws.{HomesStay, LossesStay, NodesGrow, SessionsGrow, TenantsStay, TimesGrow, VolumesStay};
+ghost use Rattle.gq_setup.specs.Laws.{HomesStay, LossesStay, NodesGrow, RoomsGrow, SessionsGrow, TenantsStay, TimesGrow, VolumesStay};
 
 /// An old tenant has its place in the plan.
 pub fn tenants_stay()
@@ -15,6 +15,11 @@ pub fn homes_stay()
 /// Each of its old volumes has its number, its files and their blocks.
 pub fn volumes_stay()
     ensures { VolumesStay }
+{}
+
+/// Each tenant may have at least as many KiB of chunks as it might.
+pub fn rooms_grow()
+    ensures { RoomsGrow }
 {}
 
 /// The old losses are the first. So no place loses fewer nodes, and the node that stands there has no smaller number, nor has a session

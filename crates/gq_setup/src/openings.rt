@@ -1,9 +1,9 @@
-//! What a line behind a plan says: a volume that is opened, or a node that was lost.
+//! What a line behind a plan says: a volume that is opened, what a tenant may have of chunks, or a node that was lost.
 
 ghost use Rattle.std.specs.Prelude.{◌≡◌, ◌<◌, length, None, Some, IfOk, IfSome, MatchOption};
 ghost use Rattle.gq_text.specs.Words.{words_of};
 ghost use Rattle.gq_text.specs.Input.{event_of};
-ghost use Rattle.gq_setup.specs.Setups.{event_opens, many_from, many_told, loss_word};
+ghost use Rattle.gq_setup.specs.Setups.{event_opens, many_from, many_told, loss_word, room_from, room_told, kib_of};
 
 use gq_desk::Plan;
 use gq_memory::OutOfMemory;
@@ -24,13 +24,21 @@ pub struct Opening {
     pub blocks: u32,
 }
 
+/// How many KiB of chunks a tenant may have at each server.
+#[derive(Clone, Copy, Debug, PartialEq, Eq)]
+pub struct ChunkRoom {
+    /// The tenant's place in the plan.
+    pub tenant: u8,
+    pub kib: u32,
+}
+
 /// Why a text tells no setup: the first line at fault, numbered from 1, or want of memory, wherever it came.
 #[derive(Debug, Drop, Error)]
 pub enum SetupFault {
     /// The line is none of a plan.
     #[error("line {line}: {fault}")]
     Plan { line: u64, fault: TextFault },
-    /// The line, behind the plan, opens no volume and tells no loss.
+    /// The line, behind the plan, opens no volume, gives no room for chunks and tells no loss.
     #[error("line {0}: live")]
     Live(u64),
     /// The volume of the line can't be opened: its files or their blocks are too few or too many.
@@ -42,6 +50,9 @@ pub enum SetupFault {
     /// The volume of the line can't be opened: it takes more blocks than the `free` ones that are left of the tenant's share.
     #[error("line {line}: open: share, {free} blocks are left")]
     OpenShare { line: u64, free: u32 },
+    /// The line gives no room for chunks: there is no such tenant, the room is none or no number, or the tenant has room by a line before.
+    #[error("line {0}: chunks")]
+    Chunks(u64),
     /// The node of the line can't be lost: there is no such place, the grid has one row, or too many nodes were lost before, in all or
     /// there.
     #[error("line {0}: replace")]
@@ -133,6 +144,45 @@ pub(crate) fn many_told(plan: &Plan, line: &[u8]) -> Option<(Opening, u32)>
         return None;
     }
     many_from(plan.find_word(name), files, blocks, times)
+}
+
+// The room of these words.
+fn room_from(tenant: Option<u8>, kib: &[u8]) -> Option<ChunkRoom>
+    ensures { result ≡ room_from tenant kib.now }
+{
+    Some(ChunkRoom {
+        tenant: tenant?,
+        kib: number(kib)?,
+    })
+}
+
+// What a line `T chunks KIB` says, if it is such a line: the room for chunks, or none where its tenant or its number is wrong.
+pub(crate) fn room_told(plan: &Plan, line: &[u8]) -> Option<Option<ChunkRoom>>
+    ensures room { result ≡ room_told plan.now (words_of line.now) }
+    ensures within { IfSome result (λ room. IfSome room (λ room. room.tenant < length plan.now.rows)) }
+{
+    let (name, rest) = first_word(line);
+    let (verb, rest) = next_word(rest)?;
+    let (kib, after) = next_word(rest)?;
+    if !is_end(after) {
+        return None;
+    }
+    if verb != b"chunks".as_slice() {
+        return None;
+    }
+    Some(room_from(plan.find_word(name), kib))
+}
+
+// How many KiB of chunks the tenant may have at each server by these, 0 where none is the tenant's.
+pub(crate) fn kib_of(rooms: &[ChunkRoom], tenant: u8) -> u32
+    ensures { result ≡ kib_of rooms.now tenant }
+{
+    for room in rooms {
+        if room.tenant == tenant {
+            return room.kib;
+        }
+    }
+    0
 }
 
 // The word that tells the place of a loss, if the line is one.

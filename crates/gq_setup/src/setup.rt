@@ -1,6 +1,6 @@
 //! A plan, the volumes that are opened at each start, and the nodes that were lost.
 
-ghost use Rattle.std.specs.Prelude.{◌≡◌, ◌++◌, ◌∷◌, ◌+◌, ◌<◌, ◌≤◌, ◌^◌, true, length, map, is_none, Ok, Some, [], IfOk, IfErr, IfSome, OnOk, OnErr};
+ghost use Rattle.std.specs.Prelude.{◌≡◌, ◌++◌, ◌∷◌, ◌+◌, ◌<◌, ◌≤◌, ◌^◌, true, length, map, is_none, Ok, Some, [], IfOk, IfErr, IfSome, OnOk, OnErr, ◌*◌, false};
 ghost use Rattle.std.specs.List.{All, flat_map};
 ghost use Rattle.gq_desk.specs.Volumes.{account_at, free_of};
 ghost use Rattle.gq_desk.specs.declared.limits.TheConstants.{MOST_VOLUMES};
@@ -12,17 +12,20 @@ ghost use Rattle.gq_grid.specs.declared.TheConstants.{MOST_SERVERS};
 ghost use Rattle.gq_replace.specs.Plans.{times};
 ghost use Rattle.gq_node.specs.declared.lost.TheConstants.{MOST_TIMES};
 ghost use Rattle.gq_node.specs.Sites.{plan_in};
-ghost use Rattle.gq_setup.specs.Setups.{setup_of, accounts_of, holdings, CanOpen, CanLose, can_lose, has_node, plan_alone, after_opens, after_opens_many, after_loses, after_line, after_lines};
+ghost use Rattle.gq_setup.specs.Setups.{setup_of, accounts_of, holdings, CanOpen, CanHave, CanLose, can_have, can_lose, has_node, kib_of, plan_alone, after_has, after_opens, after_opens_many, after_loses, after_line, after_lines};
 ghost use Rattle.gq_setup.specs.declared.openings.TheConstants.{MOST_LOSSES};
 ghost use Rattle.gq_setup.specs.Faults.{IsFirstFault};
 ghost use Rattle.gq_setup.specs.GoingOn.{goes_on, come_first, row_goes_on, account_goes_on};
 ghost use Rattle.gq_setup.specs.NotKept.{TellsVolume, IsNotKept};
-ghost use Rattle.gq_setup.specs.Texts.{opening_event, loss_line, setup_text};
+ghost use Rattle.gq_setup.specs.Texts.{opening_event, loss_line, room_line, behind_text, setup_text};
 
 use crate::going_on::{
-    NotKept, accounts_not_kept, losses_not_kept, rows_not_kept, servers_not_kept,
+    NotKept, accounts_not_kept, losses_not_kept, rooms_not_kept, rows_not_kept, servers_not_kept,
 };
-use crate::openings::{MOST_LOSSES, Opening, SetupFault, loss_word, many_told, read_opening};
+use crate::openings::{
+    ChunkRoom, MOST_LOSSES, Opening, SetupFault, kib_of, loss_word, many_told, read_opening,
+    room_told,
+};
 use gq_desk::{Desk, OpenRefused, Plan, VolumeRow};
 use gq_grid::MOST_SERVERS;
 use gq_memory::{GrowCopies, GrowVec, OutOfMemory, RoomInVec};
@@ -32,29 +35,31 @@ use gq_text::{Piece, PlanText, first_line, number, put_words, read_plan, write_s
 use std::alloc::Global;
 use std::marker::Model;
 
-/// What a node starts with: a plan, the volumes that are opened at each start, each behind those before it, and the nodes that were lost.
+/// What a node starts with: a plan, the volumes that are opened at each start, each behind those before it, the room that tenants have for
+/// chunks, and the nodes that were lost.
 #[derive(Drop)]
 pub struct Setup {
     plan: Plan,
     openings: Vec<Opening>,
     // what the tenants have then
     desk: Desk,
+    rooms: Vec<ChunkRoom>,
     lost: Lost,
 }
 
 impl Model for Setup {
     ghost use Rattle.std.specs.Prelude.{◌≡◌, []};
-    ghost use Rattle.gq_setup.specs.Setups.{Setup as TheSetup, accounts_of, after_openings, CanOpen, CanLose};
+    ghost use Rattle.gq_setup.specs.Setups.{Setup as TheSetup, accounts_of, after_openings, CanOpen, CanHave, CanLose};
 
     ghost Value = { TheSetup };
 
-    ghost view = { λ s. record { plan = s.plan; openings = s.openings.items; lost = s.lost } };
+    ghost view = { λ s. record { plan = s.plan; openings = s.openings.items; rooms = s.rooms.items; lost = s.lost } };
 
     ghost invariant = { λ s.
-        (s.desk ≡ after_openings (accounts_of s.plan) s.openings.items) × CanOpen (accounts_of s.plan) s.openings.items × CanLose s.plan [] s.lost };
+        (s.desk ≡ after_openings (accounts_of s.plan) s.openings.items) × CanOpen (accounts_of s.plan) s.openings.items × CanHave s.plan [] s.rooms.items × CanLose s.plan [] s.lost };
 }
 
-/// The setup that a text tells: a plan, and behind `go` lines that open volumes or tell losses, and nothing else. Else the first line at
+/// The setup that a text tells: a plan, and behind `go` lines that open volumes, give room for chunks or tell losses, and nothing else. Else the first line at
 /// fault is told; want of memory may come before it is found.
 pub fn read_setup(alloc: Global, text: &[u8]) -> Result<Setup, SetupFault>
     ensures ok { IfOk result (λ setup. setup_of text.now ≡ Ok setup) }
@@ -82,6 +87,7 @@ impl Setup {
             plan,
             openings: Vec::new(alloc),
             desk,
+            rooms: Vec::new(alloc),
             lost,
         })
     }
@@ -121,6 +127,31 @@ impl Setup {
         Ok(())
     }
 
+    // Whether the tenant may have that room for chunks too.
+    fn can_have(&self, room: &ChunkRoom) -> bool
+        ensures can { result ≡ can_have self.now.rooms room.now }
+        ensures low { room.now.kib < 2 ^ 32 }
+    {
+        room.kib > 0 && kib_of(self.rooms.as_slice(), room.tenant) == 0
+    }
+
+    // A tenant has that room for chunks too, by line `number`.
+    fn give_room(&mut self, told: Option<ChunkRoom>, number: u64) -> Result<(), SetupFault>
+        requires { IfSome told (λ room. room.tenant < length self.old.plan.rows) }
+        ensures ok { OnOk result (after_has number self.old told ≡ Ok self.new) }
+        ensures fault { IfErr result (λ e. IsFirstFault e (after_has number self.old told)) }
+    {
+        let Some(room) = told else {
+            return Err(SetupFault::Chunks(number));
+        };
+        if !self.can_have(&room) {
+            return Err(SetupFault::Chunks(number));
+        }
+        self.rooms.make_room(1)?;
+        self.rooms.push_reserved(room);
+        Ok(())
+    }
+
     // Whether the node at the place may be lost too.
     fn can_lose(&self, place: u32) -> bool
         ensures can { result ≡ can_lose self.now.plan self.now.lost place }
@@ -155,6 +186,9 @@ impl Setup {
     {
         if let Some(word) = loss_word(line) {
             return self.lose(word, number);
+        }
+        if let Some(room) = room_told(&self.plan, line) {
+            return self.give_room(room, number);
         }
         if let Some((opening, times)) = many_told(&self.plan, line) {
             return self.open_many(opening, times, number);
@@ -195,6 +229,28 @@ impl Setup {
         ensures can { CanOpen (accounts_of self.now.plan) result.now }
     {
         self.openings.as_slice()
+    }
+
+    /// Whether some tenant has room for chunks.
+    pub fn has_chunks(&self) -> bool
+        ensures some { result ≡ true → 0 < length self.now.rooms }
+        ensures none { result ≡ false → self.now.rooms ≡ [] }
+    {
+        !self.rooms.is_empty()
+    }
+
+    /// How many KiB of chunks the tenant may have at each server.
+    pub fn chunk_kib(&self, tenant: u8) -> u32
+        ensures { result ≡ kib_of self.now.rooms tenant }
+    {
+        kib_of(self.rooms.as_slice(), tenant)
+    }
+
+    /// How many bytes of chunks the tenant may have at each server: less than 2^42.
+    pub fn chunk_bytes(&self, tenant: u8) -> u64
+        ensures { result ≡ kib_of self.now.rooms tenant * 1024 }
+    {
+        u64::from(self.chunk_kib(tenant)) * 1024
     }
 
     /// The nodes that were lost, in order: each may be lost where those before it were.
@@ -247,6 +303,15 @@ impl Setup {
         self.volume_rows(tenant).len()
     }
 
+    // Appends the lines behind the script, of rooms for chunks and of losses.
+    fn put_behind(&self, out: &mut Vec<u8>) -> Result<(), OutOfMemory>
+        ensures ok { OnOk result (out.new.items ≡ out.old.items ++ behind_text self.now) }
+        ensures err { OnErr result (Extends out.old.items out.new.items) }
+    {
+        put_rooms(out, &self.plan, self.rooms.as_slice())?;
+        put_losses(out, self.lost.places())
+    }
+
     // Appends the lines of the canonical text.
     fn put_lines(&self, alloc: Global, out: &mut Vec<u8>) -> Result<(), OutOfMemory>
         ensures ok { OnOk result (out.new.items ≡ out.old.items ++ setup_text self.now) }
@@ -255,7 +320,7 @@ impl Setup {
     {
         let events = events_of(alloc, self.openings.as_slice())?;
         write_script(&self.plan, events.as_slice(), out)?;
-        put_losses(out, self.lost.places())
+        self.put_behind(out)
     }
 
     /// Appends the canonical text, which tells the setup again, or nothing where memory is wanting.
@@ -282,8 +347,8 @@ impl Setup {
     }
 
     /// What of the old setup this one does not keep, of the first thing that it does not: the grid, the blocks of a server, the losses in
-    /// order, the tenants in order with their names, sessions and shares, and their volumes in order. None where this one goes on from the
-    /// old one.
+    /// order, the tenants in order with their names, sessions and shares, their volumes in order, and their room for chunks. None where this
+    /// one goes on from the old one.
     pub fn not_kept(&self, old: &Setup) -> Option<NotKept>
         ensures none { is_none result ≡ goes_on old.now self.now }
         ensures told { IfSome result (IsNotKept old.now self.now) }
@@ -297,11 +362,14 @@ impl Setup {
         if let Some(what) = rows_not_kept(old.plan.rows(), self.plan.rows()) {
             return Some(what);
         }
-        self.volumes_not_kept(old)
+        if let Some(what) = self.volumes_not_kept(old) {
+            return Some(what);
+        }
+        rooms_not_kept(old.rooms.as_slice(), self.rooms.as_slice())
     }
 
     /// Whether a node of the old setup may start with this one: it has the same grid and no fewer blocks of a server, the old losses first,
-    /// and the old tenants first, with as many sessions and no smaller shares, and of each its old volumes first.
+    /// and the old tenants first, with as many sessions and no smaller shares, of each its old volumes first, and no less room for chunks.
     pub fn goes_on_from(&self, old: &Setup) -> bool
         ensures { result ≡ goes_on old.now self.now }
     {
@@ -338,6 +406,31 @@ fn add_loss(lost: &mut Lost, place: u8) -> Result<(), OutOfMemory>
         Err(LostRefused::TooOften) => unreachable!(),
         Err(LostRefused::Memory(refused)) => Err(refused),
     }
+}
+
+// Appends the line of a room for chunks.
+fn put_room(out: &mut Vec<u8>, plan: &Plan, room: ChunkRoom) -> Result<(), OutOfMemory>
+    requires { room.tenant < length plan.now.rows }
+    ensures ok { OnOk result (out.new.items ≡ out.old.items ++ room_line plan.now room) }
+    ensures err { OnErr result (Extends out.old.items out.new.items) }
+{
+    out.grow_by(plan.row(room.tenant).name.as_bytes())?;
+    put_words(
+        out,
+        &[Piece::Text(b"chunks"), Piece::Number(u64::from(room.kib))],
+    )
+}
+
+// Appends the lines of rooms for chunks.
+fn put_rooms(out: &mut Vec<u8>, plan: &Plan, rooms: &[ChunkRoom]) -> Result<(), OutOfMemory>
+    requires { All (λ room. room.tenant < length plan.now.rows) rooms.now }
+    ensures ok { OnOk result (out.new.items ≡ out.old.items ++ flat_map (room_line plan.now) rooms.now) }
+    ensures err { OnErr result (Extends out.old.items out.new.items) }
+{
+    for room in rooms {
+        put_room(out, plan, *room)?;
+    }
+    Ok(())
 }
 
 // Appends the line of a loss.

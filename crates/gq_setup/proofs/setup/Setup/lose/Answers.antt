@@ -11,7 +11,7 @@ add_loss-requires-clause-few c =
 
 pub invariant_of-self : goal.invariant_of-self
 invariant_of-self c =
-    (c.self.invariant.0, c.self.invariant.1, subst (CanLose c.self.inside.plan []) (sym c.in_err-add_loss.ensures.same) c.self.invariant.2)
+    (c.self.invariant.0, c.self.invariant.1, c.self.invariant.2, subst (CanLose c.self.inside.plan []) (sym c.in_err-add_loss.ensures.same) c.self.invariant.3)
 
 pub invariant_of-self-2 : goal.invariant_of-self-2
 invariant_of-self-2 c =
@@ -19,5 +19,6 @@ invariant_of-self-2 c =
     ap (λ (s : Setup). can_lose s.plan s.lost c.in-Some.place) c.self.view_is ∙ sym c.can_lose.ensures.can ∙ c.if-not-can_lose.false in (
       c.self.invariant.0,
       c.self.invariant.1,
-      subst (CanLose c.self.inside.plan []) (sym c.in_ok-add_loss.ensures.added) (one_lost c.self.inside.plan [] c.self.inside.lost c.in-Some.place c.self.invariant.2 can),
+      c.self.invariant.2,
+      subst (CanLose c.self.inside.plan []) (sym c.in_ok-add_loss.ensures.added) (one_lost c.self.inside.plan [] c.self.inside.lost c.in-Some.place c.self.invariant.3 can),
     )

@@ -4,4 +4,4 @@ use Rattle.gq_setup.proofs.Losing.{few_losses}
 use Rattle.gq_setup.proofs.setup.Setup.lost.Goals as goal
 
 pub returns-clause-few : goal.returns-clause-few
-returns-clause-few c = few_losses c.self.inside.plan [] c.self.inside.lost (omega arith) c.self.invariant.2
+returns-clause-few c = few_losses c.self.inside.plan [] c.self.inside.lost (omega arith) c.self.invariant.3
