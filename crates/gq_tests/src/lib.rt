@@ -7,6 +7,8 @@
 #[cfg(test)]
 mod cell;
 #[cfg(test)]
+mod depot;
+#[cfg(test)]
 mod desk;
 #[cfg(test)]
 mod memory;

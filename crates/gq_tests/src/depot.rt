@@ -1,0 +1,193 @@
+//! The chunks of two tenants over a shelf in memory: each call where memory and the shelf refuse nothing, and a start from the facts.
+
+use bytes::Bytes;
+use gq_depot::{Answered, ChunkAnswer, ChunkFact, ChunkRequest, Depot, Depots};
+use gq_memory::GrowVec;
+use gq_shelf::MemoryShelf;
+use gq_stock::{Found, Keeping, Run};
+use std::alloc::Global;
+use std::process::Abort;
+use std::test::Fail;
+
+const LOSSES: u64 = 3;
+
+fn content(rt: &impl Abort, alloc: Global, text: &str) -> Bytes {
+    match Bytes::copy_from_slice(alloc, text.as_bytes()) {
+        Ok(bytes) => bytes,
+        Err(_) => panic!(rt; "out of memory"),
+    }
+}
+
+fn keep(rt: &impl Abort, alloc: Global, number: u64, text: &str) -> ChunkRequest {
+    ChunkRequest::Keep {
+        session: 1,
+        number,
+        bytes: content(rt, alloc, text),
+    }
+}
+
+fn get(number: u64) -> ChunkRequest {
+    ChunkRequest::Get {
+        session: 1,
+        number,
+        from: 0,
+        length: 9,
+    }
+}
+
+// Two tenants, who have a session each, and the second one lacks chunks.
+fn two_depots(alloc: Global) -> Result<Depots<MemoryShelf>, Fail> {
+    let mut depots = Vec::new(alloc);
+    depots.grow(Depot::new(alloc, 1, 12, false)?)?;
+    depots.grow(Depot::new(alloc, 1, 12, true)?)?;
+    Ok(Depots {
+        shelf: MemoryShelf::new(alloc),
+        depots,
+        losses: LOSSES,
+    })
+}
+
+fn answered(
+    rt: &impl Abort,
+    alloc: Global,
+    depots: &mut Depots<MemoryShelf>,
+    tenant: usize,
+    request: ChunkRequest,
+) -> Answered {
+    assert!(rt; tenant < depots.depots.len());
+    match depots.answer(alloc, tenant, request) {
+        Ok(answered) => answered,
+        Err(_) => panic!(rt; "refused"),
+    }
+}
+
+fn keeps(
+    rt: &impl Abort,
+    alloc: Global,
+    depots: &mut Depots<MemoryShelf>,
+    tenant: usize,
+    number: u64,
+    text: &str,
+) -> Keeping {
+    match answered(rt, alloc, depots, tenant, keep(rt, alloc, number, text)).answer {
+        ChunkAnswer::Kept { told, losses, .. } => {
+            assert!(rt; losses == LOSSES);
+            told
+        }
+        _ => panic!(rt; "another answer"),
+    }
+}
+
+fn has(
+    rt: &impl Abort,
+    alloc: Global,
+    depots: &mut Depots<MemoryShelf>,
+    tenant: usize,
+    number: u64,
+    text: &str,
+) -> bool {
+    match answered(rt, alloc, depots, tenant, get(number)).answer {
+        ChunkAnswer::Found {
+            found: Found::There(bytes),
+            ..
+        } => bytes.as_slice() == text.as_bytes(),
+        _ => false,
+    }
+}
+
+fn lacks(
+    rt: &impl Abort,
+    alloc: Global,
+    depots: &mut Depots<MemoryShelf>,
+    tenant: usize,
+    number: u64,
+) -> bool {
+    matches!(
+        answered(rt, alloc, depots, tenant, get(number)).answer,
+        ChunkAnswer::Found {
+            found: Found::Nothing,
+            lacks: true,
+            ..
+        }
+    )
+}
+
+#[test]
+fn two_tenants_have_chunks_of_one_number(rt: HostRuntime) -> Result<(), Fail> {
+    let alloc = rt.alloc();
+    let mut depots = two_depots(alloc)?;
+    assert!(&rt; keeps(&rt, alloc, &mut depots, 0, 1, "ann's") == Keeping::New);
+    assert!(&rt; keeps(&rt, alloc, &mut depots, 1, 1, "bob's") == Keeping::New);
+    assert!(&rt; keeps(&rt, alloc, &mut depots, 0, 1, "bob's") == Keeping::Differs);
+    assert!(&rt; has(&rt, alloc, &mut depots, 0, 1, "ann's"));
+    assert!(&rt; lacks(&rt, alloc, &mut depots, 1, 1));
+    Ok(())
+}
+
+#[test]
+fn a_start_has_again_what_was_kept(rt: HostRuntime) -> Result<(), Fail> {
+    let alloc = rt.alloc();
+    let mut depots = two_depots(alloc)?;
+    let kept = answered(&rt, alloc, &mut depots, 0, keep(&rt, alloc, 7, "kept"));
+    let forgot = answered(
+        &rt,
+        alloc,
+        &mut depots,
+        0,
+        ChunkRequest::Forget {
+            session: 1,
+            floor: 5,
+            run: Run { first: 1, last: 5 },
+        },
+    );
+    assert!(&rt; matches!(forgot.answer, ChunkAnswer::Forgot { floor: 5, .. }));
+    let mut again = two_depots(alloc)?;
+    assert!(&rt; again.depots.len() == 2);
+    for fact in [kept.fact, forgot.fact, Some(ChunkFact::Filled)] {
+        if let Some(fact) = fact {
+            assert!(&rt; again.depots[0].recall(alloc, fact)?);
+        }
+    }
+    assert!(&rt; has(&rt, alloc, &mut again, 0, 7, "kept"));
+    assert!(&rt; keeps(&rt, alloc, &mut again, 0, 5, "low") == Keeping::Below);
+    let strange = ChunkFact::Forgot {
+        session: 2,
+        floor: 5,
+        run: Run { first: 1, last: 5 },
+    };
+    assert!(&rt; again.depots.len() == 2);
+    assert!(&rt; !again.depots[0].recall(alloc, strange)?);
+    Ok(())
+}
+
+#[test]
+fn numbers_and_room_are_told(rt: HostRuntime) -> Result<(), Fail> {
+    let alloc = rt.alloc();
+    let mut depots = two_depots(alloc)?;
+    assert!(&rt; keeps(&rt, alloc, &mut depots, 0, 4, "four") == Keeping::New);
+    assert!(&rt; keeps(&rt, alloc, &mut depots, 0, 9, "nine") == Keeping::New);
+    let list = ChunkRequest::List {
+        session: 1,
+        after: 4,
+    };
+    match answered(&rt, alloc, &mut depots, 0, list).answer {
+        ChunkAnswer::Listed { chunks, is_all, .. } => {
+            assert!(&rt; is_all && chunks.len() == 1);
+            assert!(&rt; chunks.len() == 1 && chunks[0].number == 9 && chunks[0].size == 4);
+        }
+        _ => panic!(&rt; "another answer"),
+    }
+    let room = answered(&rt, alloc, &mut depots, 0, ChunkRequest::Room).answer;
+    assert!(&rt;
+        matches!(
+            room,
+            ChunkAnswer::Room {
+                used: 8,
+                allowed: 12,
+                losses: LOSSES,
+                lacks: false
+            }
+        )
+    );
+    Ok(())
+}
