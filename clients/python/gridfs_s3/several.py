@@ -155,7 +155,11 @@ class Gateways:
         for child in self.children.values():
             if child.pid is None and child.due <= time.monotonic():
                 child.begun = time.monotonic()
-                child.pid = os.fork() or become(child.line, self.run)
+                try:
+                    child.pid = os.fork() or become(child.line, self.run)
+                except OSError as fault:  # (no memory for a process more: the others go on)
+                    tell(f"{child.line.name}: {fault.strerror}")
+                    child.due = child.begun + LATEST
 
     def see_who_ended(self) -> None:
         while True:
