@@ -197,7 +197,8 @@ class Several(unittest.TestCase):
         self.process.send_signal(signal.SIGHUP)
         until(lambda: self.code("dave") is None)
         until(lambda: not is_there(carol))
-        self.assertEqual(children_of(self.process.pid), [self.pid_of("carol")])
+        carol = self.pid_of("carol")
+        until(lambda: children_of(self.process.pid) == [carol])
 
     def test_ends(self):
         self.start()
