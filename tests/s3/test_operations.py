@@ -866,7 +866,7 @@ class Requests(Case):
             (f"?{query}&marker=order%2Fa", ["ListBucketResult", *head, "Marker", *tail, *group]),
             (f"?list-type=2&{query}&start-after=a", ["ListBucketResult", *head, "NextContinuationToken", "StartAfter", "KeyCount", *tail, *row]),
             (f"?versions&{query}", ["ListVersionsResult", *head, "KeyMarker", "VersionIdMarker", "NextKeyMarker", "NextVersionIdMarker", *tail, "Version", "Key", "VersionId", "IsLatest", *of_object[1:], *owner, "StorageClass"]),
-            ("?uploads&prefix=order%2F&delimiter=%2F&encoding-type=url", ["ListMultipartUploadsResult", "Bucket", "KeyMarker", "UploadIdMarker", "Delimiter", "Prefix", "MaxUploads", "EncodingType", "IsTruncated",
+            ("?uploads&prefix=order%2F&delimiter=%2F&encoding-type=url", ["ListMultipartUploadsResult", "Bucket", "KeyMarker", "UploadIdMarker", "NextKeyMarker", "NextUploadIdMarker", "Delimiter", "Prefix", "MaxUploads", "EncodingType", "IsTruncated",
                                                                       "Upload", "Key", "UploadId", "Initiator", *owner[1:], *owner, "StorageClass", "Initiated"]),
         ]:  # fmt: skip
             status, told, _ = self.ask("GET", f"/{self.bucket}{path}")
