@@ -61,6 +61,18 @@ fn answered(
     }
 }
 
+fn answer_to(
+    rt: &impl Abort,
+    alloc: Global,
+    depots: &mut Depots<MemoryShelf>,
+    tenant: usize,
+    request: ChunkRequest,
+) -> ChunkAnswer {
+    let Answered { answer, fact } = answered(rt, alloc, depots, tenant, request);
+    drop(fact);
+    answer
+}
+
 fn keeps(
     rt: &impl Abort,
     alloc: Global,
@@ -69,7 +81,7 @@ fn keeps(
     number: u64,
     text: &str,
 ) -> Keeping {
-    match answered(rt, alloc, depots, tenant, keep(rt, alloc, number, text)).answer {
+    match answer_to(rt, alloc, depots, tenant, keep(rt, alloc, number, text)) {
         ChunkAnswer::Kept { told, losses, .. } => {
             assert!(rt; losses == LOSSES);
             told
@@ -86,7 +98,7 @@ fn has(
     number: u64,
     text: &str,
 ) -> bool {
-    match answered(rt, alloc, depots, tenant, get(number)).answer {
+    match answer_to(rt, alloc, depots, tenant, get(number)) {
         ChunkAnswer::Found {
             found: Found::There(bytes),
             ..
@@ -103,7 +115,7 @@ fn lacks(
     number: u64,
 ) -> bool {
     matches!(
-        answered(rt, alloc, depots, tenant, get(number)).answer,
+        answer_to(rt, alloc, depots, tenant, get(number)),
         ChunkAnswer::Found {
             found: Found::Nothing,
             lacks: true,
@@ -170,14 +182,14 @@ fn numbers_and_room_are_told(rt: HostRuntime) -> Result<(), Fail> {
         session: 1,
         after: 4,
     };
-    match answered(&rt, alloc, &mut depots, 0, list).answer {
+    match answer_to(&rt, alloc, &mut depots, 0, list) {
         ChunkAnswer::Listed { chunks, is_all, .. } => {
             assert!(&rt; is_all && chunks.len() == 1);
             assert!(&rt; chunks.len() == 1 && chunks[0].number == 9 && chunks[0].size == 4);
         }
         _ => panic!(&rt; "another answer"),
     }
-    let room = answered(&rt, alloc, &mut depots, 0, ChunkRequest::Room).answer;
+    let room = answer_to(&rt, alloc, &mut depots, 0, ChunkRequest::Room);
     assert!(&rt;
         matches!(
             room,
