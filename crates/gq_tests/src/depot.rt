@@ -124,6 +124,20 @@ fn lacks(
     )
 }
 
+// Whether the first tenant has such a fact.
+fn is_recalled(
+    rt: &impl Abort,
+    alloc: Global,
+    depots: &mut Depots<MemoryShelf>,
+    fact: ChunkFact,
+) -> bool {
+    assert!(rt; depots.depots.len() == 2);
+    match depots.depots[0].recall(alloc, fact) {
+        Ok(is_read) => is_read,
+        Err(_) => panic!(rt; "out of memory"),
+    }
+}
+
 #[test]
 fn two_tenants_have_chunks_of_one_number(rt: HostRuntime) -> Result<(), Fail> {
     let alloc = rt.alloc();
@@ -154,10 +168,9 @@ fn a_start_has_again_what_was_kept(rt: HostRuntime) -> Result<(), Fail> {
     );
     assert!(&rt; matches!(forgot.answer, ChunkAnswer::Forgot { floor: 5, .. }));
     let mut again = two_depots(alloc)?;
-    assert!(&rt; again.depots.len() == 2);
     for fact in [kept.fact, forgot.fact, Some(ChunkFact::Filled)] {
         if let Some(fact) = fact {
-            assert!(&rt; again.depots[0].recall(alloc, fact)?);
+            assert!(&rt; is_recalled(&rt, alloc, &mut again, fact));
         }
     }
     assert!(&rt; has(&rt, alloc, &mut again, 0, 7, "kept"));
@@ -167,8 +180,7 @@ fn a_start_has_again_what_was_kept(rt: HostRuntime) -> Result<(), Fail> {
         floor: 5,
         run: Run { first: 1, last: 5 },
     };
-    assert!(&rt; again.depots.len() == 2);
-    assert!(&rt; !again.depots[0].recall(alloc, strange)?);
+    assert!(&rt; !is_recalled(&rt, alloc, &mut again, strange));
     Ok(())
 }
 
