@@ -40,6 +40,13 @@ def is_there(pid):
     return False
 
 
+def kill(pids):
+    """Those of them that are there still, where a test has failed."""
+    for pid in filter(is_there, pids):
+        with contextlib.suppress(ProcessLookupError):
+            os.kill(pid, signal.SIGKILL)
+
+
 def own_memory(pid):
     """Bytes that no other process has too."""
     with open(f"/proc/{pid}/smaps_rollup") as file:
@@ -208,6 +215,7 @@ class Several(unittest.TestCase):
         self.assertFalse(list(filter(is_there, pids)))
         self.start()
         pids = list(map(self.pid_of, TENANTS))
+        self.addCleanup(kill, pids)
         self.end()  # by a kill: nobody sees to gateways any more, so they end too
         until(lambda: not list(filter(is_there, pids)))
 

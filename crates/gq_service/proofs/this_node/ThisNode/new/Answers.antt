@@ -21,3 +21,6 @@ invariant_of-result c =
 
 pub returns-in-Some-clause-of_plan : goal.returns-in-Some-clause-of_plan
 returns-in-Some-clause-of_plan c = subst (λ n. has_node c.args.setup n ≡ true) c.in_ok-node.ensures.same c.in_ok-node.ensures.of_plan
+
+pub returns-then-has_chunks-clause-chunks : goal.returns-then-has_chunks-clause-chunks
+returns-then-has_chunks-clause-chunks c = (c.has_chunks.ensures.some c.if-has_chunks.true, subst (λ n. has_node c.args.setup n ≡ true) c.in_ok-node.ensures.same c.in_ok-node.ensures.of_plan)
