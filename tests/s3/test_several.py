@@ -123,8 +123,7 @@ class Several(unittest.TestCase):
     def pid_of(self, name):
         """The process that serves a tenant, once it does."""
         until(lambda: self.code(name) == "200")
-        (found,) = (pid for pid in children_of(self.process.pid) if self.listening(name) & self.files_of(pid))
-        return found
+        return until(lambda: next((pid for pid in children_of(self.process.pid) if self.listening(name) & self.files_of(pid)), None))
 
     @staticmethod
     def files_of(pid):
@@ -206,6 +205,22 @@ class Several(unittest.TestCase):
         until(lambda: not is_there(carol))
         carol = self.pid_of("carol")
         until(lambda: children_of(self.process.pid) == [carol])
+        # One that is another for a moment, and as it was before its gateway has ended, is begun anew too
+        os.kill(carol, signal.SIGSTOP)
+        self.write(self.line("carol"))
+        self.read_again()
+        self.write(self.line("carol", after=" --region eu-west-1"))
+        self.read_again()
+        os.kill(carol, signal.SIGCONT)
+        until(lambda: not is_there(carol))
+        self.assertNotEqual(self.pid_of("carol"), carol)
+
+    def read_again(self):
+        """The file, once more, to its end."""
+        told = f"{self.file} is read again"
+        before = self.told().count(told)
+        self.process.send_signal(signal.SIGHUP)
+        until(lambda: self.told().count(told) > before)
 
     def test_ends(self):
         self.start()

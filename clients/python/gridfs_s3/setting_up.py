@@ -60,7 +60,7 @@ def users_of(gateways: Mapping[str, Sequence[Instance]]) -> str:
 
 def lines_of(gateways: Sequence[Instance]) -> str:
     """The gateways for `gridfs-s3 --several`, as the unit gridfs-s3@NAME begins each of them."""
-    lines = ["# A gateway a line; its files are in the folder of this one (docs/S3.md, Several tenants)"]
+    lines = ["# A gateway a line; its files are in the folder of this one (docs/S3.md, Operating it)"]
     for name in (each.name for each in gateways):
         run, cache = f"/run/gridfs-s3-{name}", f"/var/cache/gridfs-s3-{name}"
         who = f"user=gridfs-s3-{name} group=gridfs-s3 GRIDFS_LOCKS={run}/locks TMPDIR={cache}"

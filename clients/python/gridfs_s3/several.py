@@ -184,9 +184,9 @@ class Gateways:
             tell(f"{child.line.name} ended with status {status}; it is begun again in {child.pause:g} s")
 
     def leave(self, where: str) -> None:
-        """Its line is gone, or is another one now."""
-        child = self.children.pop(where)
-        if not self.is_ending and (later := self.wanted.get(where)) and later != child.line:
+        """Its line is gone, or was another one when it was to end."""
+        del self.children[where]
+        if not self.is_ending and (later := self.wanted.get(where)):
             self.children[where] = Child(later)
 
     def end(self, children: list[Child]) -> None:
