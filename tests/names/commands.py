@@ -103,10 +103,10 @@ class Commands:
         self.told("rm", ["rm", "x/y", "ä b"], b"")
         before = self.run("ls")
         status, told, why = self.run("sweep", GRIDFS_SESSION="1")
-        self.held("a sweep of one session", (status, told.endswith(b" left; sessions 2, 3 and 4 could not be had\n"), why), (0, True, ""))
+        self.held("a sweep of one session", (status, told.endswith(b" emptied; sessions 2, 3 and 4 could not be had\n"), why), (0, True, ""))
         status, told, why = self.run("sweep")
-        self.held("sweep", (status, told.startswith(b"removals: ") and told.endswith(b" forgotten, 0 left\n"), why), (0, True, ""))
-        self.told("a sweep behind it", ["sweep", "--json"], b'{"forgotten": 0, "left": 0, "absent": []}\n')
+        self.held("sweep", (status, told.startswith(b"removals: ") and b" forgotten, 0 left; slots: " in told and told.endswith(b" emptied\n"), why), (0, True, ""))
+        self.told("a sweep behind it", ["sweep", "--json"], b'{"forgotten": 0, "left": 0, "emptied": 0, "absent": []}\n')
         self.held("ls behind a sweep", self.run("ls"), before)
         self.told("ls of nothing", ["ls"], b"")
         for word in ("get", "stat", "rm"):

@@ -334,7 +334,7 @@ def sweep(opened: Opened | OpenedFleet, args: argparse.Namespace) -> None:
     names = opened.names()
     caught_up = names.catch_up() if args.catch_up else 0
     swept = names.sweep()
-    text = f"removals: {swept.forgotten} forgotten, {swept.left} left"
+    text = f"removals: {swept.forgotten} forgotten, {swept.left} left; slots: {swept.emptied} emptied"
     if args.catch_up:
         text = f"pages: {caught_up} caught up; {text}"
     if swept.absent:

@@ -240,7 +240,8 @@ class FleetFiles:
 
     def sweep(self) -> Swept:
         found = [self.grid(grid).sweep() for grid in self.map.grids]
-        return Swept(sum(each.forgotten for each in found), sum(each.left for each in found), sorted({number for each in found for number in each.absent}))
+        forgotten, left, emptied = (sum(counts) for counts in zip(*((each.forgotten, each.left, each.emptied) for each in found)))
+        return Swept(forgotten, left, emptied, sorted({number for each in found for number in each.absent}))
 
     def catch_up(self) -> int:
         return sum(self.grid(grid).catch_up() for grid in self.map.grids)
