@@ -266,6 +266,7 @@ class Malformed(unittest.TestCase):
             ("POST", "/two?delete", {}, sized(b"<Delete><Object><Key>k</Key></Object><BypassAll>true</BypassAll></Delete>")),
             ("PUT", "/two/k?tagging", {"If-Match": "x"}, tagged), ("PUT", "/two/k?tagging&anything", {}, tagged), ("DELETE", "/two/k?tagging", {"If-Match": "x"}, empty),
             ("PUT", "/two/k?tagging", {}, sized(b"<Tagging><TagSet><Tag><Key>a</Key><Value>b</Value><Kind/></Tag></TagSet></Tagging>")), ("PUT", "/two?tagging", {}, tagged), ("DELETE", "/two?tagging", {}, empty),
+            ("PUT", "/two/k", {"x-amz-metadata-directive": "COPY"}, body), ("POST", "/two/k?uploads", {"x-amz-metadata-directive": "COPY"}, empty),
             ("PUT", "/two/k", {"x-amz-tagging-directive": "REPLACE"}, body), ("PUT", in_parts + "&partNumber=1", {"x-amz-tagging": "a=b"}, body), ("POST", in_parts, {"x-amz-tagging": "a=b"}, completion),
             ("POST", in_parts, {}, sized(of_parts.replace(b"</Part>", b"<Size>4</Size></Part>"))), ("POST", in_parts, {}, sized(of_parts.replace(b"</ETag>", b"<x/></ETag>"))),
         ]:  # fmt: skip

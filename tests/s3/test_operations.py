@@ -875,9 +875,17 @@ class Requests(Case):
     def test_what_browsers_ask(self):
         """Who sign nothing: a form, and leave to ask from another page."""
         form, origin = {"Content-Type": "multipart/form-data; boundary=x"}, {"Origin": "http://a", "Access-Control-Request-Method": "PUT"}
-        self.assertEqual(self.code(self.ask("POST", f"/{self.bucket}", b"--x--", form, sign=False)), "IncorrectNumberOfFilesInPostRequest")
+        named = f"?X-Amz-Credential={ACCESS}/" if IS_BEHIND else ""
+        self.assertEqual(self.code(self.ask("POST", f"/{self.bucket}{named}", b"--x--", form, sign=False)), "IncorrectNumberOfFilesInPostRequest")
         self.assertEqual(self.code(self.ask("OPTIONS", f"/{self.bucket}/a", b"", origin, sign=False)), "AccessForbidden")
         self.assertEqual(self.code(self.ask("POST", f"/{self.bucket}", b"x", sign=False)), "AccessDenied")
+
+    def test_metadata_that_no_copy_brings(self):
+        """s3fs says of each put, and of an upload in parts, that it brings its metadata."""
+        headers = {"x-amz-metadata-directive": "REPLACE", "x-amz-meta-mode": "33188"}
+        self.assertEqual(self.ask("PUT", f"/{self.bucket}/brought", b"x", headers)[0], 200)
+        self.assertEqual(self.get("brought")["Metadata"], {"mode": "33188"})
+        self.assertEqual(self.ask("POST", f"/{self.bucket}/brought?uploads", b"", headers)[0], 200)
 
     def test_faults_of_a_head(self):
         """They have no body, and the kind that one would have."""

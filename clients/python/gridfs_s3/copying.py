@@ -20,7 +20,7 @@ from .errors import S3Error
 from .gateway import TURNS, NotSettled, Operations
 from .grids import Want
 from .markup import document, element
-from .objects import Objects, algorithm_wanted, values_by, values_of
+from .objects import DIRECTIVE, Objects, algorithm_wanted, values_by, values_of
 from .places import Object, Values
 from .requests import Asked, answer, iso, judge
 from .store import Body, Condition, NoLine, PageFull, Store
@@ -163,10 +163,10 @@ class Copies(Operations):
         """200; a copy of an object onto itself with other metadata or tags moves no content. 400 InvalidArgument, InvalidRequest (nothing would change), InvalidTag;
         404 NoSuchBucket, NoSuchKey; 412 PreconditionFailed; 507 InsufficientStorage."""
         target, place = await self.objects.target_of(asked), await self.source_of(asked)
-        name, directive = target.name, asked.headers.get("x-amz-metadata-directive", "COPY")
+        name, directive = target.name, asked.headers.get(DIRECTIVE, "COPY")
         is_onto_itself = (place.bucket, place.key, place.version) == (asked.bucket, asked.key, None)
         if directive not in ("COPY", "REPLACE"):
-            raise S3Error("InvalidArgument", "x-amz-metadata-directive is COPY or REPLACE.")
+            raise S3Error("InvalidArgument", f"{DIRECTIVE} is COPY or REPLACE.")
         new_tags = tags.in_place_of_the_sources(asked.headers)
         if is_onto_itself and directive == "COPY" and new_tags is None:
             raise S3Error("InvalidRequest", "A copy onto itself has to change something: REPLACE.")

@@ -26,6 +26,7 @@ MANY = 4 << 20  # bytes from which on idle sessions help
 HELPERS = 3
 LONGEST_PUT = 5 << 30
 ATTRIBUTES = {"Checksum", "ETag", "ObjectParts", "ObjectSize", "StorageClass"}
+DIRECTIVE = "x-amz-metadata-directive"  # whose metadata an object gets: its source's (COPY), or those of this request (REPLACE)
 KEPT_HEADERS = ("cache-control", "content-disposition", "content-encoding", "content-language", "expires")
 
 
@@ -52,6 +53,13 @@ def values_of(asked: Asked) -> Values:
     except UnicodeEncodeError:
         raise S3Error("InvalidArgument", "What is kept beside a content is UTF-8.") from None
     return values
+
+
+def brought_by(asked: Asked) -> Values:
+    """The same, and tags, of a put or an upload that is no copy. 400 InvalidTag; 501 NotImplemented where they are to be another object's."""
+    if asked.headers.get(DIRECTIVE, "REPLACE") != "REPLACE":  # (s3fs says so of each put)
+        raise S3Error("NotImplemented", "What is no copy has the metadata that it brings.")
+    return values_of(asked) | tags.in_headers(asked.headers)
 
 
 def algorithm_wanted(asked: Asked) -> str:
@@ -298,11 +306,12 @@ class Objects(Operations):
     async def put_object(self, asked: Asked) -> web.Response:
         """200. With If-None-Match or If-Match: 412 PreconditionFailed, 404 NoSuchKey. 404 NoSuchBucket; 411 MissingContentLength; 507
         InsufficientStorage; 400 BadDigest, EntityTooLarge, IncompleteBody, InvalidDigest, InvalidTag, KeyTooLongError, MetadataTooLarge,
-        RequestTimeout, XAmzContentSHA256Mismatch; 403 SignatureDoesNotMatch (of a chunk). After these nothing was changed."""
+        RequestTimeout, XAmzContentSHA256Mismatch; 403 SignatureDoesNotMatch (of a chunk); 501 NotImplemented (metadata of another object). After these nothing
+        was changed."""
         target, body = await self.target_of(asked), body_of(asked)
         if body.told_size > LONGEST_PUT:
             raise S3Error("EntityTooLarge")
-        values, algorithm = values_of(asked) | tags.in_headers(asked.headers), algorithm_wanted(asked)
+        values, algorithm = brought_by(asked), algorithm_wanted(asked)
         condition = await self.gateway.condition_of(asked, target.name)
         async with self.source_of(asked, body) as source:
             found = await self.put(asked, target, source, values, algorithm, condition)

@@ -21,7 +21,7 @@ from .gateway import Gateway
 from .given import Given
 from .grids import asked_by
 from .listing import Listings
-from .objects import Objects
+from .objects import DIRECTIVE, Objects
 from .page import Page
 from .policies import Policies
 from .requests import SERVER, Asked, answer
@@ -237,14 +237,14 @@ class Endpoint:
             return of_buckets.get(method, [])
         of_objects = {
             "PUT": [
-                Change(self.objects.put_object, conditions=CONDITIONS, headers={BY, tags.HEADER}),
-                Change(self.copies.copy_object, conditions=CONDITIONS, headers={*OF_A_COPY, "x-amz-metadata-directive", BY, tags.HEADER, tags.DIRECTIVE}),
+                Change(self.objects.put_object, conditions=CONDITIONS, headers={DIRECTIVE, BY, tags.HEADER}),
+                Change(self.copies.copy_object, conditions=CONDITIONS, headers={*OF_A_COPY, DIRECTIVE, BY, tags.HEADER, tags.DIRECTIVE}),
                 Change(self.uploads.upload_part, upload, part, headers={BY}),
                 Change(self.uploads.upload_part_copy, upload, part, headers={*OF_A_COPY, "x-amz-copy-source-range"}),
                 Change(self.tagging.put_object_tagging, tagging, version, elements=tags.ELEMENTS),
             ],
             "POST": [
-                Change(self.uploads.create_multipart_upload, {"uploads"}, headers={BY, KIND, tags.HEADER}),
+                Change(self.uploads.create_multipart_upload, {"uploads"}, headers={DIRECTIVE, BY, KIND, tags.HEADER}),
                 Change(self.uploads.complete_multipart_upload, upload, conditions=CONDITIONS, headers={"x-amz-mp-object-size", KIND}, elements=OF_PARTS),
             ],
             "DELETE": [

@@ -15,7 +15,7 @@ from .copying import Copies, range_to_copy
 from .errors import S3Error, tell
 from .gateway import Operations
 from .markup import Element, document, element, many
-from .objects import HELPERS, LONGEST_PUT, MANY, Objects, algorithm_wanted, values_of
+from .objects import HELPERS, LONGEST_PUT, MANY, Objects, algorithm_wanted, brought_by
 from .places import Object, Part, name_of, named_in, of_words, parts_of, upload_name
 from .requests import Asked, answer, iso
 from .sessions import now_ms
@@ -99,9 +99,9 @@ class Uploads(Operations):
         return upload_name(asked.bucket, asked.query["uploadId"], name_of(asked.bucket, asked.key))
 
     async def create_multipart_upload(self, asked: Asked) -> web.Response:
-        """200. 400 InvalidTag, KeyTooLongError, MetadataTooLarge; 404 NoSuchBucket; 507 InsufficientStorage."""
+        """200. 400 InvalidTag, KeyTooLongError, MetadataTooLarge; 404 NoSuchBucket; 501 NotImplemented (metadata of another object); 507 InsufficientStorage."""
         await self.gateway.need_bucket(asked.bucket)
-        name, values = name_of(asked.bucket, asked.key), {**values_of(asked), **tags.in_headers(asked.headers), "k": asked.key, "i": str(now_ms())}
+        name, values = name_of(asked.bucket, asked.key), {**brought_by(asked), "k": asked.key, "i": str(now_ms())}
         algorithm, headers = algorithm_wanted(asked), dict[str, str]()
         kind = kind_wanted(asked, algorithm)
         if algorithm:
