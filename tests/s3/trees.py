@@ -4,8 +4,10 @@ import filecmp
 import os
 import random
 import shutil
+import sqlite3
 import subprocess
 import time
+from contextlib import closing
 
 SIZES = {"empty": 0, "small.txt": 12, "one kib": 1_024, "dir/äöü.bin": 70_000, "dir/deep/er/two.bin": 2_000_000, "dir/plus+and&.bin": 4_097}
 BIG = 12_000_000  # bytes of what goes in parts of 5 MiB
@@ -69,6 +71,11 @@ class Clients:
             told = f"WRONG: {fault}"
         print(f"{what:<60} {time.monotonic() - begin:6.1f} s  {told}", flush=True)
 
+    def boto3(self):
+        import boto3
+
+        return boto3.client("s3", endpoint_url=self.url, aws_access_key_id=self.access, aws_secret_access_key=self.secret, region_name="us-east-1")
+
     def place(self, name):
         return os.path.join(self.room, name)
 
@@ -126,3 +133,48 @@ class Clients:
         self.step("restic check --read-data", lambda: run("restic", "check", "--read-data", env=words))
         self.step("restic restore, the same files", lambda: (run("restic", "restore", "latest", "--target", back, env=words), same(self.files, back + self.files), expect(filecmp.cmp(self.big, back + self.big, False), True, "big")))
         self.step("restic forget --prune, check", lambda: (run("restic", "forget", "--keep-last", "1", "--prune", env=words), run("restic", "check", env=words)))
+
+    def s3fs(self):
+        """A bucket as a folder of this machine."""
+        bucket, there, keys = f"s3fs-{os.getpid()}", self.place("mounted"), self.place("s3fs.keys")
+        with open(os.open(keys, os.O_WRONLY | os.O_CREAT, 0o600), "w") as out:
+            out.write(f"{self.access}:{self.secret}\n")
+        os.makedirs(there)
+        self.step("s3fs: its bucket (by boto3)", lambda: self.boto3().create_bucket(Bucket=bucket))
+        options = f"passwd_file={keys},url={self.url},use_path_request_style,sigv4,endpoint=us-east-1"
+        with subprocess.Popen(["s3fs", bucket, there, "-f", "-o", options], stdin=subprocess.DEVNULL, stdout=subprocess.DEVNULL, stderr=subprocess.DEVNULL) as mounted:
+            try:
+                while not os.path.ismount(there) and mounted.poll() is None:
+                    time.sleep(0.05)
+                self.in_folder(os.path.join(there, "folder"))
+            finally:
+                subprocess.run(["fusermount", "-u", "-z", there], stderr=subprocess.DEVNULL)
+
+    def in_folder(self, there):
+        """What programs do with files and folders."""
+        big, moved = os.path.join(there, "big"), os.path.join(there, "moved")
+        self.step("s3fs cp -r, the same files", lambda: (run("cp", "-r", self.files, there), same(self.files, there)))
+        self.step("s3fs cp of what goes in parts", lambda: (run("cp", self.big, big), expect(filecmp.cmp(self.big, big, False), True, "big")))
+        self.step("s3fs writes amid a long file", lambda: (write_at(big, BIG // 2, b"MIDDLE"), write_at(self.big, BIG // 2, b"MIDDLE"), expect(filecmp.cmp(self.big, big, False), True, "big")))
+        self.step("s3fs mv of a long file", lambda: (run("mv", big, moved), expect(filecmp.cmp(self.big, moved, False), True, "big")))
+        self.step("s3fs chmod, touch -d", lambda: (run("chmod", "640", moved), run("touch", "-d", "2020-01-02T03:04:05Z", moved), expect((os.stat(moved).st_mode & 0o777, int(os.stat(moved).st_mtime)), (0o640, 1_577_934_245), "mode and time")))
+        self.step("s3fs mv of a folder", lambda: (run("mv", os.path.join(there, "dir"), os.path.join(there, "other")), expect(sorted(os.listdir(os.path.join(there, "other"))), sorted(os.listdir(os.path.join(self.files, "dir"))), "names")))
+        git = ["git", "-C", os.path.join(there, "repository"), "-c", "user.name=a", "-c", "user.email=a@b"]
+        self.step("s3fs git init, add, commit, fsck", lambda: (run("git", "init", "-q", git[2]), run("cp", os.path.join(self.files, "small.txt"), git[2]), run(*git, "add", "."), run(*git, "commit", "-qm", "x"), run(*git, "fsck", "--full")))
+        self.step("s3fs sqlite", lambda: expect(rows_of_a_table(os.path.join(there, "base")), 2_000, "rows"))
+        self.step("s3fs rm -r", lambda: (run("rm", "-r", there), expect(os.path.exists(there), False, "whether it is there")))
+
+
+def write_at(path, place, content):
+    with open(path, "r+b") as file:
+        file.seek(place)
+        file.write(content)
+
+
+def rows_of_a_table(path):
+    """How many rows a base has, opened again after they were written."""
+    with closing(sqlite3.connect(path)) as base, base:
+        base.execute("create table numbers (number)")
+        base.executemany("insert into numbers values (?)", ((number,) for number in range(2_000)))
+    with closing(sqlite3.connect(path)) as base:
+        return base.execute("select count(*) from numbers").fetchone()[0]
