@@ -53,16 +53,19 @@ live_shape = new_shape (codes "live")
 abbrev pub step_shape : Shape
 step_shape = new_shape (codes "step")
 
--- the subcommand `node`, which takes a number below 2^32 and two files, each of which has to be given, and may be told to begin the journal
+-- the subcommand `node`, which takes a number below 2^32 and two files, each of which has to be given, and may be told to begin the journal, or to write it anew
 abbrev pub file_rule : Text → Text → Rule
 file_rule id long = record (new_rule id) { long = Some long; required = true; action = Some Set; value_names = 1 }
 
 abbrev pub begin_rule : Rule
 begin_rule = record (new_rule (codes "NEW")) { long = Some (codes "new"); action = Some SetTrue }
 
+abbrev pub anew_rule : Rule
+anew_rule = record (new_rule (codes "ANEW")) { long = Some (codes "anew"); action = Some SetTrue }
+
 abbrev pub node_shape : Shape
 node_shape = record (new_shape (codes "node")) {
-  rules = number_rule (codes "NUMBER") ∷ file_rule (codes "PLAN") (codes "plan") ∷ file_rule (codes "JOURNAL") (codes "journal") ∷ begin_rule ∷ [];
+  rules = number_rule (codes "NUMBER") ∷ file_rule (codes "PLAN") (codes "plan") ∷ file_rule (codes "JOURNAL") (codes "journal") ∷ begin_rule ∷ anew_rule ∷ [];
 }
 
 -- the subcommand `plan`, which takes a file, which has to be given, and may be given another one

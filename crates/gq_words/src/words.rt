@@ -7,7 +7,7 @@ ghost use Rattle.clap.specs.Walk.{first_of, rows_of, rule_of};
 ghost use Rattle.clap.specs.declared.builder.command.Command.TheViews.{out-Command as fields_of};
 ghost use Rattle.clap.specs.Walk.{Text, texts};
 ghost use Rattle.clap.specs.declared.error.kind.ErrorKind.TheVariants.{DisplayHelp, DisplayVersion};
-ghost use Rattle.gq_words.specs.Words.{AsksForLive, IsAlone, IsAskedBy, IsMemory, NamesCommand, ShownFor, Shows, bare_gridfs, begin_rule, command_name, finish_shape, file_rule, file_shape, gridfs, name_rule, node_shape, number_rule, jobs_rule, run_shape, step_shape, next_rule, path_rule, plan_shape};
+ghost use Rattle.gq_words.specs.Words.{AsksForLive, IsAlone, IsAskedBy, IsMemory, NamesCommand, ShownFor, Shows, bare_gridfs, anew_rule, begin_rule, command_name, finish_shape, file_rule, file_shape, gridfs, name_rule, node_shape, number_rule, jobs_rule, run_shape, step_shape, next_rule, path_rule, plan_shape};
 ghost use Rattle.gq_words.specs.Given.{HasValues, IsFlagGiven, IsNumberGiven, given_by, path_in, rows_behind, text_given};
 
 use clap::error::ErrorKind;
@@ -36,6 +36,8 @@ pub struct NodeRequest<'a> {
     pub journal: &'a str,
     /// Whether the journal is to be begun: there is none yet.
     pub is_new: bool,
+    /// Whether the journal is to be written anew before lines are taken.
+    pub is_anew: bool,
 }
 
 /// Which plan a process is asked to tell of.
@@ -358,6 +360,17 @@ fn begin<'a>(alloc: Global) -> Arg<'a>
         .help("Begin the journal: there must be none")
 }
 
+// Whether the journal is to be written anew.
+fn anew<'a>(alloc: Global) -> Arg<'a>
+    ensures rule { rule_of result ≡ anew_rule }
+    ensures local { result.global ≡ false }
+{
+    Arg::new(alloc, "ANEW")
+        .long("anew")
+        .action(ArgAction::SetTrue)
+        .help("Write the journal anew before lines are taken: without what was replaced")
+}
+
 // A subcommand, without words of its own.
 fn subcommand<'a>(alloc: Global, name: &'a str, about: &'a str, help: &'a str) -> Command<'a>
     ensures app { app_of result ≡ new_app name.entry.now }
@@ -437,7 +450,8 @@ fn node<'a>(alloc: Global) -> Result<Command<'a>, AllocError>
         "The plan of the grid, with the volumes that are open",
     ))?
     .arg(file_option(alloc, "JOURNAL", "journal", "The node's journal"))?
-    .arg(begin(alloc))?;
+    .arg(begin(alloc))?
+    .arg(anew(alloc))?;
     Ok(node)
 }
 
@@ -613,6 +627,7 @@ fn command_of<'a>(matches: &ArgMatches<'a>) -> CommandLine<'a>
             plan: text_of(node, "PLAN"),
             journal: text_of(node, "JOURNAL"),
             is_new: flag_of(node, "NEW"),
+            is_anew: flag_of(node, "ANEW"),
         });
     }
     if let Some(plan) = matches.subcommand_matches("plan") {
