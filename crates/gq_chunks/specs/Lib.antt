@@ -1,3 +1,6 @@
 pub mod Facts
 pub mod Requests
+pub mod Answers
+pub mod Takers
 pub mod Laws
+pub mod Machines

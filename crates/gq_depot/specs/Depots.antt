@@ -68,6 +68,10 @@ pub record LeadsTo (old : Depot) (fact : Option ChunkFact) (new : Depot) : Type 
   pub sessions : length new.stock.sessions.items ≡ length old.stock.sessions.items
   pub allowed : new.stock.allowed ≡ old.stock.allowed
 
+-- nothing was ever there
+abbrev pub bare : (lacks : Bool) → Standing
+bare lacks = record { books = λ k. record { at = λ n. None; floor = 0 }; lacks = lacks }
+
 -- ---- facts that are read
 
 -- the session is there, and the content is not too long; no number above the floor is forgotten

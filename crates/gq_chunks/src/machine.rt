@@ -1,0 +1,413 @@
+//! The machine of a server's chunks: lines in, facts and answers out, over a shelf.
+
+ghost use Rattle.std.specs.Prelude.{◌≡◌, ◌<◌, ◌*◌, length, slice_get, true, IfOk, IfErr, OnOk};
+ghost use Rattle.gq_chunks.specs.Machines.{asked_of};
+
+use crate::{ChunkAnswer, ChunkRequest};
+use crate::{put_chunk_answer, put_chunk_fact, read_chunk_fact, read_chunk_request};
+use gq_depot::{Depot, Depots};
+use gq_desk::Plan;
+use gq_grid::MOST_SERVERS;
+use gq_keeper::{Fault, Lasting, Machine, Unread};
+use gq_memory::{GrowVec, OutOfMemory};
+use gq_setup::Setup;
+use gq_shelf::{Shelf, ShelfFault};
+use gq_text::{first_word, next_word, number};
+use std::alloc::Global;
+use std::marker::Model;
+
+/// The chunks of all tenants at a node, over a shelf. After an `Err` of any call it is given up: a part of what a step gives may have been appended.
+#[derive(Drop)]
+pub struct ChunkMachine<S: Shelf + Drop> {
+    alloc: Global,
+    plan: Plan,
+    node: u16,
+    depots: Depots<S>,
+    // how many lines of a journal it read
+    facts: u64,
+}
+
+impl<S: Shelf + Drop> Model for ChunkMachine<S> {
+    ghost use Rattle.std.specs.Prelude.{◌≡◌, length};
+    ghost use Rattle.gq_chunks.specs.Machines.{Chunks};
+
+    ghost Value = { Chunks };
+
+    ghost view = { λ m. record { plan = m.plan; node = m.node; losses = m.depots.losses; depots = m.depots.depots.items; noted = S.noted m.depots.shelf } };
+
+    ghost invariant = { λ m. length m.depots.depots.items ≡ length m.plan.rows };
+}
+
+/// What a line asks of a tenant's chunks: which tenant, and what; no request where its words have no form.
+#[derive(Drop)]
+struct Asked {
+    tenant: u8,
+    request: Option<ChunkRequest>,
+}
+
+// Why the machine ends where the shelf refuses.
+fn fault_of(fault: ShelfFault) -> Fault
+    ensures { IsFaultOf fault result }
+{
+    match fault {
+        ShelfFault::Memory(refused) => Fault::Memory(refused),
+        ShelfFault::Write => Fault::JournalWrite,
+        ShelfFault::Read | ShelfFault::Damaged(_) => Fault::JournalRead,
+    }
+}
+
+// Whether the word is the number of the node.
+fn is_to(word: &[u8], node: u16) -> bool
+    ensures { result ≡ is_to node (number_of word.now) }
+{
+    match number(word) {
+        Some(to) => to == u32::from(node),
+        None => false,
+    }
+}
+
+// What the line, which has no newline, asks the node of that number about chunks, if it is a tenant's. Only a content takes memory.
+fn read_asked(
+    alloc: Global,
+    line: &[u8],
+    plan: &Plan,
+    node: u16,
+) -> Result<Option<Asked>, OutOfMemory>
+    ensures asked { IfOk result (λ asked. option_map (λ asked. (asked.tenant, asked.request)) asked ≡ asked_of plan.now node line.now) }
+    ensures tenant { IfOk result (λ asked. IfSome asked (λ asked. asked.tenant < length plan.now.rows)) }
+{
+    let (to, rest) = first_word(line);
+    let Some((from, rest)) = next_word(rest) else {
+        return Ok(None);
+    };
+    if !is_to(to, node) {
+        return Ok(None);
+    }
+    let Some(tenant) = plan.find_word(from) else {
+        return Ok(None);
+    };
+    let request = read_chunk_request(alloc, rest)?;
+    Ok(Some(Asked { tenant, request }))
+}
+
+// How many nodes of the column of that place were lost.
+fn column_losses(cols: usize, place: usize, lost: &[u8]) -> u64
+    requires { 0 < cols }
+    ensures { result ≡ column_losses cols place lost.now }
+{
+    let mut losses: u64 = 0;
+    for other in lost {
+        if *other as usize % cols == place % cols {
+            losses += 1;
+        }
+    }
+    losses
+}
+
+// How many bytes of chunks the tenant might have at each server by the setup that was read, if one was.
+fn room_before(first: &Option<Setup>, tenant: u8) -> u64
+    ensures { result ≡ room_before first.now tenant }
+{
+    match first {
+        Some(setup) => setup.chunk_bytes(tenant),
+        None => 0,
+    }
+}
+
+// Whether a node of that number lacks chunks at first.
+fn lacks_at_first(node: u16, first: u64, allowed: u64) -> bool
+    ensures { result ≡ lacks_at_first node first allowed }
+{
+    node as usize >= MOST_SERVERS && first > 0 && allowed > 0
+}
+
+// The chunks of each tenant, of which none were ever there.
+fn new_depots(
+    alloc: Global,
+    setup: &Setup,
+    first: &Option<Setup>,
+    node: u16,
+) -> Result<Vec<Depot>, OutOfMemory>
+    ensures depots { IfOk result (λ depots. AreBare setup.now first.now node depots.items) }
+    ensures tenants { IfOk result (λ depots. length depots.items ≡ length setup.now.plan.rows) }
+{
+    let mut depots = Vec::new(alloc);
+    for place in 0..setup.plan().tenants() {
+        let tenant = place as u8;
+        let sessions = setup.plan().row(tenant).sessions;
+        let allowed = setup.chunk_bytes(tenant);
+        let lacks = lacks_at_first(node, room_before(first, tenant), allowed);
+        depots.grow(Depot::new(alloc, u32::from(sessions), allowed, lacks)?)?;
+    }
+    Ok(depots)
+}
+
+impl<S: Shelf + Drop> ChunkMachine<S> {
+    /// That of the node of this number and setup, which read no line yet and has no chunk. A new node lacks chunks of the tenants that had room by the setup that was read of the plan
+    /// with which its journal begins, if one was read.
+    pub fn new(
+        alloc: Global,
+        setup: &Setup,
+        first: &Option<Setup>,
+        node: u16,
+        shelf: S,
+    ) -> Result<ChunkMachine<S>, OutOfMemory>
+        ensures { IfOk result (λ m. IsNewFor setup.now first.now node m) }
+        ensures noted { IfOk result (λ m. m.noted ≡ S.noted shelf) }
+    {
+        let cols = setup.plan().grid().cols();
+        let losses = column_losses(cols, node as usize % MOST_SERVERS, setup.lost().places());
+        Ok(ChunkMachine {
+            alloc,
+            plan: setup.plan().copy()?,
+            node,
+            depots: Depots {
+                shelf,
+                depots: new_depots(alloc, setup, first, node)?,
+                losses,
+            },
+            facts: 0,
+        })
+    }
+
+    /// How many lines of a journal it read.
+    pub fn facts(&self) -> u64 {
+        self.facts
+    }
+
+    /// Whether the node lacks chunks of some tenant.
+    pub fn lacks_some(&self) -> bool
+        ensures { result ≡ list_any (λ depot. depot.lacks) self.now.depots }
+    {
+        for depot in self.depots.depots.as_slice() {
+            if depot.lacks {
+                return true;
+            }
+        }
+        false
+    }
+
+    // Appends the line of the fact, if there is one.
+    fn put_fact(
+        &self,
+        tenant: u8,
+        fact: &Option<ChunkFact>,
+        facts: &mut Vec<u8>,
+    ) -> Result<(), OutOfMemory>
+        requires { tenant < length self.now.plan.rows }
+        ensures kept { OnOk result (facts.new.items ≡ facts.old.items ++ lines_text (fact_lines self.now.plan tenant fact.now)) }
+        ensures fit { OnOk result (All FitsFact (option_to_list fact.now)) }
+    {
+        match fact {
+            Some(fact) => {
+                fact_fits(fact);
+                put_chunk_fact(facts, &self.plan, tenant, fact)
+            }
+            None => Ok(()),
+        }
+    }
+
+    // What comes of the tenant's request.
+    fn answer(&mut self, tenant: u8, request: ChunkRequest) -> Result<Answered, Fault>
+        requires { tenant < length self.old.plan.rows }
+        ensures answered { IfOk result (λ answered. Answers self.old tenant request answered self.new) }
+        ensures refused { IfErr result (λ fault. IsShelfRefusal fault self.old.noted self.new.noted) }
+    {
+        match self.depots.answer(self.alloc, tenant as usize, request) {
+            Ok(answered) => Ok(answered),
+            Err(fault) => Err(fault_of(fault)),
+        }
+    }
+
+    // The tenant asks this.
+    fn request(
+        &mut self,
+        tenant: u8,
+        request: ChunkRequest,
+        facts: &mut Vec<u8>,
+        told: &mut Vec<u8>,
+    ) -> Result<(), Fault>
+        requires tenant { tenant < length self.old.plan.rows }
+        requires sound { IsPlan self.old.plan }
+        ensures took { OnOk result (Takes (λ old line facts told new. Took old tenant request facts told new) self.old [] facts.old.items facts.new.items told.old.items told.new.items self.new) }
+        ensures refused { IfErr result (λ fault. IsShelfRefusal fault self.old.noted self.new.noted) }
+    {
+        let answered = self.answer(tenant, request)?;
+        self.put_fact(tenant, &answered.fact, facts)?;
+        put_chunk_answer(told, &self.plan, self.node, tenant, &answered.answer)?;
+        Ok(())
+    }
+
+    // A line of the tenant's has no form.
+    fn put_bad(&self, tenant: u8, told: &mut Vec<u8>) -> Result<(), OutOfMemory>
+        requires { tenant < length self.now.plan.rows }
+        ensures { OnOk result (told.new.items ≡ told.old.items ++ chunk_answer_text self.now.plan self.now.node tenant Bad) }
+    {
+        put_chunk_answer(told, &self.plan, self.node, tenant, &ChunkAnswer::Bad)
+    }
+
+    // Reads the fact of an earlier run. False: the tenant's depot reads none such; nothing changes then.
+    fn recall_fact(&mut self, tenant: u8, fact: ChunkFact) -> Result<bool, OutOfMemory>
+        requires { tenant < length self.old.plan.rows }
+        ensures read { IfOk result (λ is_read. is_read ≡ depot_reads (slice_get self.old.depots tenant) fact) }
+        ensures leads { IfOk result (λ is_read. is_read ≡ true → Recalled self.old tenant fact self.new) }
+    {
+        self.facts = self.facts.saturating_add(1);
+        self.depots.recall(self.alloc, tenant as usize, fact)
+    }
+
+    // Appends the fact of the session's floor, unless that is 0.
+    fn put_floor(
+        &self,
+        tenant: u8,
+        place: usize,
+        facts: &mut Vec<u8>,
+    ) -> Result<(), OutOfMemory>
+    {
+        let session = &self.depots.depots[tenant as usize].stock.sessions[place];
+        if session.floor() == 0 {
+            return Ok(());
+        }
+        let fact = ChunkFact::Forgot {
+            session: place as u32 + 1,
+            floor: session.floor(),
+            run: Run { first: 1, last: 0 },
+        };
+        put_chunk_fact(facts, &self.plan, tenant, &fact)
+    }
+
+    // Appends the fact of the chunk of this number.
+    fn put_chunk(
+        &self,
+        tenant: u8,
+        place: usize,
+        number: u64,
+        facts: &mut Vec<u8>,
+    ) -> Result<(), OutOfMemory>
+    {
+        let depot = &self.depots.depots[tenant as usize];
+        let fact = depot.fact_at(place, place as u32 + 1, number)?;
+        put_chunk_fact(facts, &self.plan, tenant, &fact)
+    }
+
+    // Appends the facts of the session at this place.
+    fn put_session(
+        &self,
+        tenant: u8,
+        place: usize,
+        facts: &mut Vec<u8>,
+    ) -> Result<(), OutOfMemory>
+    {
+        self.put_floor(tenant, place, facts)?;
+        let session = &self.depots.depots[tenant as usize].stock.sessions[place];
+        if session.get(0).is_some() {
+            self.put_chunk(tenant, place, 0, facts)?;
+        }
+        let mut last = 0;
+        while let Some((number, _)) = session.after(last) {
+            self.put_chunk(tenant, place, number, facts)?;
+            last = number;
+        }
+        Ok(())
+    }
+
+    // Appends the facts of the tenant.
+    fn put_tenant(&self, tenant: u8, facts: &mut Vec<u8>) -> Result<(), OutOfMemory> {
+        let depot = &self.depots.depots[tenant as usize];
+        for place in 0..depot.stock.sessions.len() {
+            self.put_session(tenant, place, facts)?;
+        }
+        if lacks_at_first(self.node, depot.stock.allowed, depot.stock.allowed) && !depot.lacks {
+            put_chunk_fact(facts, &self.plan, tenant, &ChunkFact::Filled)?;
+        }
+        Ok(())
+    }
+
+    // Appends the facts of all tenants.
+    fn put_tenants(&self, facts: &mut Vec<u8>) -> Result<(), OutOfMemory> {
+        for place in 0..self.depots.depots.len() {
+            self.put_tenant(place as u8, facts)?;
+        }
+        Ok(())
+    }
+}
+
+impl<S: Shelf + Drop> Machine for ChunkMachine<S> {
+    ghost use Rattle.gq_chunks.specs.Machines.{ChunkSteps, ChunkRecalls, chunk_reads, IsShelfRefusal};
+    ghost use Rattle.gq_chunks.proofs.Lasting.{reads_on};
+    ghost use Rattle.gq_keeper.specs.Runs.{Takes};
+
+    ghost steps = { ChunkSteps };
+
+    ghost recalls = { ChunkRecalls };
+
+    ghost readable = { chunk_reads };
+
+    fn recall(&mut self, line: &[u8]) -> Result<(), Unread> {
+        let Some((tenant, fact)) = read_chunk_fact(self.alloc, line, &self.plan)? else {
+            return Err(Unread::Strange);
+        };
+        if !self.recall_fact(tenant, fact)? {
+            return Err(Unread::Strange);
+        }
+        Ok(())
+    }
+
+    ghost reads_on = { reads_on };
+
+    fn take(&mut self, line: &[u8], facts: &mut Vec<u8>, told: &mut Vec<u8>) -> Result<(), Fault>
+        ensures takes { OnOk result (Takes ChunkSteps self.old line.now facts.old.items facts.new.items told.old.items told.new.items self.new) }
+        ensures refused { IfErr result (λ fault. IsShelfRefusal fault self.old.noted self.new.noted) }
+    {
+        plan_is_sound(&self.plan);
+        let Some(asked) = read_asked(self.alloc, line, &self.plan, self.node)? else {
+            return Ok(());
+        };
+        match asked.request {
+            Some(request) => self.request(asked.tenant, request, facts, told),
+            None => Ok(self.put_bad(asked.tenant, told)?),
+        }
+    }
+}
+
+impl<S: Shelf + Drop> Lasting for ChunkMachine<S> {
+    ghost use Rattle.std.specs.Prelude.{◌^◌, ◌-◌, min};
+    ghost use Rattle.gq_chunks.specs.Machines.{ChunksAreBlank, ChunksAreOf, ChunksRest, in_journals};
+    ghost use Rattle.gq_chunks.proofs.Lasting.{gives_facts, gives_readable, keeps_blank, keeps_plan, recalls_plan, keeps_rest, reads_again, starts_again};
+
+    ghost blank = { ChunksAreBlank };
+
+    ghost is_of = { ChunksAreOf };
+
+    ghost rests = { ChunksRest };
+
+    ghost contents = { λ m. min (in_journals m.depots) (2 ^ 64 - 1) };
+
+    fn content_bytes(&self) -> usize {
+        let mut bytes: usize = 0;
+        for depot in self.depots.depots.as_slice() {
+            bytes = bytes.saturating_add(depot.in_journal as usize);
+        }
+        bytes
+    }
+
+    fn put_needed(&self, facts: &mut Vec<u8>) -> Result<(), Fault> {
+        Ok(self.put_tenants(facts)?)
+    }
+
+    ghost gives_facts = { gives_facts };
+
+    ghost gives_readable = { gives_readable };
+
+    ghost keeps_blank = { keeps_blank };
+
+    ghost keeps_plan = { keeps_plan };
+
+    ghost recalls_plan = { recalls_plan };
+
+    ghost keeps_rest = { keeps_rest };
+
+    ghost reads_again = { reads_again };
+
+    ghost starts_again = { starts_again };
+}
