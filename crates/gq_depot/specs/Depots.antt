@@ -80,6 +80,11 @@ reads_fact sessions (Put s n is_sure place) = nat_le 1 s && nat_le s sessions &&
 reads_fact sessions (Forgot s floor run) = nat_le 1 s && nat_le s sessions && nat_le run.last floor
 reads_fact sessions Filled = true
 
+-- so it is of the fact, if there is one
+abbrev pub ReadsFact : (sessions : ℕ) → Option ChunkFact → Type 0
+ReadsFact sessions None = ⊤
+ReadsFact sessions (Some fact) = reads_fact sessions fact ≡ true
+
 -- the fact says which chunk is under the number
 abbrev pub StandsIn : Book Chunk → (s n : ℕ) → ChunkFact → Type 0
 StandsIn b s n (Put s' n' is_sure place) = (s' ≡ s) × (n' ≡ n) × (option_map placed_of (b.at n) ≡ Some (record { place = place; is_sure = is_sure }))

@@ -3,7 +3,7 @@ use Rattle.std.specs.Prelude.{◌≡◌, ◌≢◌, ℕ, Bool, List, Option, Som
 use Rattle.gq_shelf.specs.Notes.{Noted, IsClean}
 use Rattle.gq_shelf.specs.declared.extent.Extent.{Extent}
 use Rattle.gq_depot.specs.Answers.{Tells, Gives, DamageIs}
-use Rattle.gq_depot.specs.Depots.{LeadsTo, FactIsSure, reads_fact}
+use Rattle.gq_depot.specs.Depots.{LeadsTo, FactIsSure, ReadsFact, reads_fact}
 use Rattle.gq_depot.specs.declared.answer.Answered.{Answered}
 use Rattle.gq_depot.specs.declared.answer.ChunkAnswer.{ChunkAnswer}
 use Rattle.gq_depot.specs.declared.depot.Depot.{Depot}
@@ -17,6 +17,7 @@ pub record Step (noted : Noted) (losses : ℕ) (old : Depot) (request : ChunkReq
   pub gives : (written : Extent → List ℕ) → Gives (IsClean written noted) written old request answered.answer answered.fact
   pub leads : LeadsTo old answered.fact new
   pub sure : FactIsSure answered.fact noted
+  pub reads : ReadsFact (length old.stock.sessions.items) answered.fact
 
 -- it is so of the tenant at this place
 abbrev pub TakesOwn : Noted → (losses : ℕ) → List Depot → (tenant : ℕ) → ChunkRequest → Answered → List Depot → Type 0
