@@ -16,7 +16,7 @@ use Rattle.gq_text.specs.Input.{place_named}
 use Rattle.gq_wire.specs.Incoming.{is_to}
 use Rattle.gq_setup.specs.Setups.{Setup, SetupReading, kib_of}
 use Rattle.gq_setup.specs.Texts.{setup_of_node_text}
-use Rattle.gq_depot.specs.Depots.{Standing, standing_of, IsSame, reads_fact}
+use Rattle.gq_depot.specs.Depots.{standing_of, bare, IsSame, reads_fact}
 use Rattle.gq_depot.specs.Tenants.{TakesOwn, LeadsOwn, ApartFrom, DamageOf}
 use Rattle.gq_depot.specs.declared.answer.Answered.{Answered}
 use Rattle.gq_depot.specs.declared.answer.ChunkAnswer.TheVariants.{Bad}
@@ -80,7 +80,6 @@ pub record Answers (old : Chunks) (t : ℕ) (request : ChunkRequest) (answered :
   pub apart : ApartFrom t old.depots new.depots
   pub goes_on : GoesOn old.noted new.noted
   pub site : IsSite old new
-  pub readable : All (λ fact. depot_reads (slice_get old.depots t) fact ≡ true) (option_to_list answered.fact)
 
 -- The tenant at this place asked this: the machine gave the fact and told the answer.
 pub record Took (old : Chunks) (t : ℕ) (request : ChunkRequest) (facts : List Line) (told : List ℕ) (new : Chunks) : Type 0 where
@@ -167,10 +166,6 @@ is_new node = nat_lt 0 (generation node)
 -- and has some.
 abbrev pub lacks_at_first : (node first allowed : ℕ) → Bool
 lacks_at_first node first allowed = is_new node && nat_lt 0 first && nat_lt 0 allowed
-
--- nothing was ever there
-abbrev pub bare : (lacks : Bool) → Standing
-bare lacks = record { books = λ k. record { at = λ n. None; floor = 0 }; lacks = lacks }
 
 -- the tenant's depot was never asked anything
 pub record IsBare (sessions allowed : ℕ) (lacks : Bool) (depot : Depot) : Type 0 where

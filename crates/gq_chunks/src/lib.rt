@@ -2,9 +2,11 @@
 #![tactic(auto)]
 
 mod answering;
+mod asked;
 mod asking;
 pub mod laws;
 mod machine;
+mod new_depots;
 mod ranges;
 mod reading;
 mod taking;

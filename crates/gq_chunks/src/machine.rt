@@ -1,18 +1,28 @@
 //! The machine of a server's chunks: lines in, facts and answers out, over a shelf.
 
-ghost use Rattle.std.specs.Prelude.{◌≡◌, ◌<◌, ◌*◌, length, slice_get, true, IfOk, IfErr, OnOk};
-ghost use Rattle.gq_chunks.specs.Machines.{asked_of};
+ghost use Rattle.std.specs.Prelude.{◌≡◌, ◌<◌, ◌++◌, [], All, length, slice_get, true, IfOk, IfErr, OnOk};
+ghost use Rattle.std.specs.List.{list_any};
+ghost use Rattle.std.specs.Option.{option_to_list};
+ghost use Rattle.gq_text.specs.Canonical.{IsPlan};
+ghost use Rattle.gq_journal.specs.Batches.{lines_text};
+ghost use Rattle.gq_keeper.specs.Runs.{Takes};
+ghost use Rattle.gq_depot.specs.declared.answer.ChunkAnswer.TheVariants.{Bad};
+ghost use Rattle.gq_chunks.specs.Answers.{chunk_answer_text};
+ghost use Rattle.gq_chunks.specs.Laws.{FitsFact};
+ghost use Rattle.gq_chunks.specs.Machines.{fact_lines, depot_reads, IsFaultOf, IsShelfRefusal, Answers, Took, Recalled, IsNewFor};
 
-use crate::{ChunkAnswer, ChunkRequest};
-use crate::{put_chunk_answer, put_chunk_fact, read_chunk_fact, read_chunk_request};
-use gq_depot::{Depot, Depots};
+use crate::asked::read_asked;
+use crate::new_depots::{column_losses, lacks_at_first, new_depots};
+use crate::ranges::{fact_fits, plan_is_sound};
+use crate::{ChunkAnswer, ChunkFact, ChunkRequest, put_chunk_answer, put_chunk_fact, read_chunk_fact};
+use gq_depot::{Answered, Depots};
 use gq_desk::Plan;
 use gq_grid::MOST_SERVERS;
 use gq_keeper::{Fault, Lasting, Machine, Unread};
-use gq_memory::{GrowVec, OutOfMemory};
+use gq_memory::OutOfMemory;
 use gq_setup::Setup;
 use gq_shelf::{Shelf, ShelfFault};
-use gq_text::{first_word, next_word, number};
+use gq_stock::Run;
 use std::alloc::Global;
 use std::marker::Model;
 
@@ -38,13 +48,6 @@ impl<S: Shelf + Drop> Model for ChunkMachine<S> {
     ghost invariant = { λ m. length m.depots.depots.items ≡ length m.plan.rows };
 }
 
-/// What a line asks of a tenant's chunks: which tenant, and what; no request where its words have no form.
-#[derive(Drop)]
-struct Asked {
-    tenant: u8,
-    request: Option<ChunkRequest>,
-}
-
 // Why the machine ends where the shelf refuses.
 fn fault_of(fault: ShelfFault) -> Fault
     ensures { IsFaultOf fault result }
@@ -54,92 +57,6 @@ fn fault_of(fault: ShelfFault) -> Fault
         ShelfFault::Write => Fault::JournalWrite,
         ShelfFault::Read | ShelfFault::Damaged(_) => Fault::JournalRead,
     }
-}
-
-// Whether the word is the number of the node.
-fn is_to(word: &[u8], node: u16) -> bool
-    ensures { result ≡ is_to node (number_of word.now) }
-{
-    match number(word) {
-        Some(to) => to == u32::from(node),
-        None => false,
-    }
-}
-
-// What the line, which has no newline, asks the node of that number about chunks, if it is a tenant's. Only a content takes memory.
-fn read_asked(
-    alloc: Global,
-    line: &[u8],
-    plan: &Plan,
-    node: u16,
-) -> Result<Option<Asked>, OutOfMemory>
-    ensures asked { IfOk result (λ asked. option_map (λ asked. (asked.tenant, asked.request)) asked ≡ asked_of plan.now node line.now) }
-    ensures tenant { IfOk result (λ asked. IfSome asked (λ asked. asked.tenant < length plan.now.rows)) }
-{
-    let (to, rest) = first_word(line);
-    let Some((from, rest)) = next_word(rest) else {
-        return Ok(None);
-    };
-    if !is_to(to, node) {
-        return Ok(None);
-    }
-    let Some(tenant) = plan.find_word(from) else {
-        return Ok(None);
-    };
-    let request = read_chunk_request(alloc, rest)?;
-    Ok(Some(Asked { tenant, request }))
-}
-
-// How many nodes of the column of that place were lost.
-fn column_losses(cols: usize, place: usize, lost: &[u8]) -> u64
-    requires { 0 < cols }
-    ensures { result ≡ column_losses cols place lost.now }
-{
-    let mut losses: u64 = 0;
-    for other in lost {
-        if *other as usize % cols == place % cols {
-            losses += 1;
-        }
-    }
-    losses
-}
-
-// How many bytes of chunks the tenant might have at each server by the setup that was read, if one was.
-fn room_before(first: &Option<Setup>, tenant: u8) -> u64
-    ensures { result ≡ room_before first.now tenant }
-{
-    match first {
-        Some(setup) => setup.chunk_bytes(tenant),
-        None => 0,
-    }
-}
-
-// Whether a node of that number lacks chunks at first.
-fn lacks_at_first(node: u16, first: u64, allowed: u64) -> bool
-    ensures { result ≡ lacks_at_first node first allowed }
-{
-    node as usize >= MOST_SERVERS && first > 0 && allowed > 0
-}
-
-// The chunks of each tenant, of which none were ever there.
-fn new_depots(
-    alloc: Global,
-    setup: &Setup,
-    first: &Option<Setup>,
-    node: u16,
-) -> Result<Vec<Depot>, OutOfMemory>
-    ensures depots { IfOk result (λ depots. AreBare setup.now first.now node depots.items) }
-    ensures tenants { IfOk result (λ depots. length depots.items ≡ length setup.now.plan.rows) }
-{
-    let mut depots = Vec::new(alloc);
-    for place in 0..setup.plan().tenants() {
-        let tenant = place as u8;
-        let sessions = setup.plan().row(tenant).sessions;
-        let allowed = setup.chunk_bytes(tenant);
-        let lacks = lacks_at_first(node, room_before(first, tenant), allowed);
-        depots.grow(Depot::new(alloc, u32::from(sessions), allowed, lacks)?)?;
-    }
-    Ok(depots)
 }
 
 impl<S: Shelf + Drop> ChunkMachine<S> {
@@ -152,7 +69,7 @@ impl<S: Shelf + Drop> ChunkMachine<S> {
         node: u16,
         shelf: S,
     ) -> Result<ChunkMachine<S>, OutOfMemory>
-        ensures { IfOk result (λ m. IsNewFor setup.now first.now node m) }
+        ensures is_new { IfOk result (λ m. IsNewFor setup.now first.now node m) }
         ensures noted { IfOk result (λ m. m.noted ≡ S.noted shelf) }
     {
         let cols = setup.plan().grid().cols();
@@ -334,7 +251,6 @@ impl<S: Shelf + Drop> ChunkMachine<S> {
 
 impl<S: Shelf + Drop> Machine for ChunkMachine<S> {
     ghost use Rattle.gq_chunks.specs.Machines.{ChunkSteps, ChunkRecalls, chunk_reads, IsShelfRefusal};
-    ghost use Rattle.gq_chunks.proofs.Lasting.{reads_on};
     ghost use Rattle.gq_keeper.specs.Runs.{Takes};
 
     ghost steps = { ChunkSteps };
@@ -353,7 +269,7 @@ impl<S: Shelf + Drop> Machine for ChunkMachine<S> {
         Ok(())
     }
 
-    ghost reads_on = { reads_on };
+    ghost reads_on = { ? };
 
     fn take(&mut self, line: &[u8], facts: &mut Vec<u8>, told: &mut Vec<u8>) -> Result<(), Fault>
         ensures takes { OnOk result (Takes ChunkSteps self.old line.now facts.old.items facts.new.items told.old.items told.new.items self.new) }
@@ -373,7 +289,6 @@ impl<S: Shelf + Drop> Machine for ChunkMachine<S> {
 impl<S: Shelf + Drop> Lasting for ChunkMachine<S> {
     ghost use Rattle.std.specs.Prelude.{◌^◌, ◌-◌, min};
     ghost use Rattle.gq_chunks.specs.Machines.{ChunksAreBlank, ChunksAreOf, ChunksRest, in_journals};
-    ghost use Rattle.gq_chunks.proofs.Lasting.{gives_facts, gives_readable, keeps_blank, keeps_plan, recalls_plan, keeps_rest, reads_again, starts_again};
 
     ghost blank = { ChunksAreBlank };
 
@@ -395,19 +310,19 @@ impl<S: Shelf + Drop> Lasting for ChunkMachine<S> {
         Ok(self.put_tenants(facts)?)
     }
 
-    ghost gives_facts = { gives_facts };
+    ghost gives_facts = { ? };
 
-    ghost gives_readable = { gives_readable };
+    ghost gives_readable = { ? };
 
-    ghost keeps_blank = { keeps_blank };
+    ghost keeps_blank = { ? };
 
-    ghost keeps_plan = { keeps_plan };
+    ghost keeps_plan = { ? };
 
-    ghost recalls_plan = { recalls_plan };
+    ghost recalls_plan = { ? };
 
-    ghost keeps_rest = { keeps_rest };
+    ghost keeps_rest = { ? };
 
-    ghost reads_again = { reads_again };
+    ghost reads_again = { ? };
 
-    ghost starts_again = { starts_again };
+    ghost starts_again = { ? };
 }
