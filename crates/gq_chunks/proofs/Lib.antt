@@ -1,3 +1,4 @@
 pub mod FactsBack
 pub mod RequestsBack
 pub mod Arriving
+pub mod Needing

@@ -13,6 +13,7 @@ use Rattle.gq_text.specs.AnswerText.{bytes_word, line_text}
 use Rattle.gq_depot.specs.declared.answer.ChunkAnswer.{ChunkAnswer}
 use Rattle.gq_depot.specs.declared.answer.ChunkAnswer.TheVariants as Told
 use Rattle.gq_depot.specs.declared.answer.ListedChunk.{ListedChunk}
+use Rattle.gq_chunks.specs.Facts.{sure_digit}
 use Rattle.gq_chunks.specs.Requests.{quoted_word}
 
 -- ---- a content
@@ -58,10 +59,6 @@ abbrev pub end_words : (is_all : Bool) → List Word
 end_words true = codes "end" ∷ []
 end_words false = []
 
-abbrev pub lacks_word : (lacks : Bool) → Word
-lacks_word true = codes "1"
-lacks_word false = codes "0"
-
 abbrev pub answer_words : ChunkAnswer → List Word
 answer_words Told.Bad = codes "refused" ∷ codes "bad" ∷ []
 answer_words (Told.NoSession s n) = codes "refused" ∷ codes "nosession" ∷ decimal s ∷ decimal n ∷ []
@@ -70,7 +67,7 @@ answer_words (Told.Kept s n told p floor free) = kept_words s n p floor free tol
 answer_words (Told.Found s n from long found lacks) = found_words s n from long lacks found
 answer_words (Told.Forgot s floor run) = codes "forgot" ∷ decimal s ∷ decimal floor ∷ decimal run.first ∷ decimal run.last ∷ []
 answer_words (Told.Listed s after floor chunks is_all) = codes "chunks" ∷ decimal s ∷ decimal after ∷ decimal floor ∷ map chunk_word chunks.items ++ end_words is_all
-answer_words (Told.Room used allowed p lacks) = codes "room" ∷ decimal used ∷ decimal allowed ∷ decimal p ∷ lacks_word lacks ∷ []
+answer_words (Told.Room used allowed p lacks) = codes "room" ∷ decimal used ∷ decimal allowed ∷ decimal p ∷ decimal (sure_digit lacks) ∷ []
 
 -- the line by which the node of that number tells it to the tenant at that place, with its newline
 abbrev pub chunk_answer_text : CheckedPlan → (node t : ℕ) → ChunkAnswer → List ℕ

@@ -4,3 +4,5 @@ pub mod Answers
 pub mod Takers
 pub mod Laws
 pub mod Machines
+pub mod Lasting
+pub mod Needed

@@ -1,23 +1,24 @@
 -- What a machine of chunks has, and what a line makes of it. Nothing here names the shelf: only what was noted of it.
-use Rattle.std.specs.Prelude.{◌≡◌, ◌<◌, ◌+◌, ◌*◌, ◌%◌, ℕ, List, [], ◌∷◌, length, map, Bool, true, false, ◌&&◌, ◌==◌, nat_lt, Option, Some, None, slice_get, Ok, Err, All, ⊤, if◌then◌else◌}
+use Rattle.std.specs.Prelude.{◌≡◌, ◌<◌, ◌≤◌, ◌+◌, ◌*◌, ◌%◌, ℕ, List, [], ◌∷◌, length, map, Bool, true, false, ◌&&◌, ◌==◌, nat_lt, Option, Some, None, slice_get, Ok, Err, ⊤, if◌then◌else◌}
 use Rattle.std.specs.List.{sum_by}
 use Rattle.std.specs.Option.{option_to_list}
 use Rattle.gq_shelf.specs.Notes.{Noted, GoesOn}
+use Rattle.gq_shelf.specs.Places.{long_at}
 use Rattle.gq_desk.specs.CheckedPlan.{CheckedPlan, row_at}
-use Rattle.gq_journal.specs.Batches.{Line, lines_text}
+use Rattle.gq_journal.specs.Batches.{Line, lines_text, is_batch_line}
 use Rattle.gq_keeper.specs.declared.fault.Fault.{Fault}
 use Rattle.gq_keeper.specs.declared.fault.Fault.TheVariants as Ends
 use Rattle.gq_shelf.specs.declared.fault.ShelfFault.{ShelfFault}
 use Rattle.gq_shelf.specs.declared.fault.ShelfFault.TheVariants as Shelf
 use Rattle.gq_replace.specs.Plans.{generation, place_of}
-use Rattle.gq_text.specs.Canonical.{IsPlan}
 use Rattle.gq_text.specs.Words.{Word, words_of, number_of}
 use Rattle.gq_text.specs.Input.{place_named}
 use Rattle.gq_wire.specs.Incoming.{is_to}
 use Rattle.gq_setup.specs.Setups.{Setup, SetupReading, kib_of}
 use Rattle.gq_setup.specs.Texts.{setup_of_node_text}
-use Rattle.gq_depot.specs.Depots.{standing_of, bare, IsSame, reads_fact}
+use Rattle.gq_depot.specs.Depots.{Placed, Standing, standing_of, bare, IsSame, reads_fact}
 use Rattle.gq_depot.specs.Tenants.{TakesOwn, LeadsOwn, ApartFrom, DamageOf}
+use Rattle.gq_depot.specs.declared.limits.TheConstants.{MOST_CHUNK}
 use Rattle.gq_depot.specs.declared.answer.Answered.{Answered}
 use Rattle.gq_depot.specs.declared.answer.ChunkAnswer.TheVariants.{Bad}
 use Rattle.gq_depot.specs.declared.depot.Depot.{Depot}
@@ -25,7 +26,6 @@ use Rattle.gq_depot.specs.declared.fact.ChunkFact.{ChunkFact}
 use Rattle.gq_depot.specs.declared.request.ChunkRequest.{ChunkRequest}
 use Rattle.gq_chunks.specs.Answers.{chunk_answer_text}
 use Rattle.gq_chunks.specs.Facts.{chunk_fact_line, chunk_fact_of_line}
-use Rattle.gq_chunks.specs.Laws.{FitsFact}
 use Rattle.gq_chunks.specs.Requests.{chunk_request_by}
 
 -- The plan's tenants, the number of the node, how many nodes of its column were lost, what each tenant has, by its place in the plan, and what was noted of
@@ -68,6 +68,11 @@ asked_of plan node line = asked_of_words plan node (words_of line)
 abbrev pub fact_lines : CheckedPlan → (t : ℕ) → Option ChunkFact → List Line
 fact_lines plan t fact = map (chunk_fact_line plan t) (option_to_list fact)
 
+-- The line of the fact, if there is one, says it of this tenant, and may stand in a batch of a journal.
+abbrev pub FactStands : CheckedPlan → (t : ℕ) → Option ChunkFact → Type 0
+FactStands plan t None = ⊤
+FactStands plan t (Some fact) = (chunk_fact_of_line plan (chunk_fact_line plan t fact) ≡ Some (t, fact)) × (is_batch_line (chunk_fact_line plan t fact) ≡ true)
+
 -- whether the depot reads the fact
 abbrev pub depot_reads : Option Depot → ChunkFact → Bool
 depot_reads None fact = false
@@ -87,9 +92,8 @@ pub record Took (old : Chunks) (t : ℕ) (request : ChunkRequest) (facts : List 
   pub answers : Answers old t request answered new
   pub facts_are : facts ≡ fact_lines old.plan t answered.fact
   pub told_is : told ≡ chunk_answer_text old.plan old.node t answered.answer
-  pub within : t < length old.plan.rows
-  pub sound : IsPlan old.plan
-  pub fit : All FitsFact (option_to_list answered.fact)
+  pub within : t < length old.depots
+  pub stands : FactStands old.plan t answered.fact
 
 -- What the machine did not change: it is as it was, gave no fact, and told this.
 pub record Stays (old : Chunks) (facts : List Line) (told : List ℕ) (text : List ℕ) (new : Chunks) : Type 0 where
@@ -183,14 +187,31 @@ pub record IsBlank (first : ℕ → ℕ) (m blank : Chunks) : Type 0 where
 abbrev pub ChunksAreBlank : List (List ℕ) → Chunks → Chunks → Type 0
 ChunksAreBlank lines m blank = IsBlank (room_of_lines lines) m blank
 
--- the tenant may have so much, and only a new node lacks chunks of a tenant, of one that has room
+-- no chunk is too long
+abbrev pub AllFit : Standing → Type 0
+AllFit it = (k n : ℕ) (placed : Placed) → (it.books k).at n ≡ Some placed → long_at placed.place ≤ MOST_CHUNK
+
+-- the depot has the sessions of the tenant at this place, and no chunk that is too long
+pub record IsSound (plan : CheckedPlan) (t : ℕ) (depot : Depot) : Type 0 where
+  pub sessions_are : length depot.stock.sessions.items ≡ (row_at plan t).sessions
+  pub fit : AllFit (standing_of depot)
+
+abbrev pub AreSound : CheckedPlan → List Depot → Type 0
+AreSound plan depots = (t : ℕ) (depot : Depot) → slice_get depots t ≡ Some depot → IsSound plan t depot
+
+-- the tenant may have so much; and only a new node lacks chunks of a tenant, of one that has room
 pub record HasRoom (node room : ℕ) (depot : Depot) : Type 0 where
   pub allowed : depot.stock.allowed ≡ room
   pub lacking : depot.lacks ≡ true → lacks_at_first node room depot.stock.allowed ≡ true
 
--- each tenant has the room that the plan of these lines gives it
-abbrev pub ChunksAreOf : List (List ℕ) → Chunks → Type 0
-ChunksAreOf lines m = (t : ℕ) (depot : Depot) → slice_get m.depots t ≡ Some depot → HasRoom m.node (room_of_lines lines t) depot
+-- each tenant has such room
+abbrev pub HasRooms : (room : ℕ → ℕ) → Chunks → Type 0
+HasRooms room m = (t : ℕ) (depot : Depot) → slice_get m.depots t ≡ Some depot → HasRoom m.node (room t) depot
+
+-- each tenant has the room that the plan of these lines gives it, its sessions, and chunks that fit
+pub record ChunksAreOf (lines : List (List ℕ)) (m : Chunks) : Type 0 where
+  pub rooms : HasRooms (room_of_lines lines) m
+  pub sound : AreSound m.plan m.depots
 
 -- the tenant has the same chunks and floors, may have the same, and so much is lacked
 pub record DepotRests (depot again : Depot) : Type 0 where

@@ -1,13 +1,15 @@
 //! Answers as they are written.
 
-ghost use Rattle.std.specs.Prelude.{◌≡◌, ◌<◌, ◌++◌, [], ◌∷◌, map, length, codes, decimal, OnOk, OnErr};
+ghost use Rattle.std.specs.Prelude.{◌≡◌, ◌<◌, ◌++◌, [], ◌∷◌, map, length, codes, decimal, IfOk, OnOk, OnErr};
 ghost use Rattle.gq_desk.specs.CheckedPlan.{row_at};
-ghost use Rattle.gq_text.specs.AnswerText.{ended, spaced};
+ghost use Rattle.gq_text.specs.AnswerText.{bytes_word, ended, spaced};
 ghost use Rattle.gq_text.specs.Pieces.{Extends};
-ghost use Rattle.gq_chunks.specs.Answers.{part_of, told_content, kept_words, nothing_word, found_words, chunk_word, end_words, lacks_word, answer_words, chunk_answer_text};
+ghost use Rattle.gq_chunks.specs.Requests.{quoted_word};
+ghost use Rattle.gq_chunks.specs.Answers.{part_of, quotes_short, told_content, kept_words, nothing_word, found_words, chunk_word, end_words, answer_words, chunk_answer_text};
 
 use gq_depot::{ChunkAnswer, ListedChunk};
 use gq_desk::Plan;
+use gq_escape::put_escaped;
 use gq_memory::{GrowCopies, GrowVec, OutOfMemory};
 use gq_quote::put_quoted;
 use gq_stock::{Found, Keeping};
@@ -33,20 +35,41 @@ fn put_spaced(out: &mut Vec<u8>, n: u64) -> Result<(), OutOfMemory>
     put_number(out, n)
 }
 
+// Appends a content in the form of other lines.
+fn put_bytes(out: &mut Vec<u8>, bytes: &[u8]) -> Result<(), OutOfMemory>
+    ensures ok { OnOk result (out.new.items ≡ out.old.items ++ spaced (bytes_word bytes.now ∷ [])) }
+    ensures err { OnErr result (Extends out.old.items out.new.items) }
+{
+    if bytes.is_empty() {
+        return out.grow_by(b" -");
+    }
+    out.grow_by(b" =")?;
+    put_escaped(out, bytes)
+}
+
+// Appends a content with Python's escapes, and says whether these are short.
+fn put_short(out: &mut Vec<u8>, bytes: &[u8]) -> Result<bool, OutOfMemory>
+    ensures short { IfOk result (λ short. short ≡ quotes_short bytes.now) }
+    ensures ok { OnOk result (out.new.items ≡ out.old.items ++ spaced (quoted_word bytes.now ∷ [])) }
+    ensures err { OnErr result (Extends out.old.items out.new.items) }
+{
+    out.grow_by(b" ~")?;
+    let start = out.len();
+    put_quoted(out, bytes)?;
+    Ok(out.len() - start <= 2 * bytes.len())
+}
+
 // Appends the word of a content.
 fn put_content(out: &mut Vec<u8>, bytes: &[u8]) -> Result<(), OutOfMemory>
     ensures ok { OnOk result (out.new.items ≡ out.old.items ++ spaced (told_content bytes.now ∷ [])) }
     ensures err { OnErr result (Extends out.old.items out.new.items) }
 {
     let start = out.len();
-    out.grow_by(b" ~")?;
-    let words = out.len();
-    put_quoted(out, bytes)?;
-    if out.len() - words <= 2 * bytes.len() {
+    if put_short(out, bytes)? {
         return Ok(());
     }
     out.truncate(start);
-    put_words(out, &[Piece::Bytes(bytes)])
+    put_bytes(out, bytes)
 }
 
 // Appends the words of a content that was to be kept.
@@ -214,19 +237,11 @@ fn put_listed(
     out.grow(b'\n')
 }
 
-/// Appends the line by which the node of that number tells the tenant this, with its newline. Where memory is wanting a part of the line may have been appended.
-pub fn put_chunk_answer(
-    out: &mut Vec<u8>,
-    plan: &Plan,
-    node: u16,
-    tenant: u8,
-    answer: &ChunkAnswer,
-) -> Result<(), OutOfMemory>
-    requires { tenant < length plan.now.rows }
-    ensures ok { OnOk result (out.new.items ≡ out.old.items ++ chunk_answer_text plan.now node tenant answer.now) }
+// Appends the words of an answer, to the end of the line.
+fn put_answer(out: &mut Vec<u8>, answer: &ChunkAnswer) -> Result<(), OutOfMemory>
+    ensures ok { OnOk result (out.new.items ≡ out.old.items ++ ended (answer_words answer.now)) }
     ensures err { OnErr result (Extends out.old.items out.new.items) }
 {
-    put_head(out, plan, node, tenant)?;
     match answer {
         ChunkAnswer::Bad => put_words(out, &[Piece::Text(b"refused"), Piece::Text(b"bad")]),
         ChunkAnswer::NoSession { session, number } => put_words(
@@ -308,8 +323,24 @@ pub fn put_chunk_answer(
                 Piece::Number(*used),
                 Piece::Number(*allowed),
                 Piece::Number(*losses),
-                Piece::Text(if *lacks { b"1" } else { b"0" }),
+                Piece::Number(u64::from(*lacks)),
             ],
         ),
     }
+}
+
+/// Appends the line by which the node of that number tells the tenant this, with its newline. Where memory is wanting a part of the line may have been appended.
+pub fn put_chunk_answer(
+    out: &mut Vec<u8>,
+    plan: &Plan,
+    node: u16,
+    tenant: u8,
+    answer: &ChunkAnswer,
+) -> Result<(), OutOfMemory>
+    requires { tenant < length plan.now.rows }
+    ensures ok { OnOk result (out.new.items ≡ out.old.items ++ chunk_answer_text plan.now node tenant answer.now) }
+    ensures err { OnErr result (Extends out.old.items out.new.items) }
+{
+    put_head(out, plan, node, tenant)?;
+    put_answer(out, answer)
 }

@@ -6,6 +6,7 @@ mod asked;
 mod asking;
 pub mod laws;
 mod machine;
+mod needed;
 mod new_depots;
 mod ranges;
 mod reading;

@@ -1,20 +1,19 @@
 //! The machine of a server's chunks: lines in, facts and answers out, over a shelf.
 
-ghost use Rattle.std.specs.Prelude.{◌≡◌, ◌<◌, ◌++◌, [], All, length, slice_get, true, IfOk, IfErr, OnOk};
+ghost use Rattle.std.specs.Prelude.{◌≡◌, ◌<◌, ◌++◌, [], length, slice_get, true, IfOk, IfErr, OnOk};
 ghost use Rattle.std.specs.List.{list_any};
-ghost use Rattle.std.specs.Option.{option_to_list};
 ghost use Rattle.gq_text.specs.Canonical.{IsPlan};
 ghost use Rattle.gq_journal.specs.Batches.{lines_text};
 ghost use Rattle.gq_keeper.specs.Runs.{Takes};
 ghost use Rattle.gq_depot.specs.declared.answer.ChunkAnswer.TheVariants.{Bad};
 ghost use Rattle.gq_chunks.specs.Answers.{chunk_answer_text};
-ghost use Rattle.gq_chunks.specs.Laws.{FitsFact};
-ghost use Rattle.gq_chunks.specs.Machines.{fact_lines, depot_reads, IsFaultOf, IsShelfRefusal, Answers, Took, Recalled, IsNewFor};
+ghost use Rattle.gq_chunks.specs.Machines.{fact_lines, FactStands, depot_reads, IsFaultOf, IsShelfRefusal, Answers, Took, Recalled, IsNewFor};
 
 use crate::asked::read_asked;
-use crate::new_depots::{column_losses, lacks_at_first, new_depots};
-use crate::ranges::{fact_fits, plan_is_sound};
-use crate::{ChunkAnswer, ChunkFact, ChunkRequest, put_chunk_answer, put_chunk_fact, read_chunk_fact};
+use crate::needed::put_tenants;
+use crate::new_depots::{column_losses, new_depots};
+use crate::ranges::{plan_is_sound, put_sound_fact};
+use crate::{ChunkAnswer, ChunkFact, ChunkRequest, put_chunk_answer, read_chunk_fact};
 use gq_depot::{Answered, Depots};
 use gq_desk::Plan;
 use gq_grid::MOST_SERVERS;
@@ -22,7 +21,6 @@ use gq_keeper::{Fault, Lasting, Machine, Unread};
 use gq_memory::OutOfMemory;
 use gq_setup::Setup;
 use gq_shelf::{Shelf, ShelfFault};
-use gq_stock::Run;
 use std::alloc::Global;
 use std::marker::Model;
 
@@ -111,15 +109,13 @@ impl<S: Shelf + Drop> ChunkMachine<S> {
         fact: &Option<ChunkFact>,
         facts: &mut Vec<u8>,
     ) -> Result<(), OutOfMemory>
-        requires { tenant < length self.now.plan.rows }
+        requires tenant { tenant < length self.now.plan.rows }
+        requires sound { IsPlan self.now.plan }
         ensures kept { OnOk result (facts.new.items ≡ facts.old.items ++ lines_text (fact_lines self.now.plan tenant fact.now)) }
-        ensures fit { OnOk result (All FitsFact (option_to_list fact.now)) }
+        ensures stands { OnOk result (FactStands self.now.plan tenant fact.now) }
     {
         match fact {
-            Some(fact) => {
-                fact_fits(fact);
-                put_chunk_fact(facts, &self.plan, tenant, fact)
-            }
+            Some(fact) => put_sound_fact(facts, &self.plan, tenant, fact),
             None => Ok(()),
         }
     }
@@ -172,86 +168,11 @@ impl<S: Shelf + Drop> ChunkMachine<S> {
         self.facts = self.facts.saturating_add(1);
         self.depots.recall(self.alloc, tenant as usize, fact)
     }
-
-    // Appends the fact of the session's floor, unless that is 0.
-    fn put_floor(
-        &self,
-        tenant: u8,
-        place: usize,
-        facts: &mut Vec<u8>,
-    ) -> Result<(), OutOfMemory>
-    {
-        let session = &self.depots.depots[tenant as usize].stock.sessions[place];
-        if session.floor() == 0 {
-            return Ok(());
-        }
-        let fact = ChunkFact::Forgot {
-            session: place as u32 + 1,
-            floor: session.floor(),
-            run: Run { first: 1, last: 0 },
-        };
-        put_chunk_fact(facts, &self.plan, tenant, &fact)
-    }
-
-    // Appends the fact of the chunk of this number.
-    fn put_chunk(
-        &self,
-        tenant: u8,
-        place: usize,
-        number: u64,
-        facts: &mut Vec<u8>,
-    ) -> Result<(), OutOfMemory>
-    {
-        let depot = &self.depots.depots[tenant as usize];
-        let fact = depot.fact_at(place, place as u32 + 1, number)?;
-        put_chunk_fact(facts, &self.plan, tenant, &fact)
-    }
-
-    // Appends the facts of the session at this place.
-    fn put_session(
-        &self,
-        tenant: u8,
-        place: usize,
-        facts: &mut Vec<u8>,
-    ) -> Result<(), OutOfMemory>
-    {
-        self.put_floor(tenant, place, facts)?;
-        let session = &self.depots.depots[tenant as usize].stock.sessions[place];
-        if session.get(0).is_some() {
-            self.put_chunk(tenant, place, 0, facts)?;
-        }
-        let mut last = 0;
-        while let Some((number, _)) = session.after(last) {
-            self.put_chunk(tenant, place, number, facts)?;
-            last = number;
-        }
-        Ok(())
-    }
-
-    // Appends the facts of the tenant.
-    fn put_tenant(&self, tenant: u8, facts: &mut Vec<u8>) -> Result<(), OutOfMemory> {
-        let depot = &self.depots.depots[tenant as usize];
-        for place in 0..depot.stock.sessions.len() {
-            self.put_session(tenant, place, facts)?;
-        }
-        if lacks_at_first(self.node, depot.stock.allowed, depot.stock.allowed) && !depot.lacks {
-            put_chunk_fact(facts, &self.plan, tenant, &ChunkFact::Filled)?;
-        }
-        Ok(())
-    }
-
-    // Appends the facts of all tenants.
-    fn put_tenants(&self, facts: &mut Vec<u8>) -> Result<(), OutOfMemory> {
-        for place in 0..self.depots.depots.len() {
-            self.put_tenant(place as u8, facts)?;
-        }
-        Ok(())
-    }
 }
 
 impl<S: Shelf + Drop> Machine for ChunkMachine<S> {
-    ghost use Rattle.gq_chunks.specs.Machines.{ChunkSteps, ChunkRecalls, chunk_reads, IsShelfRefusal};
-    ghost use Rattle.gq_keeper.specs.Runs.{Takes};
+    ghost use Rattle.gq_chunks.specs.Machines.{ChunkSteps, ChunkRecalls, chunk_reads};
+    ghost use Rattle.gq_chunks.specs.Lasting.{reads_on};
 
     ghost steps = { ChunkSteps };
 
@@ -269,7 +190,7 @@ impl<S: Shelf + Drop> Machine for ChunkMachine<S> {
         Ok(())
     }
 
-    ghost reads_on = { ? };
+    ghost reads_on = { reads_on };
 
     fn take(&mut self, line: &[u8], facts: &mut Vec<u8>, told: &mut Vec<u8>) -> Result<(), Fault>
         ensures takes { OnOk result (Takes ChunkSteps self.old line.now facts.old.items facts.new.items told.old.items told.new.items self.new) }
@@ -289,6 +210,7 @@ impl<S: Shelf + Drop> Machine for ChunkMachine<S> {
 impl<S: Shelf + Drop> Lasting for ChunkMachine<S> {
     ghost use Rattle.std.specs.Prelude.{◌^◌, ◌-◌, min};
     ghost use Rattle.gq_chunks.specs.Machines.{ChunksAreBlank, ChunksAreOf, ChunksRest, in_journals};
+    ghost use Rattle.gq_chunks.specs.Lasting.{gives_facts, gives_readable, keeps_blank, keeps_plan, recalls_plan, keeps_rest, reads_again, starts_again};
 
     ghost blank = { ChunksAreBlank };
 
@@ -307,22 +229,23 @@ impl<S: Shelf + Drop> Lasting for ChunkMachine<S> {
     }
 
     fn put_needed(&self, facts: &mut Vec<u8>) -> Result<(), Fault> {
-        Ok(self.put_tenants(facts)?)
+        plan_is_sound(&self.plan);
+        Ok(put_tenants(self.node, &self.plan, self.depots.depots.as_slice(), facts)?)
     }
 
-    ghost gives_facts = { ? };
+    ghost gives_facts = { gives_facts };
 
-    ghost gives_readable = { ? };
+    ghost gives_readable = { gives_readable };
 
-    ghost keeps_blank = { ? };
+    ghost keeps_blank = { keeps_blank };
 
-    ghost keeps_plan = { ? };
+    ghost keeps_plan = { keeps_plan };
 
-    ghost recalls_plan = { ? };
+    ghost recalls_plan = { recalls_plan };
 
-    ghost keeps_rest = { ? };
+    ghost keeps_rest = { keeps_rest };
 
-    ghost reads_again = { ? };
+    ghost reads_again = { reads_again };
 
-    ghost starts_again = { ? };
+    ghost starts_again = { starts_again };
 }

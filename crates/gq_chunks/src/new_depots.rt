@@ -56,7 +56,7 @@ pub(crate) fn new_depots(
         let sessions = setup.plan().row(tenant).sessions;
         let allowed = setup.chunk_bytes(tenant);
         let lacks = lacks_at_first(node, room_before(first, tenant), allowed);
-        depots.grow(Depot::new(alloc, u32::from(sessions), allowed, lacks)?)?;
+        depots.grow(Depot::new(alloc, sessions, allowed, lacks)?)?;
     }
     Ok(depots)
 }
