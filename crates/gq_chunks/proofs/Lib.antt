@@ -2,3 +2,5 @@ pub mod FactsBack
 pub mod RequestsBack
 pub mod Arriving
 pub mod Needing
+pub mod Begun
+pub mod Taken

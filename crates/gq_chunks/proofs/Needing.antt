@@ -31,7 +31,7 @@ use Rattle.gq_depot.proofs.Standing.{there}
 use Rattle.gq_depot.proofs.Tenants.{after_same, same_on}
 use Rattle.gq_chunks.specs.Facts.{chunk_fact_line, chunk_fact_of_line}
 use Rattle.gq_chunks.specs.Machines.{Chunks, IsSite, FactStands, depot_reads, reads_told, chunk_reads, ChunkRecalls, room_of_lines, lacks_at_first, IsBare, IsBlank, ChunksAreBlank, AllFit, IsSound, AreSound, HasRoom, ChunksAreOf, DepotRests, ChunksRest}
-use Rattle.gq_chunks.specs.Lasting.{Went, site_on, site_itself, same_itself, same_back, across, recall_went, lines_are_facts}
+use Rattle.gq_chunks.specs.Lasting.{on_chunks, Went, site_on, site_itself, same_itself, same_back, across, recall_went, lines_are_facts}
 use Rattle.gq_chunks.specs.Needed.{after_facts, FactsStand, Wrote, empty_book, before_place, below_number, before_number, lacking, first_lacks, written_of, HasSessions, IsLike, Makes, WroteTenants}
 
 -- ---- facts one behind another
@@ -537,3 +537,18 @@ needs plan m before after of wrote = record {
           allowed = done.0 ∙ bare_it.allowed_is;
           standing = record { at = standing.at; floor = standing.floor; lacks = standing.lacks ∙ lacks_as was (room_of_lines plan t) has };
         }
+
+-- the same of machines that have chunks
+pub needs_of : {M : Type 0} (f : M → Chunks) (plan : List (List ℕ)) (m : M) (before after : List ℕ) → ChunksAreOf plan (f m) → WroteTenants (f m) (length (f m).depots) before after →
+    Needs (λ (a : M) (line : List ℕ) (b : M). ChunkRecalls (f a) line (f b)) (λ (a : M) (line : List ℕ). chunk_reads (f a) line) (λ (a b : M). ChunksAreBlank plan (f a) (f b)) (λ (a b : M). ChunksRest (f a) (f b)) m before after
+needs_of f plan m before after of wrote =
+    let needed = needs plan (f m) before after of wrote in
+    record {
+      lines = needed.lines;
+      text = needed.text;
+      facts = needed.facts;
+      stands = record {
+        read = λ new blank. needed.stands.read (f new) blank;
+        again = λ new last blank r. needed.stands.again (f new) (f last) blank (on_chunks f needed.lines new last r);
+      };
+    }

@@ -25,7 +25,14 @@ use Rattle.gq_depot.specs.declared.request.ChunkRequest.{ChunkRequest}
 use Rattle.gq_depot.proofs.Standing.{there}
 use Rattle.gq_depot.proofs.Tenants.{after_same, same_on}
 use Rattle.gq_chunks.specs.Facts.{place_verb, verb_of, own_words, chunk_fact_line, chunk_fact_of_line}
-use Rattle.gq_chunks.specs.Machines.{Chunks, IsSite, Asked, asked_of, fact_lines, FactStands, depot_reads, Took, Stays, StepsBy, ChunkSteps, reads_told, chunk_reads, Recalled, ChunkRecalls, room_of_lines, lacks_at_first, IsBare, IsBlank, ChunksAreBlank, AllFit, IsSound, AreSound, HasRoom, HasRooms, ChunksAreOf, DepotRests, ChunksRest}
+use Rattle.gq_chunks.specs.Machines.{Chunks, IsSite, Asked, asked_in, fact_lines, FactStands, depot_reads, Took, Stays, StepsBy, ChunkSteps, reads_told, chunk_reads, Recalled, ChunkRecalls, room_of_lines, lacks_at_first, IsBare, IsBlank, ChunksAreBlank, AllFit, IsSound, AreSound, HasRoom, HasRooms, ChunksAreOf, DepotRests, ChunksRest}
+
+-- ---- machines that have chunks
+
+-- what machines read, what they have reads
+pub on_chunks : {M : Type 0} (f : M → Chunks) (lines : List Line) (a b : M) → RecallsAll (λ (old : M) (line : List ℕ) (new : M). ChunkRecalls (f old) line (f new)) a lines b → RecallsAll ChunkRecalls (f a) lines (f b)
+on_chunks f [] a b same = ap f same
+on_chunks f (line ∷ lines) a b (next, one, more) = (f next, one, on_chunks f lines next b more)
 
 -- ---- the same, and the same node
 
@@ -94,7 +101,7 @@ record WentSome (old new : Chunks) : Type 0 where
   went : Went old tenant fact new
 
 step_went : (old : Chunks) (line : List ℕ) (facts : List Line) (told : List ℕ) (new : Chunks) → ChunkSteps old line facts told new → WentSome old new
-step_went old line facts told new step = by (asked_of old.plan old.node line) step
+step_went old line facts told new step = by (asked_in old line) step
   where
     stayed : new ≡ old → WentSome old new
     stayed same = record { tenant = 0; fact = None; went = subst (λ (z : Chunks). Went old 0 None z) (sym same) (went_nowhere old 0) }
@@ -218,7 +225,7 @@ lines_are_facts plan t (Some fact) stands =
     and_from (is_batch_line line && not (is_head line)) true (and_from (is_batch_line line) (not (is_head line)) stands.1 (never_heads fact (spaced ((row_at plan t).name ∷ own_words fact)))) refl
 
 pub gives_facts : (old : Chunks) (line : List ℕ) (facts : List (List ℕ)) (told : List ℕ) (new : Chunks) → ChunkSteps old line facts told new → are_facts facts ≡ true
-gives_facts old line facts told new step = by (asked_of old.plan old.node line) step
+gives_facts old line facts told new step = by (asked_in old line) step
   where
     none : facts ≡ [] → are_facts facts ≡ true
     none is = ap are_facts is
@@ -236,7 +243,7 @@ lines_read old other t depot (Some fact) shape at stands reads =
     and_from (chunk_reads other line) true (reads_as old other shape line ∙ (ap (reads_told old.depots) stands.0 ∙ its)) refl
 
 pub gives_readable : (plan : List (List ℕ)) (old : Chunks) (line : List ℕ) (facts : List (List ℕ)) (told : List ℕ) (new other : Chunks) → ChunkSteps old line facts told new → ChunksAreBlank plan old other → list_all (chunk_reads other) facts ≡ true
-gives_readable plan old line facts told new other step blank = by (asked_of old.plan old.node line) step
+gives_readable plan old line facts told new other step blank = by (asked_in old line) step
   where
     none : facts ≡ [] → list_all (chunk_reads other) facts ≡ true
     none is = ap (list_all (chunk_reads other)) is
@@ -339,6 +346,7 @@ went_all P old t fact new went on has k depot at =
 
 went_of : (plan : List (List ℕ)) (old : Chunks) (t : ℕ) (fact : Option ChunkFact) (new : Chunks) → Went old t fact new → ChunksAreOf plan old → ChunksAreOf plan new
 went_of plan old t fact new went has = record {
+  tenants = went.site.tenants ∙ (has.tenants ∙ sym (ap (λ (p : CheckedPlan). length p.rows) went.site.plan));
   rooms = subst (λ (n : ℕ). (k : ℕ) (depot : Depot) → slice_get new.depots k ≡ Some depot → HasRoom n (room_of_lines plan k) depot) (sym went.site.node)
       (went_all (λ k depot. HasRoom old.node (room_of_lines plan k) depot) old t fact new went (λ was is leads reads room. room_on old.node (room_of_lines plan t) fact was is leads room) has.rooms);
   sound = subst (λ (p : CheckedPlan). AreSound p new.depots) (sym went.site.plan)
@@ -393,7 +401,7 @@ recalled_went plan t (Some fact) before after is stands (next, one, last) =
     subst (λ (z : Chunks). Went before t (Some fact) z) last (subst (λ (x : ℕ × ChunkFact). Went before x.0 (Some x.1) next) same (recall_went before line next one))
 
 pub keeps_rest : (old : Chunks) (line : List ℕ) (facts : List (List ℕ)) (told : List ℕ) (new before after : Chunks) → ChunkSteps old line facts told new → ChunksRest old before → RecallsAll ChunkRecalls before facts after → ChunksRest new after
-keeps_rest old line facts told new before after step rests r = by (asked_of old.plan old.node line) step
+keeps_rest old line facts told new before after step rests r = by (asked_in old line) step
   where
     stayed : new ≡ old → facts ≡ [] → ChunksRest new after
     stayed same is =

@@ -37,6 +37,9 @@ pub record Chunks : Type 0 where
   pub depots : List Depot
   pub noted : Noted
 
+abbrev pub chunks : CheckedPlan → (node losses : ℕ) → List Depot → Noted → Chunks
+chunks plan node losses depots noted = record { plan = plan; node = node; losses = losses; depots = depots; noted = noted }
+
 -- it is the node of the same number and plan
 pub record IsSite (old new : Chunks) : Type 0 where
   pub plan : new.plan ≡ old.plan
@@ -50,17 +53,21 @@ pub record IsSite (old new : Chunks) : Type 0 where
 abbrev pub Asked : Type 0
 Asked = Option (ℕ × Option ChunkRequest)
 
-abbrev pub asked_by : Option ℕ → List Word → Asked
-asked_by None body = None
-asked_by (Some t) body = Some (t, chunk_request_by body)
+abbrev pub asked_by : (tenants : ℕ) → Option ℕ → List Word → Asked
+asked_by tenants None body = None
+asked_by tenants (Some t) body = if nat_lt t tenants then Some (t, chunk_request_by body) else None
 
--- a line `TO FROM BODY` of a tenant of the plan to the node; any other is passed over
-abbrev pub asked_of_words : CheckedPlan → (node : ℕ) → List Word → Asked
-asked_of_words plan node (to ∷ from ∷ body) = if is_to node (number_of to) then asked_by (place_named plan from) body else None
-asked_of_words plan node _ = None
+-- a line `TO FROM BODY` to the node, of one of the first tenants of the plan, so many; any other is passed over
+abbrev pub asked_of_words : CheckedPlan → (node tenants : ℕ) → List Word → Asked
+asked_of_words plan node tenants (to ∷ from ∷ body) = if is_to node (number_of to) then asked_by tenants (place_named plan from) body else None
+asked_of_words plan node tenants _ = None
 
-abbrev pub asked_of : CheckedPlan → (node : ℕ) → List ℕ → Asked
-asked_of plan node line = asked_of_words plan node (words_of line)
+abbrev pub asked_of : CheckedPlan → (node tenants : ℕ) → List ℕ → Asked
+asked_of plan node tenants line = asked_of_words plan node tenants (words_of line)
+
+-- what it asks of the machine, which has a depot for each tenant
+abbrev pub asked_in : Chunks → List ℕ → Asked
+asked_in m line = asked_of m.plan m.node (length m.depots) line
 
 -- ---- a step
 
@@ -108,7 +115,7 @@ StepsBy (Some (t, None)) old facts told new = Stays old facts told (chunk_answer
 StepsBy (Some (t, Some request)) old facts told new = Took old t request facts told new
 
 abbrev pub ChunkSteps : Chunks → List ℕ → List (List ℕ) → List ℕ → Chunks → Type 0
-ChunkSteps old line facts told new = StepsBy (asked_of old.plan old.node line) old facts told new
+ChunkSteps old line facts told new = StepsBy (asked_in old line) old facts told new
 
 -- ---- a line of an earlier run
 
@@ -210,6 +217,7 @@ HasRooms room m = (t : ℕ) (depot : Depot) → slice_get m.depots t ≡ Some de
 
 -- each tenant has the room that the plan of these lines gives it, its sessions, and chunks that fit
 pub record ChunksAreOf (lines : List (List ℕ)) (m : Chunks) : Type 0 where
+  pub tenants : length m.depots ≡ length m.plan.rows
   pub rooms : HasRooms (room_of_lines lines) m
   pub sound : AreSound m.plan m.depots
 
@@ -230,10 +238,13 @@ in_journals depots = sum_by (λ depot. depot.in_journal) depots
 
 -- ---- a machine that read no line yet
 
+-- 1 for a place of the same column
+abbrev pub in_column : (cols place other : ℕ) → ℕ
+in_column cols place other = if other % cols == place % cols then 1 else 0
+
 -- how many nodes of the column of this place were lost, of these places
 abbrev pub column_losses : (cols place : ℕ) → List ℕ → ℕ
-column_losses cols place [] = 0
-column_losses cols place (lost ∷ rest) = (if lost % cols == place % cols then 1 else 0) + column_losses cols place rest
+column_losses cols place lost = sum_by (in_column cols place) lost
 
 -- how many bytes the tenant might have by the setup that was read, if one was
 abbrev pub room_before : Option Setup → (t : ℕ) → ℕ

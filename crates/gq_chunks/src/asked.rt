@@ -28,15 +28,17 @@ fn is_to(word: &[u8], node: u16) -> bool
     }
 }
 
-// What the line, which has no newline, asks the node of that number about chunks, if it is a tenant's. Only a content takes memory.
+// What the line, which has no newline, asks the node of that number about chunks, if it is of one of the plan's first tenants, so many. Only a content takes memory.
 pub(crate) fn read_asked(
     alloc: Global,
     line: &[u8],
     plan: &Plan,
     node: u16,
+    tenants: usize,
 ) -> Result<Option<Asked>, OutOfMemory>
-    ensures asked { IfOk result (λ asked. option_map (λ asked. (asked.tenant, asked.request)) asked ≡ asked_of plan.now node line.now) }
+    ensures asked { IfOk result (λ asked. option_map (λ asked. (asked.tenant, asked.request)) asked ≡ asked_of plan.now node tenants line.now) }
     ensures tenant { IfOk result (λ asked. IfSome asked (λ asked. asked.tenant < length plan.now.rows)) }
+    ensures there { IfOk result (λ asked. IfSome asked (λ asked. asked.tenant < tenants)) }
 {
     let (to, rest) = first_word(line);
     let Some((from, rest)) = next_word(rest) else {
@@ -48,6 +50,9 @@ pub(crate) fn read_asked(
     let Some(tenant) = plan.find_word(from) else {
         return Ok(None);
     };
+    if tenant as usize >= tenants {
+        return Ok(None);
+    }
     let request = read_chunk_request(alloc, rest)?;
     Ok(Some(Asked { tenant, request }))
 }

@@ -7,7 +7,7 @@ ghost use Rattle.gq_text.specs.Canonical.{IsPlan};
 ghost use Rattle.gq_ledger.specs.Ledgers.{book_of};
 ghost use Rattle.gq_depot.specs.Answers.{In};
 ghost use Rattle.gq_depot.specs.Depots.{standing_of, bare};
-ghost use Rattle.gq_chunks.specs.Machines.{AllFit, IsSound, AreSound};
+ghost use Rattle.gq_chunks.specs.Machines.{chunks, AllFit, IsSound, AreSound};
 ghost use Rattle.gq_chunks.specs.Needed.{Wrote, before_place, before_number, lacking, first_lacks, written_of, WroteTenants};
 
 use crate::ChunkFact;
@@ -78,9 +78,9 @@ fn put_zero(
     requires place { place < length depot.now.stock.sessions.items }
     ensures { (lacks : Bool) → AllFit (standing_of depot.now) → OnOk result (Wrote plan.now tenant (length depot.now.stock.sessions.items) facts.old.items facts.new.items (before_number (standing_of depot.now) lacks place 0) (before_number (standing_of depot.now) lacks place 1)) }
 {
-    if depot.stock.sessions[place as usize].get(0).is_none() {
+    let Some(_chunk) = depot.stock.sessions[place as usize].get(0) else {
         return Ok(());
-    }
+    };
     put_chunk(plan, tenant, depot, place, 0, facts)
 }
 
@@ -187,11 +187,10 @@ pub(crate) fn put_tenants(
     depots: &[Depot],
     facts: &mut Vec<u8>,
 ) -> Result<(), OutOfMemory>
-    requires sound { IsPlan plan.now }
-    requires tenants { length depots.now ≡ length plan.now.rows }
-    ensures { (losses : ℕ) (noted : Noted) → AreSound plan.now depots.now → OnOk result (WroteTenants (record { plan = plan.now; node = node; losses = losses; depots = depots.now; noted = noted }) (length depots.now) facts.old.items facts.new.items) }
+    requires { IsPlan plan.now }
+    ensures { (losses : ℕ) (noted : Noted) → length depots.now ≡ length plan.now.rows → AreSound plan.now depots.now → OnOk result (WroteTenants (chunks plan.now node losses depots.now noted) (length depots.now) facts.old.items facts.new.items) }
 {
-    let tenants = plan.tenants();
+    let tenants = plan.tenants().min(depots.len());
     for place in 0..tenants {
         put_tenant(node, plan, place as u8, &depots[place], facts)?;
     }

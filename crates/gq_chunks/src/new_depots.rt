@@ -1,13 +1,26 @@
 //! What a node has of chunks that was never started.
 
-ghost use Rattle.std.specs.Prelude.{◌≡◌, ◌<◌, length, IfOk};
-ghost use Rattle.gq_chunks.specs.Machines.{column_losses, room_before, lacks_at_first, AreBare};
+ghost use Rattle.std.specs.Prelude.{◌≡◌, ◌<◌, ◌≤◌, length, IfOk};
+ghost use Rattle.gq_chunks.specs.Machines.{in_column, column_losses, room_before, lacks_at_first, AreBare};
 
 use gq_depot::Depot;
 use gq_grid::MOST_SERVERS;
 use gq_memory::{GrowVec, OutOfMemory};
 use gq_setup::Setup;
 use std::alloc::Global;
+
+// 1 for a place of the same column.
+fn in_column(cols: usize, place: usize, other: u8) -> u64
+    requires { 0 < cols }
+    ensures one { result ≡ in_column cols place other }
+    ensures few { result ≤ 1 }
+{
+    if other as usize % cols == place % cols {
+        1
+    } else {
+        0
+    }
+}
 
 // How many nodes of the column of that place were lost.
 pub(crate) fn column_losses(cols: usize, place: usize, lost: &[u8]) -> u64
@@ -16,9 +29,7 @@ pub(crate) fn column_losses(cols: usize, place: usize, lost: &[u8]) -> u64
 {
     let mut losses: u64 = 0;
     for other in lost {
-        if *other as usize % cols == place % cols {
-            losses += 1;
-        }
+        losses += in_column(cols, place, *other);
     }
     losses
 }
