@@ -12,11 +12,10 @@ use Rattle.gq_depot.specs.declared.fact.ChunkFact.{ChunkFact}
 use Rattle.gq_chunks.specs.Machines.{chunks, in_column, column_losses, lacks_at_first, IsBare, Recalled}
 
 -- one place more
-pub losses_more : (cols place : ℕ) (lost : List ℕ) (i d before one : ℕ) → i < length lost → d ≡ get_or lost i d → before ≡ column_losses cols place (take i lost) → one ≡ in_column cols place d → before + one ≡ column_losses cols place (take (i + 1) lost)
-losses_more cols place lost i d before one lt is was its =
+pub losses_more : (cols place : ℕ) (lost : List ℕ) (i d before one : ℕ) → i < length lost → before ≡ column_losses cols place (take i lost) → one ≡ in_column cols place (get_or lost i d) → before + one ≡ column_losses cols place (take (i + 1) lost)
+losses_more cols place lost i d before one lt was its =
     let more : column_losses cols place (take (i + 1) lost) ≡ column_losses cols place (take i lost) + in_column cols place (get_or lost i d) = sum_by_more (in_column cols place) lost i d lt in
-    let same : in_column cols place d ≡ in_column cols place (get_or lost i d) = ap (in_column cols place) is in
-    omega (arith, more, same, was, its)
+    omega (arith, more, was, its)
 
 never : {X : Type 0} (x : X) {A : Type 0} → None ≡ Some x → A
 never x e = absurd (bad e)

@@ -189,7 +189,7 @@ impl<S: Shelf + Drop> Machine for ChunkMachine<S> {
         ensures refused { IfErr result (λ fault. IsShelfRefusal fault (S.noted self.old.depots.shelf) (S.noted self.new.depots.shelf)) }
     {
         plan_is_sound(&self.plan);
-        let tenants = self.depots.depots.len();
+        let tenants = self.depots.depots.as_slice().len();
         let Some(asked) = read_asked(self.alloc, line, &self.plan, self.node, tenants)? else {
             return Ok(());
         };

@@ -4,6 +4,6 @@ use Rattle.gq_chunks.proofs.new_depots.column_losses.Goals as goal
 
 pub loop-other-preserved : goal.loop-other-preserved
 loop-other-preserved c = (
-  losses_more c.args.cols c.args.place c.args.lost.now c.loop-other.other-index c.other-item.result c.loop-other.losses c.in_column-losses.result c.loop-other-test.true c.other-item.is c.loop-other.invariant.0 c.in_column-losses.ensures.one,
-  ?,
+  losses_more c.args.cols c.args.place c.args.lost.now c.loop-other.other-index 0 c.loop-other.losses c.in_column-losses.result c.loop-other-test.true c.loop-other.invariant.0 c.in_column-losses.ensures.one,
+  omega (arith, c.loop-other.invariant.1, c.in_column-losses.ensures.few),
 )
