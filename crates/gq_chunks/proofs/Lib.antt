@@ -4,3 +4,4 @@ pub mod Arriving
 pub mod Needing
 pub mod Begun
 pub mod Taken
+pub mod Apart

@@ -6,3 +6,4 @@ pub mod Laws
 pub mod Machines
 pub mod Lasting
 pub mod Needed
+pub mod Alone
