@@ -5,3 +5,4 @@ pub mod Needing
 pub mod Begun
 pub mod Taken
 pub mod Apart
+pub mod Telling
