@@ -1,5 +1,5 @@
 -- A start that reads what was written has the same chunks.
-use Rattle.std.proofs.Common.{◌≡◌, ◌≢◌, ◌<◌, ◌≤◌, ◌+◌, ◌-◌, ℕ, zero, suc, List, [], ◌∷◌, ◌++◌, length, get_or, Bool, true, false, Option, Some, None, refl, sym, ap, subst, ◌∙◌, arith, append_assoc, append-nil}
+use Rattle.std.proofs.Common.{◌≡◌, ◌≢◌, ◌<◌, ◌≤◌, ◌+◌, ◌-◌, ℕ, List, [], ◌∷◌, ◌++◌, length, get_or, Bool, true, false, Option, Some, None, refl, sym, ap, subst, ◌∙◌, arith, append_assoc, append-nil}
 use Rattle.std.specs.Prelude.{◌==◌, ◌&&◌, nat_lt, nat_le, max, map, slice_get, option_map, IsSome, if◌then◌else◌}
 use Rattle.std.specs.List.{list_all}
 use Rattle.std.proofs.lemmas.Bool.{and_from, and_right, eqb-true, eq-eqb, true≢false, lt-ltb, le-ltb, ltb-true, ltb-false, le-leb}
@@ -15,7 +15,7 @@ use Rattle.gq_stock.specs.Forgetting.{is_in_any}
 use Rattle.gq_stock.specs.declared.chunk.Chunk.{Chunk}
 use Rattle.gq_stock.specs.declared.run.Run.{Run}
 use Rattle.gq_stock.specs.declared.session.Session.{Session}
-use Rattle.gq_desk.specs.CheckedPlan.{CheckedPlan, row_at}
+use Rattle.gq_desk.specs.CheckedPlan.{CheckedPlan}
 use Rattle.gq_journal.specs.Batches.{Line, lines_text, ended_line}
 use Rattle.gq_keeper.specs.Plans.{are_facts}
 use Rattle.gq_keeper.specs.Restarting.{Needs}
@@ -30,8 +30,8 @@ use Rattle.gq_depot.specs.declared.fact.ChunkFact.TheVariants.{Put, Forgot, Fill
 use Rattle.gq_depot.proofs.Standing.{there}
 use Rattle.gq_depot.proofs.Tenants.{after_same, same_on}
 use Rattle.gq_chunks.specs.Facts.{chunk_fact_line, chunk_fact_of_line}
-use Rattle.gq_chunks.specs.Machines.{Chunks, IsSite, FactStands, depot_reads, reads_told, chunk_reads, ChunkRecalls, room_of_lines, lacks_at_first, IsBare, IsBlank, ChunksAreBlank, AllFit, IsSound, AreSound, HasRoom, ChunksAreOf, DepotRests, ChunksRest}
-use Rattle.gq_chunks.specs.Lasting.{on_chunks, Went, site_on, site_itself, same_itself, same_back, across, recall_went, lines_are_facts}
+use Rattle.gq_chunks.specs.Machines.{Chunks, IsSite, FactStands, depot_reads, reads_told, chunk_reads, ChunkRecalls, room_of_lines, lacks_at_first, IsBare, ChunksAreBlank, AllFit, HasRoom, ChunksAreOf, DepotRests, ChunksRest}
+use Rattle.gq_chunks.specs.Lasting.{on_chunks, Went, site_on, site_itself, same_itself, across, recall_went, lines_are_facts}
 use Rattle.gq_chunks.specs.Needed.{after_facts, FactsStand, Wrote, empty_book, before_place, below_number, before_number, lacking, first_lacks, written_of, HasSessions, IsLike, Makes, WroteTenants}
 
 -- ---- facts one behind another
@@ -468,9 +468,9 @@ makes_more m t depot facts new mid last at makes before went = record {
         let one : depot ≡ d = same_Some depot d (sym at ∙ subst (λ (z : ℕ). slice_get m.depots z ≡ Some d) same at_d) in (
           went.allowed was is in_mid in_last,
           λ nothing. subst (λ (x : Depot). IsSame (standing_of is) (written_of m.node x)) one
-          (same_on (standing_of is) (after_facts facts (standing_of was)) (written_of m.node depot) (went.makes was is in_mid in_last)
-          (same_on (after_facts facts (standing_of was)) (after_facts facts (bare (first_lacks m.node depot))) (written_of m.node depot)
-          (facts_same facts (standing_of was) (bare (first_lacks m.node depot)) (subst (λ (x : Depot). IsSame (standing_of was) (bare (first_lacks m.node x))) (sym one) nothing)) makes)),
+              (same_on (standing_of is) (after_facts facts (standing_of was)) (written_of m.node depot) (went.makes was is in_mid in_last)
+              (same_on (after_facts facts (standing_of was)) (after_facts facts (bare (first_lacks m.node depot))) (written_of m.node depot)
+              (facts_same facts (standing_of was) (bare (first_lacks m.node depot)) (subst (λ (x : Depot). IsSame (standing_of was) (bare (first_lacks m.node x))) (sym one) nothing)) makes)),
         )
     made k d was is lt at_d at_was at_is false e =
         before.made k d was is (below k lt (other k e)) at_d at_was (sym (went.apart k (other k e)) ∙ at_is)

@@ -1,5 +1,5 @@
 -- Lines that change nothing.
-use Rattle.std.proofs.Common.{◌≡◌, ℕ, List, [], ◌++◌, Some, None, refl, sym, subst, ap, ◌∙◌, append-nil}
+use Rattle.std.proofs.Common.{◌≡◌, ℕ, List, [], ◌++◌, Some, None, refl, sym, subst, append-nil}
 use Rattle.gq_keeper.specs.Runs.{Takes}
 use Rattle.gq_depot.specs.declared.answer.ChunkAnswer.TheVariants.{Bad}
 use Rattle.gq_chunks.specs.Answers.{chunk_answer_text}

@@ -1,6 +1,6 @@
 -- A content that is told is read again, and is short.
-use Rattle.std.proofs.Common.{◌≡◌, ◌≤◌, ◌+◌, ◌*◌, ℕ, suc, List, [], ◌∷◌, length, Bool, true, false, Some, refl, sym, ap, subst, ◌∙◌, arith}
-use Rattle.std.specs.Prelude.{nat_le, if◌then◌else◌}
+use Rattle.std.proofs.Common.{◌≡◌, ◌≤◌, ◌+◌, ◌*◌, ℕ, List, [], ◌∷◌, length, Bool, true, false, Some, refl, ◌∙◌, arith}
+use Rattle.std.specs.Prelude.{if◌then◌else◌}
 use Rattle.std.proofs.lemmas.Bool.{leb-true}
 use Rattle.gq_escape.specs.Escape.{escaped}
 use Rattle.gq_escape.proofs.Escaping.{at_most_twice}
@@ -9,7 +9,7 @@ use Rattle.gq_quote.proofs.Quoting.{bytes_read_back}
 use Rattle.gq_text.specs.AnswerText.{bytes_word}
 use Rattle.gq_text.specs.Words.{content_of}
 use Rattle.gq_text.proofs.Contents.{bytes_back}
-use Rattle.gq_chunks.specs.Answers.{quotes_short, told_content}
+use Rattle.gq_chunks.specs.Answers.{quotes_short}
 use Rattle.gq_chunks.specs.Requests.{quoted_word, chunk_content_of}
 use Rattle.gq_chunks.specs.Laws.{ContentsReadBack, ContentsAreShort}
 

@@ -1,5 +1,5 @@
 -- What a tenant is told hangs on its own lines.
-use Rattle.std.specs.Prelude.{◌≡◌, ℕ, List, [], ◌∷◌, length, Bool, true, false, ◌==◌, Option, Some, None, slice_get}
+use Rattle.std.specs.Prelude.{◌≡◌, ℕ, List, [], ◌∷◌, length, Bool, true, false, ◌==◌, Some, None, slice_get}
 use Rattle.gq_shelf.specs.Notes.{Noted, GoesOn}
 use Rattle.gq_desk.specs.CheckedPlan.{CheckedPlan}
 use Rattle.gq_journal.specs.Batches.{Line}

@@ -1,8 +1,7 @@
 -- What a machine of chunks owes that lasts.
 use Rattle.std.proofs.Common.{◌≡◌, ◌≢◌, ◌<◌, ◌-◌, ℕ, List, [], ◌∷◌, ◌++◌, length, Bool, true, false, Option, Some, None, refl, sym, ap, subst, ◌∙◌}
-use Rattle.std.specs.Prelude.{◌==◌, ◌≤◌, ◌&&◌, nat_le, not, map, slice_get, if◌then◌else◌}
+use Rattle.std.specs.Prelude.{◌==◌, ◌≤◌, ◌&&◌, nat_le, not, slice_get, if◌then◌else◌}
 use Rattle.std.specs.List.{list_all}
-use Rattle.std.specs.Option.{option_to_list}
 use Rattle.std.proofs.lemmas.Bool.{and_from, and_parts, leb-true, eqb-true, eq-eqb, true≢false}
 use Rattle.std.proofs.lemmas.Option.{same_Some, slice_get_within}
 use Rattle.gq_shelf.specs.Places.{long_at}
@@ -14,7 +13,7 @@ use Rattle.gq_journal.specs.Batches.{Line, is_batch_line}
 use Rattle.gq_keeper.specs.Plans.{is_head, are_facts}
 use Rattle.gq_keeper.specs.Starting.{RecallsAll}
 use Rattle.gq_depot.specs.Depots.{Placed, Standing, standing_of, forgotten, after_fact, bare, IsSame, LeadsTo, reads_fact, ReadsFact}
-use Rattle.gq_depot.specs.Tenants.{Step, LeadsOwn, ApartFrom}
+use Rattle.gq_depot.specs.Tenants.{LeadsOwn, ApartFrom}
 use Rattle.gq_ledger.specs.Steps.{with_at}
 use Rattle.gq_stock.specs.Forgetting.{is_in_any}
 use Rattle.gq_depot.specs.declared.limits.TheConstants.{MOST_CHUNK}
@@ -25,7 +24,7 @@ use Rattle.gq_depot.specs.declared.request.ChunkRequest.{ChunkRequest}
 use Rattle.gq_depot.proofs.Standing.{there}
 use Rattle.gq_depot.proofs.Tenants.{after_same, same_on}
 use Rattle.gq_chunks.specs.Facts.{place_verb, verb_of, own_words, chunk_fact_line, chunk_fact_of_line}
-use Rattle.gq_chunks.specs.Machines.{Chunks, IsSite, Asked, asked_in, fact_lines, FactStands, depot_reads, Took, Stays, StepsBy, ChunkSteps, reads_told, chunk_reads, Recalled, ChunkRecalls, room_of_lines, lacks_at_first, IsBare, IsBlank, ChunksAreBlank, AllFit, IsSound, AreSound, HasRoom, HasRooms, ChunksAreOf, DepotRests, ChunksRest}
+use Rattle.gq_chunks.specs.Machines.{Chunks, IsSite, Asked, asked_in, fact_lines, FactStands, depot_reads, Took, StepsBy, ChunkSteps, reads_told, chunk_reads, Recalled, ChunkRecalls, room_of_lines, lacks_at_first, IsBare, IsBlank, ChunksAreBlank, AllFit, IsSound, AreSound, HasRoom, ChunksAreOf, DepotRests, ChunksRest}
 
 -- ---- machines that have chunks
 

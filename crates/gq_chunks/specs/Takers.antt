@@ -1,8 +1,8 @@
 -- Which lines are of chunks.
-use Rattle.std.specs.Prelude.{ℕ, List, [], ◌∷◌, Bool, true, false, ◌||◌, ◌&&◌, is_none, codes, if◌then◌else◌}
+use Rattle.std.specs.Prelude.{ℕ, List, [], ◌∷◌, Bool, false, ◌||◌, ◌&&◌, is_none, codes, if◌then◌else◌}
 use Rattle.std.specs.Str.{bytes_eq}
 use Rattle.gq_pair.specs.declared.pair.Taker.{Taker}
-use Rattle.gq_pair.specs.declared.pair.Taker.TheVariants.{First, Second, Both}
+use Rattle.gq_pair.specs.declared.pair.Taker.TheVariants.{First, Second}
 use Rattle.gq_text.specs.Words.{Word, words_of, number_of}
 
 -- what a tenant may ask about its chunks

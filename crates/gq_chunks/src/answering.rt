@@ -94,7 +94,12 @@ fn put_kept(
         ),
         Keeping::Differs => put_words(
             out,
-            &[Piece::Text(b"refused"), Piece::Text(b"differs"), session, number],
+            &[
+                Piece::Text(b"refused"),
+                Piece::Text(b"differs"),
+                session,
+                number,
+            ],
         ),
         Keeping::Damaged => put_words(out, &[Piece::Text(b"damaged"), session, number]),
         Keeping::Below => put_words(
@@ -175,13 +180,7 @@ fn put_found(
             return put_got(out, session, number, from, long, bytes.as_slice());
         }
         Found::Damaged => b"damaged",
-        Found::Nothing => {
-            if lacks {
-                b"lacks"
-            } else {
-                b"none"
-            }
-        }
+        Found::Nothing => { if lacks { b"lacks" } else { b"none" } }
     };
     put_words(
         out,
@@ -303,14 +302,7 @@ fn put_answer(out: &mut Vec<u8>, answer: &ChunkAnswer) -> Result<(), OutOfMemory
             floor,
             chunks,
             is_all,
-        } => put_listed(
-            out,
-            *session,
-            *after,
-            *floor,
-            chunks.as_slice(),
-            *is_all,
-        ),
+        } => put_listed(out, *session, *after, *floor, chunks.as_slice(), *is_all),
         ChunkAnswer::Room {
             used,
             allowed,

@@ -4,7 +4,7 @@ use Rattle.gq_shelf.specs.Extents.{begins}
 use Rattle.gq_shelf.specs.Notes.{Noted, after_put, after_read, after_failure}
 use Rattle.gq_shelf.specs.declared.extent.Extent.{Extent}
 use Rattle.gq_shelf.specs.declared.fault.ShelfFault.{ShelfFault}
-use Rattle.gq_shelf.specs.declared.fault.ShelfFault.TheVariants.{Memory, Read, Write, Damaged}
+use Rattle.gq_shelf.specs.declared.fault.ShelfFault.TheVariants.{Memory}
 use Rattle.gq_shelf.specs.declared.place.Place.{Place}
 use Rattle.gq_shelf.specs.declared.place.Place.TheVariants.{Fresh, Shelved}
 

@@ -1,4 +1,4 @@
-use Rattle.std.proofs.Common.{◌≡◌, ◌<◌, ◌∙◌, length, Option, sym, ap, arith}
+use Rattle.std.proofs.Common.{◌≡◌, ◌<◌, length, Option, ap, arith}
 use Rattle.std.specs.Prelude.{unwrap_or}
 use Rattle.gq_desk.specs.declared.plans.TenantRow.{TenantRow}
 use Rattle.gq_desk.specs.CheckedPlan.{row_at, nobody}

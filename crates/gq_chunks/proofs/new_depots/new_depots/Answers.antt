@@ -1,4 +1,4 @@
-use Rattle.std.proofs.Common.{◌≡◌, ◌∙◌, ◌*◌, ◌+◌, ℕ, List, [], ◌∷◌, length, length-append, Option, Some, ap, sym, subst, arith}
+use Rattle.std.proofs.Common.{◌≡◌, ◌∙◌, ◌*◌, ◌+◌, ℕ, List, [], ◌∷◌, length, length-append, Option, ap, sym, subst}
 use Rattle.std.specs.Prelude.{unwrap_or, slice_get}
 use Rattle.gq_desk.specs.CheckedPlan.{CheckedPlan, row_at, nobody}
 use Rattle.gq_desk.specs.declared.plans.TenantRow.{TenantRow}

@@ -1,5 +1,5 @@
 -- What the line asks is what was read of it.
-use Rattle.std.proofs.Common.{◌≡◌, ◌∙◌, ℕ, List, length, Option, Some, None, sym, ap, refl}
+use Rattle.std.proofs.Common.{◌∙◌, ℕ, List, length, Option, Some, sym, ap, refl}
 use Rattle.std.specs.Prelude.{option_map}
 use Rattle.gq_depot.specs.declared.depot.Depot.{Depot}
 use Rattle.gq_depot.specs.declared.request.ChunkRequest.{ChunkRequest}
