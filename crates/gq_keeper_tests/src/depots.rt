@@ -93,14 +93,44 @@ fn keeps_and_tells_chunks(rt: HostRuntime) {
     let it = &mut machine;
     keep_two(&rt, alloc, it);
     says(&rt, alloc, it, "0 ann keep 1 7 ~abc", "ann 0 kept 1 7 1\n");
-    says(&rt, alloc, it, "0 ann keep 1 5 ~a", "ann 0 refused differs 1 5\n");
-    says(&rt, alloc, it, "0 ann get 1 5 0 9", "ann 0 got 1 5 3 0 ~a\\040b\n");
-    says(&rt, alloc, it, "0 ann get 1 5 1 9", "ann 0 got 1 5 3 1 =\\sb\n");
+    says(
+        &rt,
+        alloc,
+        it,
+        "0 ann keep 1 5 ~a",
+        "ann 0 refused differs 1 5\n",
+    );
+    says(
+        &rt,
+        alloc,
+        it,
+        "0 ann get 1 5 0 9",
+        "ann 0 got 1 5 3 0 ~a\\040b\n",
+    );
+    says(
+        &rt,
+        alloc,
+        it,
+        "0 ann get 1 5 1 9",
+        "ann 0 got 1 5 3 1 =\\sb\n",
+    );
     says(&rt, alloc, it, "0 ann get 1 6 0 9", "ann 0 none 1 6\n");
     says(&rt, alloc, it, "0 ann room", "ann 0 room 6 1024 1 0\n");
     forget_first(&rt, alloc, it);
-    says(&rt, alloc, it, "0 ann keep 1 5 ~a", "ann 0 refused below 1 5 5\n");
-    says(&rt, alloc, it, "0 ann chunks 1 0", "ann 0 chunks 1 0 5 7.3 end\n");
+    says(
+        &rt,
+        alloc,
+        it,
+        "0 ann keep 1 5 ~a",
+        "ann 0 refused below 1 5 5\n",
+    );
+    says(
+        &rt,
+        alloc,
+        it,
+        "0 ann chunks 1 0",
+        "ann 0 chunks 1 0 5 7.3 end\n",
+    );
 }
 
 #[test]
@@ -108,10 +138,34 @@ fn refuses_what_no_chunk_may_be(rt: HostRuntime) {
     let alloc = rt.alloc();
     let mut machine = machine(&rt, alloc, 0);
     let it = &mut machine;
-    says(&rt, alloc, it, "0 ann keep 3 5 ~a", "ann 0 refused nosession 3 5\n");
-    says(&rt, alloc, it, "0 ann keep 1 5 ~", "ann 0 refused toolong 1 5 0\n");
-    says(&rt, alloc, it, "0 bob keep 1 5 ~a", "bob 0 refused room 1 5 0\n");
-    says(&rt, alloc, it, "0 ann forget 1 5 4 8", "ann 0 refused bad\n");
+    says(
+        &rt,
+        alloc,
+        it,
+        "0 ann keep 3 5 ~a",
+        "ann 0 refused nosession 3 5\n",
+    );
+    says(
+        &rt,
+        alloc,
+        it,
+        "0 ann keep 1 5 ~",
+        "ann 0 refused toolong 1 5 0\n",
+    );
+    says(
+        &rt,
+        alloc,
+        it,
+        "0 bob keep 1 5 ~a",
+        "bob 0 refused room 1 5 0\n",
+    );
+    says(
+        &rt,
+        alloc,
+        it,
+        "0 ann forget 1 5 4 8",
+        "ann 0 refused bad\n",
+    );
     says(&rt, alloc, it, "1 ann room", "");
     says(&rt, alloc, it, "0 eve room", "");
 }
@@ -131,8 +185,20 @@ fn starts_with_the_same_chunks(rt: HostRuntime) {
     reads(&rt, &mut after, "chunk ann 1 7 1 =abc");
     assert!(rt; after.recall(b"chunk ann 3 7 1 =abc").is_err());
     assert!(rt; after.facts() == 3);
-    says(&rt, alloc, &mut after, "0 ann get 1 7 0 9", "ann 0 got 1 7 3 0 ~abc\n");
-    says(&rt, alloc, &mut after, "0 ann keep 1 5 ~a", "ann 0 refused below 1 5 5\n");
+    says(
+        &rt,
+        alloc,
+        &mut after,
+        "0 ann get 1 7 0 9",
+        "ann 0 got 1 7 3 0 ~abc\n",
+    );
+    says(
+        &rt,
+        alloc,
+        &mut after,
+        "0 ann keep 1 5 ~a",
+        "ann 0 refused below 1 5 5\n",
+    );
 }
 
 #[test]
@@ -151,7 +217,13 @@ fn lacks_chunks_until_it_is_filled(rt: HostRuntime) {
     );
     says(&rt, alloc, it, "65 ann get 1 5 0 9", "ann 65 lacks 1 5\n");
     reads(&rt, it, "filled ann");
-    says(&rt, alloc, it, "65 ann get 1 5 0 9", "ann 65 got 1 5 1 0 ~a\n");
+    says(
+        &rt,
+        alloc,
+        it,
+        "65 ann get 1 5 0 9",
+        "ann 65 got 1 5 1 0 ~a\n",
+    );
     assert!(rt; !it.lacks_some());
 }
 
