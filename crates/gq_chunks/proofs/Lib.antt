@@ -1,3 +1,8 @@
 pub mod FactsBack
 pub mod RequestsBack
 pub mod Arriving
+pub mod Needing
+pub mod Begun
+pub mod Taken
+pub mod Apart
+pub mod Telling

@@ -1,5 +1,5 @@
 -- What is read of lines that are written.
-use Rattle.std.specs.Prelude.{◌≡◌, ◌<◌, ◌≤◌, ◌^◌, ℕ, length, true, Some}
+use Rattle.std.specs.Prelude.{◌≡◌, ◌<◌, ◌≤◌, ◌+◌, ◌*◌, ◌^◌, ℕ, List, length, true, Some}
 use Rattle.gq_shelf.specs.declared.place.Place.{Place}
 use Rattle.gq_shelf.specs.declared.place.Place.TheVariants.{Fresh, Shelved}
 use Rattle.gq_desk.specs.CheckedPlan.{CheckedPlan}
@@ -8,7 +8,8 @@ use Rattle.gq_text.specs.Canonical.{IsPlan, IsNumber}
 use Rattle.gq_text.specs.Words.{words_after}
 use Rattle.gq_journal.specs.Batches.{is_batch_line}
 use Rattle.gq_chunks.specs.Facts.{chunk_fact_line, chunk_fact_of_line}
-use Rattle.gq_chunks.specs.Requests.{request_words, chunk_request_by}
+use Rattle.gq_chunks.specs.Answers.{told_content}
+use Rattle.gq_chunks.specs.Requests.{chunk_content_of, request_words, chunk_request_by}
 use Rattle.gq_depot.specs.declared.request.ChunkRequest.{ChunkRequest}
 use Rattle.gq_depot.specs.declared.request.ChunkRequest.TheVariants.{Keep, Get, Forget, List as ListChunks, Room}
 use Rattle.gq_depot.specs.declared.fact.ChunkFact.{ChunkFact}
@@ -44,3 +45,11 @@ FitsRequest Room = Unit {0}
 -- what a tenant writes of a request is read as that request
 abbrev pub RequestsReadBack : Type 0
 RequestsReadBack = (request : ChunkRequest) → FitsRequest request → chunk_request_by (words_after (spaced (request_words request))) ≡ Some request
+
+-- a content that is told is read as these bytes
+abbrev pub ContentsReadBack : Type 0
+ContentsReadBack = (bytes : List ℕ) → chunk_content_of (told_content bytes) ≡ Some bytes
+
+-- it is written in at most two bytes for each, and one more
+abbrev pub ContentsAreShort : Type 0
+ContentsAreShort = (bytes : List ℕ) → length (told_content bytes) ≤ 2 * length bytes + 1

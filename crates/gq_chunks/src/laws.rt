@@ -1,6 +1,7 @@
-//! What is read of lines that are written.
+//! What is read of lines that are written, and what lines of several tenants make.
 
-ghost use Rattle.gq_chunks.specs.Laws.{FactsReadBack, FactsStandInBatches, RequestsReadBack};
+ghost use Rattle.gq_chunks.specs.Alone.{TenantsApart};
+ghost use Rattle.gq_chunks.specs.Laws.{ContentsAreShort, ContentsReadBack, FactsReadBack, FactsStandInBatches, RequestsReadBack};
 
 /// The line of a fact is read as that fact, of its tenant.
 pub fn facts_read_back()
@@ -15,4 +16,19 @@ pub fn facts_stand_in_batches()
 /// The words of a request are read as that request.
 pub fn requests_read_back()
     ensures { RequestsReadBack }
+{}
+
+/// Whatever lines all tenants sent: what one of them is told, and what is kept of it, is what comes of its own lines alone.
+pub fn tenants_apart()
+    ensures { TenantsApart }
+{}
+
+/// A content that is told is read as the same bytes.
+pub fn contents_read_back()
+    ensures { ContentsReadBack }
+{}
+
+/// A content that is told takes at most two bytes for each of its own, and one more. So no line is longer than what carriers take.
+pub fn contents_are_short()
+    ensures { ContentsAreShort }
 {}

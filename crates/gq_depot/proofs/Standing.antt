@@ -1,8 +1,8 @@
 -- A depot of which one session has changed.
 use Rattle.std.proofs.Common.{◌≡◌, ◌≢◌, ◌<◌, ◌+◌, ◌-◌, length-append, get_or, set, get_or-set_same, length-set, ℕ, zero, suc, Bool, true, false, List, [], ◌∷◌, length, Option, Some, None, refl, sym, ap, subst, ◌∙◌, arith}
-use Rattle.std.specs.Prelude.{◌≤◌, ◌++◌, slice_get, option_map, ◌==◌, IsSome, IfOk, MatchOption, Result, Ok, Err, if◌then◌else◌}
-use Rattle.std.proofs.lemmas.Bool.{ne_eqb, eqb-true, eq-eqb, true≢false}
-use Rattle.std.proofs.lemmas.Option.{same_Some, slice_get-get_or}
+use Rattle.std.specs.Prelude.{All, ◌≤◌, ◌&&◌, nat_le, ◌++◌, slice_get, option_map, ◌==◌, IsSome, IfOk, MatchOption, Result, Ok, Err, if◌then◌else◌}
+use Rattle.std.proofs.lemmas.Bool.{and_from, le-leb, ne_eqb, eqb-true, eq-eqb, true≢false}
+use Rattle.std.proofs.lemmas.Option.{same_Some, slice_get-get_or, slice_get_within, get_or_from_slice_get}
 use Rattle.gq_shelf.specs.Notes.{Noted}
 use Rattle.gq_shelf.specs.Places.{content_at, long_at}
 use Rattle.gq_shelf.specs.declared.extent.Extent.{Extent}
@@ -13,8 +13,8 @@ use Rattle.gq_stock.proofs.Sessions.{others_stay}
 use Rattle.gq_stock.specs.Forgetting.{is_in_any, ForgotAs}
 use Rattle.gq_stock.specs.Held.{Held, held_by, contents}
 use Rattle.gq_stock.specs.Keeping.{ChangesOnly, KeptAs}
-use Rattle.gq_stock.specs.Stocks.{ChangesIn, StaysIn, KeptIn, SureIn}
-use Rattle.gq_stock.specs.Sure.{PlaceIsSure, IsSureOf}
+use Rattle.gq_stock.specs.Stocks.{ChangesIn, StaysIn, KeptIn, SureIn, LongIn, IsEmpty}
+use Rattle.gq_stock.specs.Sure.{PlaceIsSure, IsSureOf, IsLongOf}
 use Rattle.gq_stock.proofs.Deeds.{new_there, same≢new, differs≢new, damaged≢new, below≢new, full≢new}
 use Rattle.gq_stock.specs.declared.chunk.Chunk.{Chunk}
 use Rattle.gq_stock.specs.declared.keeping.Keeping.{Keeping}
@@ -29,7 +29,8 @@ use Rattle.gq_depot.specs.declared.answer.Answered.{Answered}
 use Rattle.gq_depot.specs.declared.answer.ChunkAnswer.{ChunkAnswer}
 use Rattle.gq_depot.specs.declared.answer.ChunkAnswer.TheVariants.{NoSession, Kept}
 use Rattle.gq_depot.specs.declared.answer.ListedChunk.{ListedChunk}
-use Rattle.gq_depot.specs.Depots.{Placed, place_in, placed_of, placed, book_in, standing_of, forgotten, after_fact, IsSame, LeadsTo, FactIsSure}
+use Rattle.gq_depot.specs.Depots.{Placed, place_in, placed_of, placed, book_in, standing_of, forgotten, after_fact, IsSame, LeadsTo, FactIsSure, bare, reads_fact, ReadsFact}
+use Rattle.gq_depot.specs.declared.limits.TheConstants.{MOST_CHUNK}
 use Rattle.gq_depot.specs.declared.depot.Depot.{Depot}
 use Rattle.gq_depot.specs.declared.fact.ChunkFact.{ChunkFact}
 use Rattle.gq_depot.specs.declared.fact.ChunkFact.TheVariants.{Put, Forgot, Filled}
@@ -199,6 +200,50 @@ sure_by news p s n told fact noted within sure gives =
     by Damaged f is at sure g = subst (λ (z : Option ChunkFact). FactIsSure z noted) (sym g) tt
     by Below f is at sure g = subst (λ (z : Option ChunkFact). FactIsSure z noted) (sym g) tt
     by Full f is at sure g = subst (λ (z : Option ChunkFact). FactIsSure z noted) (sym g) tt
+
+-- what is given of a new content is read by a start
+long_new : (o : Option Chunk) (place : Place) (sure : Bool) (long : ℕ) → option_map placed_of o ≡ Some (record { place = place; is_sure = sure }) → IsLongOf o long → long_at place ≡ long
+long_new None place sure long is it = absurd it
+long_new (Some chunk) place sure long is it = subst (λ (at : Place). long_at at ≡ long) (ap (λ (it : Placed). it.place) (same_Some (placed_of chunk) (record { place = place; is_sure = sure }) is)) it
+
+reads_put : (sessions p s long : ℕ) (n : ℕ) (sure : Bool) (place : Place) → s ≡ p + 1 → p < sessions → long ≤ MOST_CHUNK → long_at place ≡ long → reads_fact sessions (Put s n sure place) ≡ true
+reads_put sessions p s long n sure place number within few is =
+    and_from (nat_le 1 s && nat_le s sessions) (nat_le (long_at place) MOST_CHUNK)
+    (and_from (nat_le 1 s) (nat_le s sessions) (le-leb 1 s (omega (arith, number))) (le-leb s sessions (omega (arith, number, within))))
+    (le-leb (long_at place) MOST_CHUNK (omega (arith, is, few)))
+
+pub reads_by : (news : List Session) (p s n sessions : ℕ) {long : ℕ} (told : Keeping) (fact : Option ChunkFact) → s ≡ p + 1 → p < sessions → length news ≡ sessions → long ≤ MOST_CHUNK → (told ≡ New → LongIn news p n long) → In news p (λ session. GivesFor told (book_of session.chunks) s n fact) → ReadsFact sessions fact
+reads_by news p s n sessions {long} told fact number within same few is_long gives =
+    let is : (x : Session) × (slice_get news p ≡ Some x) = there news p (omega (arith, within, same)) in
+    by told fact is.0 is.1 is_long (gives is.0 is.1)
+  where
+    by : (t : Keeping) (f : Option ChunkFact) (is : Session) → slice_get news p ≡ Some is → (t ≡ New → LongIn news p n long) → GivesFor t (book_of is.chunks) s n f → ReadsFact sessions f
+    by New (Some (Put s' n' is_sure place)) is at its g =
+        subst (λ (z : ℕ). reads_fact sessions (Put z n' is_sure place) ≡ true) (sym g.0)
+        (reads_put sessions p s long n' is_sure place number within few (long_new ((book_of is.chunks).at n) place is_sure long g.2 (its refl is at)))
+    by New (Some (Forgot s' floor run)) is at its g = absurd g
+    by New (Some Filled) is at its g = absurd g
+    by New None is at its g = absurd g
+    by Same f is at its g = subst (λ (z : Option ChunkFact). ReadsFact sessions z) (sym g) tt
+    by Differs f is at its g = subst (λ (z : Option ChunkFact). ReadsFact sessions z) (sym g) tt
+    by Damaged f is at its g = subst (λ (z : Option ChunkFact). ReadsFact sessions z) (sym g) tt
+    by Below f is at its g = subst (λ (z : Option ChunkFact). ReadsFact sessions z) (sym g) tt
+    by Full f is at its g = subst (λ (z : Option ChunkFact). ReadsFact sessions z) (sym g) tt
+
+-- a depot that is new has nothing
+pub bare_new : (depot : Depot) (lacks : Bool) → All IsEmpty depot.stock.sessions.items → depot.lacks ≡ lacks → IsSame (standing_of depot) (bare lacks)
+bare_new depot lacks empty is = record { at = λ k n. at_by k n (slice_get depot.stock.sessions.items k) refl; floor = λ k. floor_by k (slice_get depot.stock.sessions.items k) refl; lacks = is }
+  where
+    its : (k : ℕ) (session : Session) → slice_get depot.stock.sessions.items k ≡ Some session → IsEmpty session
+    its k session e = subst IsEmpty (get_or_from_slice_get depot.stock.sessions.items k session session e) (empty k session (slice_get_within depot.stock.sessions.items k session e))
+
+    at_by : (k n : ℕ) (o : Option Session) → slice_get depot.stock.sessions.items k ≡ o → (book_in o).at n ≡ None
+    at_by k n None e = refl
+    at_by k n (Some session) e = ap (option_map placed_of) ((its k session e).at n)
+
+    floor_by : (k : ℕ) (o : Option Session) → slice_get depot.stock.sessions.items k ≡ o → (book_in o).floor ≡ 0
+    floor_by k None e = refl
+    floor_by k (Some session) e = (its k session e).floor
 
 -- what is not of the stock and of what is lacked plays no part
 pub leads_on : (old mid new : Depot) (fact : Option ChunkFact) → LeadsTo old fact mid → new.stock ≡ mid.stock → new.lacks ≡ mid.lacks → LeadsTo old fact new

@@ -27,7 +27,7 @@ takes_own noted losses olds t d new request answered lt is step old now was afte
 
 -- ---- any requests
 
-within : {X : Type 0} (xs : List X) (t : ℕ) (x : X) → slice_get xs t ≡ Some x → t < length xs
+pub within : {X : Type 0} (xs : List X) (t : ℕ) (x : X) → slice_get xs t ≡ Some x → t < length xs
 within {X} [] t x is = absurd (none x is)
   where
     none : (x : X) → None ≡ Some x → ⊥
@@ -67,7 +67,7 @@ floors_same : (b : Bool) (f : Book Placed → Book Placed) (x y : Book Placed) �
 floors_same true f x y changed same = changed
 floors_same false f x y changed same = same
 
-after_same : (fact : Option ChunkFact) (a b : Standing) → IsSame a b → IsSame (after_fact fact a) (after_fact fact b)
+pub after_same : (fact : Option ChunkFact) (a b : Standing) → IsSame a b → IsSame (after_fact fact a) (after_fact fact b)
 after_same None a b same = same
 after_same (Some (Put s n sure place)) a b same =
     let f : Book Placed → Book Placed = λ x. with_at x n (Some (record { place = place; is_sure = sure })) in record {
@@ -83,7 +83,7 @@ after_same (Some (Forgot s floor run)) a b same =
     }
 after_same (Some Filled) a b same = record { at = same.at; floor = same.floor; lacks = refl }
 
-same_on : (a b c : Standing) → IsSame a b → IsSame b c → IsSame a c
+pub same_on : (a b c : Standing) → IsSame a b → IsSame b c → IsSame a c
 same_on a b c one two = record { at = λ k n. one.at k n ∙ two.at k n; floor = λ k. one.floor k ∙ two.floor k; lacks = one.lacks ∙ two.lacks }
 
 pub facts_remake : FactsRemake

@@ -68,6 +68,10 @@ pub record LeadsTo (old : Depot) (fact : Option ChunkFact) (new : Depot) : Type 
   pub sessions : length new.stock.sessions.items ≡ length old.stock.sessions.items
   pub allowed : new.stock.allowed ≡ old.stock.allowed
 
+-- nothing was ever there
+abbrev pub bare : (lacks : Bool) → Standing
+bare lacks = record { books = λ k. record { at = λ n. None; floor = 0 }; lacks = lacks }
+
 -- ---- facts that are read
 
 -- the session is there, and the content is not too long; no number above the floor is forgotten
@@ -75,6 +79,11 @@ abbrev pub reads_fact : (sessions : ℕ) → ChunkFact → Bool
 reads_fact sessions (Put s n is_sure place) = nat_le 1 s && nat_le s sessions && nat_le (long_at place) MOST_CHUNK
 reads_fact sessions (Forgot s floor run) = nat_le 1 s && nat_le s sessions && nat_le run.last floor
 reads_fact sessions Filled = true
+
+-- so it is of the fact, if there is one
+abbrev pub ReadsFact : (sessions : ℕ) → Option ChunkFact → Type 0
+ReadsFact sessions None = ⊤
+ReadsFact sessions (Some fact) = reads_fact sessions fact ≡ true
 
 -- the fact says which chunk is under the number
 abbrev pub StandsIn : Book Chunk → (s n : ℕ) → ChunkFact → Type 0

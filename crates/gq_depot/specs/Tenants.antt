@@ -1,12 +1,13 @@
 -- What a request of a tenant does.
-use Rattle.std.specs.Prelude.{◌≡◌, ◌≢◌, ℕ, List, Some, slice_get}
+use Rattle.std.specs.Prelude.{◌≡◌, ◌≢◌, ℕ, Bool, List, Option, Some, length, slice_get}
 use Rattle.gq_shelf.specs.Notes.{Noted, IsClean}
 use Rattle.gq_shelf.specs.declared.extent.Extent.{Extent}
 use Rattle.gq_depot.specs.Answers.{Tells, Gives, DamageIs}
-use Rattle.gq_depot.specs.Depots.{LeadsTo, FactIsSure}
+use Rattle.gq_depot.specs.Depots.{LeadsTo, FactIsSure, ReadsFact, reads_fact}
 use Rattle.gq_depot.specs.declared.answer.Answered.{Answered}
 use Rattle.gq_depot.specs.declared.answer.ChunkAnswer.{ChunkAnswer}
 use Rattle.gq_depot.specs.declared.depot.Depot.{Depot}
+use Rattle.gq_depot.specs.declared.fact.ChunkFact.{ChunkFact}
 use Rattle.gq_depot.specs.declared.request.ChunkRequest.{ChunkRequest}
 
 -- The tenant, of whom the server had the one depot and has the other, asked this, and this came of it, where this is noted of the shelf then. No other tenant plays
@@ -16,10 +17,19 @@ pub record Step (noted : Noted) (losses : ℕ) (old : Depot) (request : ChunkReq
   pub gives : (written : Extent → List ℕ) → Gives (IsClean written noted) written old request answered.answer answered.fact
   pub leads : LeadsTo old answered.fact new
   pub sure : FactIsSure answered.fact noted
+  pub reads : ReadsFact (length old.stock.sessions.items) answered.fact
 
 -- it is so of the tenant at this place
 abbrev pub TakesOwn : Noted → (losses : ℕ) → List Depot → (tenant : ℕ) → ChunkRequest → Answered → List Depot → Type 0
 TakesOwn noted losses olds tenant request answered news = (old new : Depot) → slice_get olds tenant ≡ Some old → slice_get news tenant ≡ Some new → Step noted losses old request answered new
+
+-- what this tenant has is what the fact, if there is one, makes of what it had
+abbrev pub LeadsOwn : List Depot → (tenant : ℕ) → Option ChunkFact → List Depot → Type 0
+LeadsOwn olds tenant fact news = (old new : Depot) → slice_get olds tenant ≡ Some old → slice_get news tenant ≡ Some new → LeadsTo old fact new
+
+-- whether its depot reads the fact
+abbrev pub ReadsOwn : List Depot → (tenant : ℕ) → ChunkFact → Bool → Type 0
+ReadsOwn depots tenant fact reads = (depot : Depot) → slice_get depots tenant ≡ Some depot → reads ≡ reads_fact (length depot.stock.sessions.items) fact
 
 -- all others have what they had
 abbrev pub ApartFrom : (tenant : ℕ) → List Depot → List Depot → Type 0

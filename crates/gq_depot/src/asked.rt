@@ -53,11 +53,11 @@ impl Depot {
     ghost use Rattle.gq_stock.specs.Finding.{FoundAs};
     ghost use Rattle.gq_stock.specs.Held.{held_by};
     ghost use Rattle.gq_stock.specs.Stocks.{DamagedIn};
-    ghost use Rattle.gq_depot.specs.Depots.{LeadsTo, StandsIn, FactIsSure};
+    ghost use Rattle.gq_depot.specs.Depots.{LeadsTo, StandsIn, FactIsSure, ReadsFact};
     ghost use Rattle.gq_depot.specs.Answers.{In, is_told, KeptAt, KeepTells, KeepGives, FoundAt, GetTells, GivesFor, told_if, ForgotAt, ForgetTells, ForgetGives, ListedAt, ListTells, RoomTells, Tells, Gives, DamageIs};
 
-    // The fact of a chunk that is there.
-    fn fact_at(&self, place: usize, session: u32, number: u64) -> Result<ChunkFact, OutOfMemory>
+    /// The fact of the chunk of this number, in the session at this place, which a start needs. Where memory is wanting nothing is made.
+    pub fn fact_at(&self, place: usize, session: u32, number: u64) -> Result<ChunkFact, OutOfMemory>
         requires there { place < length self.now.stock.sessions.items }
         requires chunk { In self.now.stock.sessions.items place (λ session. IsSome ((book_of session.chunks).at number)) }
         ensures { IfOk result (λ fact. In self.now.stock.sessions.items place (λ s. StandsIn (book_of s.chunks) session number fact)) }
@@ -119,6 +119,7 @@ impl Depot {
         ensures gives { (written : Extent → List ℕ) → IfOk result (λ a. IsClean written (S.noted shelf.new) → KeepGives written session number (not self.old.lacks) bytes a.answer a.fact) }
         ensures leads { IfOk result (λ a. LeadsTo self.old a.fact self.new) }
         ensures sure { IfOk result (λ a. FactIsSure a.fact (S.noted shelf.new)) }
+        ensures reads { IfOk result (λ a. ReadsFact (length self.old.stock.sessions.items) a.fact) }
         ensures damaged { IfOk result (λ a. DamageIs self.old (S.noted shelf.old) (S.noted shelf.new) a.answer) }
         ensures refused { IfErr result (λ fault. IsRefused fault (S.noted shelf.old) (S.noted shelf.new)) }
         ensures goes_on { GoesOn (S.noted shelf.old) (S.noted shelf.new) }
@@ -154,6 +155,7 @@ impl Depot {
         ensures gives { (written : Extent → List ℕ) → IfOk result (λ a. IsClean written (S.noted shelf.new) → KeepGives written session number (not self.old.lacks) bytes a.answer a.fact) }
         ensures leads { IfOk result (λ a. LeadsTo self.old a.fact self.new) }
         ensures sure { IfOk result (λ a. FactIsSure a.fact (S.noted shelf.new)) }
+        ensures reads { IfOk result (λ a. ReadsFact (length self.old.stock.sessions.items) a.fact) }
         ensures damaged { IfOk result (λ a. DamageIs self.old (S.noted shelf.old) (S.noted shelf.new) a.answer) }
         ensures refused { IfErr result (λ fault. IsRefused fault (S.noted shelf.old) (S.noted shelf.new)) }
         ensures goes_on { GoesOn (S.noted shelf.old) (S.noted shelf.new) }
@@ -308,6 +310,7 @@ impl Depot {
         ensures tells { ForgetTells self.old session floor run self.new result.answer }
         ensures gives { ForgetGives self.old session floor run result.fact }
         ensures leads { LeadsTo self.old result.fact self.new }
+        ensures reads { ReadsFact (length self.old.stock.sessions.items) result.fact }
     {
         if run.last > floor {
             return only(ChunkAnswer::Bad);
@@ -389,6 +392,7 @@ impl Depot {
         ensures gives { (written : Extent → List ℕ) → IfOk result (λ a. Gives (IsClean written (S.noted shelf.new)) written self.old request a.answer a.fact) }
         ensures leads { IfOk result (λ a. LeadsTo self.old a.fact self.new) }
         ensures sure { IfOk result (λ a. FactIsSure a.fact (S.noted shelf.new)) }
+        ensures reads { IfOk result (λ a. ReadsFact (length self.old.stock.sessions.items) a.fact) }
         ensures damaged { IfOk result (λ a. DamageIs self.old (S.noted shelf.old) (S.noted shelf.new) a.answer) }
         ensures refused { IfErr result (λ fault. IsRefused fault (S.noted shelf.old) (S.noted shelf.new)) }
         ensures goes_on { GoesOn (S.noted shelf.old) (S.noted shelf.new) }

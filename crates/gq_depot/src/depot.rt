@@ -67,7 +67,7 @@ pub(crate) fn run_bytes(session: &Session, run: Run) -> u64 {
 
 impl Depot {
     ghost use Rattle.gq_stock.specs.Stocks.{used_in};
-    ghost use Rattle.gq_depot.specs.Depots.{place_in};
+    ghost use Rattle.gq_depot.specs.Depots.{place_in, standing_of, bare, IsSame};
 
     /// So many sessions, which have nothing.
     pub fn new(
@@ -80,6 +80,7 @@ impl Depot {
         ensures used { IfOk result (λ depot. used_in depot.stock.sessions.items ≡ 0) }
         ensures allowed { IfOk result (λ depot. depot.stock.allowed ≡ allowed) }
         ensures lacks { IfOk result (λ depot. depot.lacks ≡ lacks) }
+        ensures nothing { IfOk result (λ depot. IsSame (standing_of depot) (bare lacks)) }
     {
         Ok(Depot {
             stock: Stock::new(alloc, sessions, allowed)?,

@@ -1,10 +1,11 @@
 //! The chunks of all tenants at a server.
 
-ghost use Rattle.std.specs.Prelude.{◌≡◌, ◌<◌, length, IfOk, IfErr};
+ghost use Rattle.std.specs.Prelude.{◌≡◌, ◌<◌, true, Some, length, IfOk, IfErr};
 ghost use Rattle.gq_shelf.specs.Notes.{GoesOn};
 ghost use Rattle.gq_stock.specs.Finding.{IsRefused};
 
-use crate::{Answered, ChunkRequest, Depot};
+use crate::{Answered, ChunkFact, ChunkRequest, Depot};
+use gq_memory::OutOfMemory;
 use gq_shelf::{Shelf, ShelfFault};
 use std::alloc::Global;
 
@@ -20,7 +21,7 @@ pub struct Depots<S: Shelf + Drop> {
 }
 
 impl<S: Shelf + Drop> Depots<S> {
-    ghost use Rattle.gq_depot.specs.Tenants.{ApartFrom, TakesOwn, DamageOf};
+    ghost use Rattle.gq_depot.specs.Tenants.{ApartFrom, TakesOwn, LeadsOwn, ReadsOwn, DamageOf};
 
     /// What comes of the tenant's request. What is told of it and kept of it hangs on this tenant's chunks alone, and no other tenant's change. It is refused
     /// where memory is wanting, or the shelf refuses a read or a put; all is given up then.
@@ -42,5 +43,23 @@ impl<S: Shelf + Drop> Depots<S> {
         let depot = &mut self.depots[tenant];
         let answered = depot.answer(alloc, &mut self.shelf, self.losses, request)?;
         Ok(answered)
+    }
+
+    /// The tenant's depot reads a fact of an earlier run. False: it reads none such; nothing changes then. Where memory is wanting all is given up.
+    pub fn recall(
+        &mut self,
+        alloc: Global,
+        tenant: usize,
+        fact: ChunkFact,
+    ) -> Result<bool, OutOfMemory>
+        requires { tenant < length self.old.depots.items }
+        ensures read { IfOk result (λ is_read. ReadsOwn self.old.depots.items tenant fact is_read) }
+        ensures own { IfOk result (λ is_read. is_read ≡ true → LeadsOwn self.old.depots.items tenant (Some fact) self.new.depots.items) }
+        ensures apart { ApartFrom tenant self.old.depots.items self.new.depots.items }
+        ensures tenants { length self.new.depots.items ≡ length self.old.depots.items }
+        ensures losses { self.new.losses ≡ self.old.losses }
+        ensures shelf { self.new.shelf ≡ self.old.shelf }
+    {
+        self.depots[tenant].recall(alloc, fact)
     }
 }

@@ -1,10 +1,12 @@
-//! Tests of what a node keeps and starts with, by public calls: its journal's bytes, facts, setups, and the loop with a machine of one
-//! register. They try what no contract says, as that a call finds memory where there is memory, and that the clauses of the traits
+//! Tests of what a node keeps and starts with, by public calls: its journal's bytes, facts, setups, a machine of chunks, and the loop with
+//! a machine of one register. They try what no contract says, as that a call finds memory where there is memory, and that the clauses of the traits
 //! can be met. Tests stand apart, since a crate with tests is proved a second time with them.
 #![tactic(auto)]
 
 #[cfg(test)]
 mod chunks;
+#[cfg(test)]
+mod depots;
 #[cfg(test)]
 mod facts;
 #[cfg(test)]

@@ -40,7 +40,7 @@ after_refusal noted = record { all = noted.all; put = noted.put; sure = noted.su
 -- a read that is told damage found it there; all else was refused to it
 abbrev pub after_failure : ShelfFault → Extent → Noted → Noted
 after_failure (Damaged segment) extent noted = after_damage extent noted
-after_failure Memory extent noted = after_refusal noted
+after_failure (Memory refused) extent noted = after_refusal noted
 after_failure Read extent noted = after_refusal noted
 after_failure Write extent noted = after_refusal noted
 

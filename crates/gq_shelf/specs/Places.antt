@@ -1,5 +1,5 @@
 -- What a content is, whether it is in memory or lies on the shelf.
-use Rattle.std.specs.Prelude.{◌≡◌, ℕ, ◌≤◌, List, length, Option, Some, None}
+use Rattle.std.specs.Prelude.{◌≡◌, ℕ, ◌≤◌, List, length, Option, Some, None, ⊤}
 use Rattle.gq_shelf.specs.Extents.{begins}
 use Rattle.gq_shelf.specs.Notes.{Noted, after_put, after_read, after_failure}
 use Rattle.gq_shelf.specs.declared.extent.Extent.{Extent}
@@ -28,9 +28,14 @@ abbrev pub ReadAt : Place → List ℕ → Noted → Noted → Type 0
 ReadAt (Fresh bytes) found old new = new ≡ old
 ReadAt (Shelved extent) found old new = new ≡ after_read extent found old
 
+-- memory was wanting
+abbrev pub IsMemory : ShelfFault → Type 0
+IsMemory (Memory refused) = ⊤
+IsMemory _ = ⊥
+
 -- what a read that failed says of the notes: one of a content in memory wanted memory, one of another failed there
 abbrev pub ReadFailed : Place → ShelfFault → Noted → Noted → Type 0
-ReadFailed (Fresh bytes) fault old new = (fault ≡ Memory) × (new ≡ old)
+ReadFailed (Fresh bytes) fault old new = IsMemory fault × (new ≡ old)
 ReadFailed (Shelved extent) fault old new = new ≡ after_failure fault extent old
 
 -- where it lies

@@ -1,13 +1,12 @@
 //! Why a shelf gives no content, or takes none.
 
 use gq_memory::OutOfMemory;
-use std::alloc::AllocError;
 
 /// Why a shelf gives no content, or takes none.
 #[derive(Debug, Drop)]
 pub enum ShelfFault {
     /// Memory was wanting.
-    Memory,
+    Memory(OutOfMemory),
     /// A segment could not be read.
     Read,
     /// A segment could not be written, synced, begun or removed, or an earlier one could not.
@@ -20,20 +19,9 @@ impl From<OutOfMemory> for ShelfFault {
     ghost use Rattle.std.specs.Prelude.{◌≡◌};
     ghost use Rattle.gq_shelf.specs.declared.fault.ShelfFault.TheVariants.{Memory};
 
-    ghost from_gives = { λ refused fault. fault ≡ Memory };
+    ghost from_gives = { λ refused fault. fault ≡ Memory refused };
 
-    fn from(_: OutOfMemory) -> ShelfFault {
-        ShelfFault::Memory
-    }
-}
-
-impl From<AllocError> for ShelfFault {
-    ghost use Rattle.std.specs.Prelude.{◌≡◌};
-    ghost use Rattle.gq_shelf.specs.declared.fault.ShelfFault.TheVariants.{Memory};
-
-    ghost from_gives = { λ refused fault. fault ≡ Memory };
-
-    fn from(_: AllocError) -> ShelfFault {
-        ShelfFault::Memory
+    fn from(refused: OutOfMemory) -> ShelfFault {
+        ShelfFault::Memory(refused)
     }
 }

@@ -7,14 +7,14 @@ ghost use Rattle.gq_shelf.specs.Notes.{none_noted, after_put, after_refusal, aft
 use crate::notes::Notes;
 use crate::{Extent, Shelf, ShelfFault};
 use bytes::Bytes;
-use gq_memory::{bytes_of, filled};
+use gq_memory::{GrowCopies, GrowVec, OutOfMemory, bytes_of, filled};
 use gq_sum::sum_of;
-use std::alloc::{AllocError, Global};
+use std::alloc::Global;
 use std::fs::{DirBuilder, File, OpenFile, OpenOptions};
 use std::io::{Read, Write};
 use std::os::unix::fs::{DirBuilderExt, FileExt, OpenOptionsExt};
 use std::rt::Files;
-use std::{fs, io};
+use std::{fs, io, str};
 
 // A segment of so many bytes or more does not grow.
 const SEGMENT_BYTES: u64 = 268_435_456;
@@ -92,30 +92,23 @@ const UNITS: [u32; 10] = [
     1,
 ];
 
-// The last digit of a number.
-fn digit_of(number: u32) -> char {
-    match number % 10 {
-        0 => '0',
-        1 => '1',
-        2 => '2',
-        3 => '3',
-        4 => '4',
-        5 => '5',
-        6 => '6',
-        7 => '7',
-        8 => '8',
-        _ => '9',
-    }
-}
-
 // The path of the segment of this number.
-fn path_of(alloc: Global, folder: &str, number: u32) -> Result<String, AllocError> {
-    let mut path = String::from_str(alloc, folder)?;
-    path.push('/')?;
+fn path_of(alloc: Global, folder: &str, number: u32) -> Result<Vec<u8>, OutOfMemory> {
+    let mut path = Vec::new(alloc);
+    path.grow_by(folder.as_bytes())?;
+    path.grow(b'/')?;
     for unit in UNITS {
-        path.push(digit_of(number / unit))?;
+        path.grow(b'0' + (number / unit % 10) as u8)?;
     }
     Ok(path)
+}
+
+// The path, which is a text: the folder's is one, and a segment's name has digits.
+fn text_of(path: &[u8]) -> Result<&str, ShelfFault> {
+    match str::from_utf8(path) {
+        Ok(text) => Ok(text),
+        Err(_) => Err(ShelfFault::Write),
+    }
 }
 
 // Makes sure of the names in the folder.
@@ -155,11 +148,19 @@ fn greatest_in<R: Files>(alloc: Global, rt: &R, folder: &str) -> io::Result<u32>
     Ok(greatest)
 }
 
+// The system wanted memory. That is told as any want of memory: by a growth that is refused.
+fn no_memory(alloc: Global) -> ShelfFault {
+    match filled(alloc, 0u8, usize::MAX) {
+        Ok(_bytes) => ShelfFault::Read,
+        Err(refused) => ShelfFault::Memory(refused),
+    }
+}
+
 // Why the segment could not be read.
-fn why_unread(error: &io::Error, segment: u32) -> ShelfFault {
+fn why_unread(alloc: Global, error: &io::Error, segment: u32) -> ShelfFault {
     match error.kind() {
         io::ErrorKind::NotFound | io::ErrorKind::UnexpectedEof => ShelfFault::Damaged(segment),
-        io::ErrorKind::OutOfMemory => ShelfFault::Memory,
+        io::ErrorKind::OutOfMemory => no_memory(alloc),
         _ => ShelfFault::Read,
     }
 }
@@ -232,17 +233,26 @@ impl<R: Files<File = File> + Drop> FileShelf<R> {
         sync_folder(&self.rt, self.place.above.as_str())
     }
 
-    // A new segment of this number. A crash leaves its name, so no start uses the number again.
-    fn made(&self, number: u32) -> io::Result<File> {
+    // A new segment at this path. A crash leaves its name, so no start uses the number again.
+    fn made(&self, path: &str) -> io::Result<File> {
         self.make_folder()?;
-        let path = path_of(self.alloc, self.place.folder.as_str(), number)?;
         let mut how = OpenOptions::new();
         how.append(true);
         how.create_new(true);
         how.mode(0o600);
-        let file = how.open(&self.rt, path.as_str())?;
+        let file = how.open(&self.rt, path)?;
         sync_folder(&self.rt, self.place.folder.as_str())?;
         Ok(file)
+    }
+
+    // A new segment of this number.
+    fn new_segment(&self, number: u32) -> Result<File, ShelfFault> {
+        let path = path_of(self.alloc, self.place.folder.as_str(), number)?;
+        match self.made(text_of(path.as_slice())?) {
+            Ok(file) => Ok(file),
+            Err(error) if error.kind() == io::ErrorKind::OutOfMemory => Err(no_memory(self.alloc)),
+            Err(_) => Err(ShelfFault::Write),
+        }
     }
 
     // Begins the segment behind the one of the greatest number, once it was made sure of that.
@@ -258,9 +268,7 @@ impl<R: Files<File = File> + Drop> FileShelf<R> {
         let Some(number) = self.segment.checked_add(1) else {
             return Err(ShelfFault::Write);
         };
-        let Ok(file) = self.made(number) else {
-            return Err(ShelfFault::Write);
-        };
+        let file = self.new_segment(number)?;
         self.segment = number;
         self.at = 0;
         self.growing = Some(file);
@@ -367,14 +375,14 @@ impl<R: Files<File = File> + Drop> FileShelf<R> {
         ensures { IfOk result (λ bytes. length bytes.items ≡ extent.now.len) }
     {
         let path = path_of(self.alloc, self.place.folder.as_str(), extent.segment)?;
-        let file = match fs::open(&self.rt, path.as_str()) {
+        let file = match fs::open(&self.rt, text_of(path.as_slice())?) {
             Ok(file) => file,
-            Err(error) => return Err(why_unread(&error, extent.segment)),
+            Err(error) => return Err(why_unread(self.alloc, &error, extent.segment)),
         };
         let mut bytes = filled(self.alloc, 0, extent.len as usize)?;
         match file.read_exact_at(bytes.as_mut_slice(), extent.at) {
             Ok(()) => Ok(bytes),
-            Err(error) => Err(why_unread(&error, extent.segment)),
+            Err(error) => Err(why_unread(self.alloc, &error, extent.segment)),
         }
     }
 
@@ -392,7 +400,7 @@ impl<R: Files<File = File> + Drop> FileShelf<R> {
     // Removes the segment, and says whether it was there.
     fn remove_file(&self, segment: u32) -> Result<bool, ShelfFault> {
         let path = path_of(self.alloc, self.place.folder.as_str(), segment)?;
-        match fs::remove_file(&self.rt, path.as_str()) {
+        match fs::remove_file(&self.rt, text_of(path.as_slice())?) {
             Ok(()) => Ok(true),
             Err(error) if error.kind() == io::ErrorKind::NotFound => Ok(false),
             Err(_) => Err(ShelfFault::Write),

@@ -72,10 +72,10 @@ impl Shelf for MemoryShelf {
             self.notes.is_refused();
             return Err(ShelfFault::Write);
         }
-        if self.bytes.grow_by(bytes).is_err() {
+        if let Err(refused) = self.bytes.grow_by(bytes) {
             self.is_broken = true;
             self.notes.is_refused();
-            return Err(ShelfFault::Memory);
+            return Err(ShelfFault::Memory(refused));
         }
         let extent = Extent {
             segment: 1,

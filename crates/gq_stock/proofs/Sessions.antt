@@ -14,8 +14,8 @@ use Rattle.gq_stock.specs.Keeping.{KeptAs, ChangesOnly}
 use Rattle.gq_stock.specs.declared.keeping.Keeping.{Keeping}
 use Rattle.gq_stock.specs.declared.keeping.Keeping.TheVariants.{New, Damaged}
 use Rattle.gq_shelf.specs.Notes.{Noted}
-use Rattle.gq_stock.specs.Sure.{IsSureOf}
-use Rattle.gq_stock.specs.Stocks.{used_in, KeptIn, ChangesIn, DamagedIn, SureIn, StaysIn}
+use Rattle.gq_stock.specs.Sure.{IsSureOf, IsLongOf}
+use Rattle.gq_stock.specs.Stocks.{used_in, KeptIn, ChangesIn, DamagedIn, SureIn, LongIn, StaysIn}
 
 -- one session more
 pub used_more : (sessions : List Session) (i : ℕ) (d : Session) (before after used : ℕ) → i < length sessions → before ≡ min (used_in (take i sessions)) (2 ^ 64 - 1) → used ≡ all_bytes (get_or sessions i d).chunks → after ≡ min (before + used) (2 ^ 64 - 1) → after ≡ min (used_in (take (i + 1) sessions)) (2 ^ 64 - 1)
@@ -74,6 +74,10 @@ err_stays (Err e) sessions i d new lt is same = stays_in sessions i d new lt is 
 pub sure_in : {E : Type 0} (r : Result Keeping E) (sessions : List Session) (i n : ℕ) (new : Session) (noted : Noted) → i < length sessions → IfOk r (λ told. told ≡ New → IsSureOf ((book_of new.chunks).at n) noted) → IfOk r (λ told. told ≡ New → SureIn (set sessions i new) i n noted)
 sure_in (Err e) sessions i n new noted lt sure = tt
 sure_in (Ok told) sessions i n new noted lt sure = λ is session there. subst (λ (s : Session). IsSureOf ((book_of s.chunks).at n) noted) (sym (put_there sessions i new session lt there)) (sure is)
+
+pub long_in : {E : Type 0} (r : Result Keeping E) (sessions : List Session) (i n : ℕ) (new : Session) (long : ℕ) → i < length sessions → IfOk r (λ told. told ≡ New → IsLongOf ((book_of new.chunks).at n) long) → IfOk r (λ told. told ≡ New → LongIn (set sessions i new) i n long)
+long_in (Err e) sessions i n new long lt is = tt
+long_in (Ok told) sessions i n new long lt is = λ same session there. subst (λ (s : Session). IsLongOf ((book_of s.chunks).at n) long) (sym (put_there sessions i new session lt there)) (is same)
 
 -- ---- what changes alone
 

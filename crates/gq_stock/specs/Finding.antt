@@ -28,7 +28,7 @@ FindsDamage (Some chunk) old new = FindsDamageAt (extent_in chunk.place) old new
 
 -- memory was wanting, or the shelf refused a call
 abbrev pub IsRefused : ShelfFault → Noted → Noted → Type 0
-IsRefused Faults.Memory old new = ⊤
+IsRefused (Faults.Memory refused) old new = ⊤
 IsRefused Faults.Read old new = old.refused < new.refused
 IsRefused Faults.Write old new = old.refused < new.refused
 IsRefused (Faults.Damaged segment) old new = old.refused < new.refused

@@ -1,12 +1,12 @@
 -- The chunks of a tenant's sessions.
-use Rattle.std.specs.Prelude.{◌≡◌, ℕ, Bool, List, Some, slice_get}
+use Rattle.std.specs.Prelude.{◌≡◌, ℕ, Bool, List, Some, None, slice_get}
 use Rattle.std.specs.List.{sum_by}
 use Rattle.gq_shelf.specs.declared.extent.Extent.{Extent}
 use Rattle.gq_ledger.specs.Ledgers.{book_of, all_bytes}
 use Rattle.gq_shelf.specs.Notes.{Noted}
 use Rattle.gq_stock.specs.Finding.{FindsDamage}
 use Rattle.gq_stock.specs.Held.{contents}
-use Rattle.gq_stock.specs.Sure.{IsSureOf}
+use Rattle.gq_stock.specs.Sure.{IsSureOf, IsLongOf}
 use Rattle.gq_stock.specs.Keeping.{KeptAs, ChangesOnly}
 use Rattle.gq_stock.specs.declared.session.Session.{Session}
 use Rattle.gq_stock.specs.declared.keeping.Keeping.{Keeping}
@@ -26,6 +26,15 @@ StaysIn olds place news = (old new : Session) → slice_get olds place ≡ Some 
 -- What it has under the number would outlast a loss of power.
 abbrev pub SureIn : List Session → (place n : ℕ) → Noted → Type 0
 SureIn sessions place n noted = (session : Session) → slice_get sessions place ≡ Some session → IsSureOf ((book_of session.chunks).at n) noted
+
+-- What it has under the number has so many bytes.
+abbrev pub LongIn : List Session → (place n long : ℕ) → Type 0
+LongIn sessions place n long = (session : Session) → slice_get sessions place ≡ Some session → IsLongOf ((book_of session.chunks).at n) long
+
+-- A session that has nothing, and its floor is at 0.
+pub record IsEmpty (session : Session) : Type 0 where
+  pub at : (n : ℕ) → (book_of session.chunks).at n ≡ None
+  pub floor : (book_of session.chunks).floor ≡ 0
 
 -- The session at this place has what it had, but for what is under the number.
 abbrev pub ChangesIn : List Session → (place n : ℕ) → List Session → Type 0

@@ -66,7 +66,7 @@ impl Session {
     ghost use Rattle.gq_ledger.specs.Steps.{Leads, Keeps};
     ghost use Rattle.gq_stock.specs.Held.{contents};
     ghost use Rattle.gq_stock.specs.Finding.{FindsDamage};
-    ghost use Rattle.gq_stock.specs.Sure.{IsSureOf};
+    ghost use Rattle.gq_stock.specs.Sure.{IsSureOf, IsLongOf};
     ghost use Rattle.gq_stock.specs.Keeping.{ComparesAs, KeptAs, ChangesOnly, taken_of};
 
     // Compares the bytes with those that are there.
@@ -106,12 +106,13 @@ impl Session {
         is_sure: bool,
         free: u64,
     ) -> Result<(), ShelfFault>
-        requires long { length bytes < 2 ^ 32 }
+        requires short { length bytes < 2 ^ 32 }
         requires room { all_bytes self.old.chunks + free < 2 ^ 64 }
         requires may { verdict_of (book_of self.old.chunks) number (length bytes) free ≡ Verdict.Kept }
         ensures leads { (written : Extent → List ℕ) → OnOk result (IsClean written (S.noted shelf.new) → Leads (contents written (book_of self.old.chunks)) (Keeps number (record { bytes = bytes; is_sure = is_sure })) (contents written (book_of self.new.chunks))) }
         ensures alone { OnOk result (ChangesOnly (book_of self.old.chunks) number (book_of self.new.chunks)) }
         ensures sure { OnOk result (IsSureOf ((book_of self.new.chunks).at number) (S.noted shelf.new)) }
+        ensures long { OnOk result (IsLongOf ((book_of self.new.chunks).at number) (length bytes)) }
         ensures used { OnOk result (all_bytes self.new.chunks ≡ all_bytes self.old.chunks + length bytes) }
         ensures refused { IfErr result (λ fault. IsRefused fault (S.noted shelf.old) (S.noted shelf.new)) }
         ensures unchanged { OnErr result (book_of self.new.chunks ≡ book_of self.old.chunks) }
@@ -134,7 +135,7 @@ impl Session {
         is_sure: bool,
         free: u64,
     ) -> Result<Keeping, ShelfFault>
-        requires long { length bytes < 2 ^ 32 }
+        requires short { length bytes < 2 ^ 32 }
         requires room { all_bytes self.old.chunks + free < 2 ^ 64 }
         ensures kept { (written : Extent → List ℕ) → IfOk result (λ told. IsClean written (S.noted shelf.new) → KeptAs (contents written (book_of self.old.chunks)) number bytes is_sure free told (contents written (book_of self.new.chunks))) }
         ensures alone { IfOk result (λ told. told ≡ Keeping.New → ChangesOnly (book_of self.old.chunks) number (book_of self.new.chunks)) }
@@ -142,6 +143,7 @@ impl Session {
         ensures damaged { IfOk result (λ told. told ≡ Keeping.Damaged → FindsDamage ((book_of self.old.chunks).at number) (S.noted shelf.old) (S.noted shelf.new)) }
         ensures used { IfOk result (λ told. all_bytes self.new.chunks ≡ all_bytes self.old.chunks + taken_of (length bytes) told) }
         ensures sure { IfOk result (λ told. told ≡ Keeping.New → IsSureOf ((book_of self.new.chunks).at number) (S.noted shelf.new)) }
+        ensures long { IfOk result (λ told. told ≡ Keeping.New → IsLongOf ((book_of self.new.chunks).at number) (length bytes)) }
         ensures within { IfOk result (λ told. taken_of (length bytes) told ≤ free) }
         ensures refused { IfErr result (λ fault. IsRefused fault (S.noted shelf.old) (S.noted shelf.new)) }
         ensures unchanged { OnErr result (book_of self.new.chunks ≡ book_of self.old.chunks) }

@@ -1,6 +1,6 @@
 //! The chunks of one tenant at a server.
 
-ghost use Rattle.std.specs.Prelude.{◌≡◌, ◌≢◌, List, ◌+◌, ◌-◌, ◌<◌, ◌≤◌, ◌^◌, ℕ, Some, length, max, min, IfOk, IfErr, OnErr, slice_get};
+ghost use Rattle.std.specs.Prelude.{◌≡◌, ◌≢◌, All, List, ◌+◌, ◌-◌, ◌<◌, ◌≤◌, ◌^◌, ℕ, Some, length, max, min, IfOk, IfErr, OnErr, slice_get};
 ghost use Rattle.gq_shelf.specs.Notes.{IsClean, GoesOn};
 ghost use Rattle.gq_shelf.specs.declared.extent.Extent.{Extent};
 
@@ -22,12 +22,13 @@ pub struct Stock {
 impl Stock {
     ghost use Rattle.gq_stock.specs.Finding.{IsRefused};
     ghost use Rattle.gq_stock.specs.Keeping.{taken_of};
-    ghost use Rattle.gq_stock.specs.Stocks.{used_in, KeptIn, ChangesIn, DamagedIn, SureIn, StaysIn};
+    ghost use Rattle.gq_stock.specs.Stocks.{used_in, KeptIn, ChangesIn, DamagedIn, SureIn, LongIn, StaysIn, IsEmpty};
 
     /// So many sessions, which have nothing.
     pub fn new(alloc: Global, sessions: u32, allowed: u64) -> Result<Stock, OutOfMemory>
         ensures sessions { IfOk result (λ stock. length stock.sessions.items ≡ sessions) }
         ensures used { IfOk result (λ stock. used_in stock.sessions.items ≡ 0) }
+        ensures empty { IfOk result (λ stock. All IsEmpty stock.sessions.items) }
         ensures allowed { IfOk result (λ stock. stock.allowed ≡ allowed) }
     {
         let mut all = Vec::new(alloc);
@@ -69,13 +70,14 @@ impl Stock {
         is_sure: bool,
     ) -> Result<Keeping, ShelfFault>
         requires there { place < length self.old.sessions.items }
-        requires long { length bytes < 2 ^ 32 }
+        requires short { length bytes < 2 ^ 32 }
         ensures kept { (written : Extent → List ℕ) → IfOk result (λ told. IsClean written (S.noted shelf.new) → KeptIn written self.old.sessions.items place number bytes is_sure (self.old.allowed - used_in self.old.sessions.items) told self.new.sessions.items) }
         ensures alone { IfOk result (λ told. told ≡ Keeping.New → ChangesIn self.old.sessions.items place number self.new.sessions.items) }
         ensures stays { IfOk result (λ told. told ≢ Keeping.New → StaysIn self.old.sessions.items place self.new.sessions.items) }
         ensures sessions { length self.new.sessions.items ≡ length self.old.sessions.items }
         ensures others { (other : ℕ) → other ≢ place → slice_get self.new.sessions.items other ≡ slice_get self.old.sessions.items other }
         ensures sure { IfOk result (λ told. told ≡ Keeping.New → SureIn self.new.sessions.items place number (S.noted shelf.new)) }
+        ensures long { IfOk result (λ told. told ≡ Keeping.New → LongIn self.new.sessions.items place number (length bytes)) }
         ensures damaged { IfOk result (λ told. told ≡ Keeping.Damaged → DamagedIn self.old.sessions.items place number (S.noted shelf.old) (S.noted shelf.new)) }
         ensures used { IfOk result (λ told. used_in self.new.sessions.items ≡ used_in self.old.sessions.items + taken_of (length bytes) told) }
         ensures refused { IfErr result (λ fault. IsRefused fault (S.noted shelf.old) (S.noted shelf.new)) }

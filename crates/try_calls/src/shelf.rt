@@ -25,7 +25,7 @@ fn put_extent(out: &mut Vec<u8>, extent: &Extent) -> Result<(), OutOfMemory> {
 
 fn put_fault(out: &mut Vec<u8>, fault: ShelfFault) -> Result<(), OutOfMemory> {
     match fault {
-        ShelfFault::Memory => out.grow_by(b"fault memory"),
+        ShelfFault::Memory(_) => out.grow_by(b"fault memory"),
         ShelfFault::Read => out.grow_by(b"fault read"),
         ShelfFault::Write => out.grow_by(b"fault write"),
         ShelfFault::Damaged(segment) => {

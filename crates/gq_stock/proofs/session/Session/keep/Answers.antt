@@ -18,3 +18,6 @@ returns-in-There-clause-sure g c = never_new c.compare.result _ c.compare.ensure
 
 pub returns-in-There-clause-alone : goal.returns-in-There-clause-alone
 returns-in-There-clause-alone g c = never_new c.compare.result _ c.compare.ensures.not_new
+
+pub returns-in-There-clause-long : goal.returns-in-There-clause-long
+returns-in-There-clause-long g c = never_new c.compare.result _ c.compare.ensures.not_new

@@ -2,7 +2,7 @@ use Rattle.std.proofs.Common.{◌≡◌, ◌≤◌, ap, arith, get_or}
 use Rattle.gq_ledger.specs.Ledgers.{all_bytes}
 use Rattle.gq_stock.specs.declared.session.Session.{Session}
 use Rattle.gq_stock.specs.Stocks.{used_in}
-use Rattle.gq_stock.proofs.Sessions.{used_within, kept_in, others_stay, err_stays, sure_in, changes_in, keeps_in, damaged_in}
+use Rattle.gq_stock.proofs.Sessions.{used_within, kept_in, others_stay, err_stays, sure_in, long_in, changes_in, keeps_in, damaged_in}
 use Rattle.gq_stock.proofs.stock.Stock.keep.Goals as goal
 
 pub keep-requires-clause-room : goal.keep-requires-clause-room
@@ -32,3 +32,6 @@ returns-clause-stays g c = keeps_in c.keep.result c.args.self.now.sessions.items
 
 pub returns-clause-damaged : goal.returns-clause-damaged
 returns-clause-damaged g c = damaged_in c.keep.result c.args.self.now.sessions.items c.args.place c.args.number c.index_mut-session.result.now _ _ c.requires.there c.index_mut-session.ensures.value c.keep.ensures.damaged
+
+pub returns-clause-long : goal.returns-clause-long
+returns-clause-long g c = long_in c.keep.result c.args.self.now.sessions.items c.args.place c.args.number c.keep.new.self _ c.requires.there c.keep.ensures.long

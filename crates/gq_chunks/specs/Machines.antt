@@ -1,0 +1,265 @@
+-- What a machine of chunks has, and what a line makes of it. Nothing here names the shelf: only what was noted of it.
+use Rattle.std.specs.Prelude.{◌≡◌, ◌<◌, ◌≤◌, ◌*◌, ◌%◌, ℕ, List, [], ◌∷◌, length, map, Bool, true, false, ◌&&◌, ◌==◌, nat_lt, Option, Some, None, slice_get, Ok, Err, ⊤, if◌then◌else◌}
+use Rattle.std.specs.List.{sum_by}
+use Rattle.std.specs.Option.{option_to_list}
+use Rattle.gq_shelf.specs.Notes.{Noted, GoesOn}
+use Rattle.gq_shelf.specs.Places.{long_at}
+use Rattle.gq_desk.specs.CheckedPlan.{CheckedPlan, row_at}
+use Rattle.gq_journal.specs.Batches.{Line, lines_text, is_batch_line}
+use Rattle.gq_keeper.specs.declared.fault.Fault.{Fault}
+use Rattle.gq_keeper.specs.declared.fault.Fault.TheVariants as Ends
+use Rattle.gq_shelf.specs.declared.fault.ShelfFault.{ShelfFault}
+use Rattle.gq_shelf.specs.declared.fault.ShelfFault.TheVariants as Shelf
+use Rattle.gq_replace.specs.Plans.{generation, place_of}
+use Rattle.gq_text.specs.Words.{Word, words_of, number_of}
+use Rattle.gq_text.specs.Input.{place_named}
+use Rattle.gq_wire.specs.Incoming.{is_to}
+use Rattle.gq_setup.specs.Setups.{Setup, SetupReading, kib_of}
+use Rattle.gq_setup.specs.Texts.{setup_of_node_text}
+use Rattle.gq_depot.specs.Depots.{Placed, Standing, standing_of, bare, IsSame, reads_fact}
+use Rattle.gq_depot.specs.Tenants.{TakesOwn, LeadsOwn, ApartFrom, DamageOf}
+use Rattle.gq_depot.specs.declared.limits.TheConstants.{MOST_CHUNK}
+use Rattle.gq_depot.specs.declared.answer.Answered.{Answered}
+use Rattle.gq_depot.specs.declared.answer.ChunkAnswer.TheVariants.{Bad}
+use Rattle.gq_depot.specs.declared.depot.Depot.{Depot}
+use Rattle.gq_depot.specs.declared.fact.ChunkFact.{ChunkFact}
+use Rattle.gq_depot.specs.declared.request.ChunkRequest.{ChunkRequest}
+use Rattle.gq_chunks.specs.Answers.{chunk_answer_text}
+use Rattle.gq_chunks.specs.Facts.{chunk_fact_line, chunk_fact_of_line}
+use Rattle.gq_chunks.specs.Requests.{chunk_request_by}
+
+-- The plan's tenants, the number of the node, how many nodes of its column were lost, what each tenant has, by its place in the plan, and what was noted of
+-- the shelf.
+pub record Chunks : Type 0 where
+  pub plan : CheckedPlan
+  pub node : ℕ
+  pub losses : ℕ
+  pub depots : List Depot
+  pub noted : Noted
+
+abbrev pub chunks : CheckedPlan → (node losses : ℕ) → List Depot → Noted → Chunks
+chunks plan node losses depots noted = record { plan = plan; node = node; losses = losses; depots = depots; noted = noted }
+
+-- it is the node of the same number and plan
+pub record IsSite (old new : Chunks) : Type 0 where
+  pub plan : new.plan ≡ old.plan
+  pub node : new.node ≡ old.node
+  pub losses : new.losses ≡ old.losses
+  pub tenants : length new.depots ≡ length old.depots
+
+-- ---- what a line asks
+
+-- which tenant asks, and what; none where its words have no form
+abbrev pub Asked : Type 0
+Asked = Option (ℕ × Option ChunkRequest)
+
+abbrev pub asked_by : (tenants : ℕ) → Option ℕ → List Word → Asked
+asked_by tenants None body = None
+asked_by tenants (Some t) body = if nat_lt t tenants then Some (t, chunk_request_by body) else None
+
+-- a line `TO FROM BODY` to the node, of one of the first tenants of the plan, so many; any other is passed over
+abbrev pub asked_of_words : CheckedPlan → (node tenants : ℕ) → List Word → Asked
+asked_of_words plan node tenants (to ∷ from ∷ body) = if is_to node (number_of to) then asked_by tenants (place_named plan from) body else None
+asked_of_words plan node tenants _ = None
+
+abbrev pub asked_of : CheckedPlan → (node tenants : ℕ) → List ℕ → Asked
+asked_of plan node tenants line = asked_of_words plan node tenants (words_of line)
+
+-- what it asks of the machine, which has a depot for each tenant
+abbrev pub asked_in : Chunks → List ℕ → Asked
+asked_in m line = asked_of m.plan m.node (length m.depots) line
+
+-- ---- a step
+
+-- the lines of a fact, if there is one
+abbrev pub fact_lines : CheckedPlan → (t : ℕ) → Option ChunkFact → List Line
+fact_lines plan t fact = map (chunk_fact_line plan t) (option_to_list fact)
+
+-- The line of the fact, if there is one, says it of this tenant, and may stand in a batch of a journal.
+abbrev pub FactStands : CheckedPlan → (t : ℕ) → Option ChunkFact → Type 0
+FactStands plan t None = ⊤
+FactStands plan t (Some fact) = (chunk_fact_of_line plan (chunk_fact_line plan t fact) ≡ Some (t, fact)) × (is_batch_line (chunk_fact_line plan t fact) ≡ true)
+
+-- whether the depot reads the fact
+abbrev pub depot_reads : Option Depot → ChunkFact → Bool
+depot_reads None fact = false
+depot_reads (Some depot) fact = reads_fact (length depot.stock.sessions.items) fact
+
+-- What came of the tenant's request. It hangs on this tenant's chunks alone, and all others stay.
+pub record Answers (old : Chunks) (t : ℕ) (request : ChunkRequest) (answered : Answered) (new : Chunks) : Type 0 where
+  pub own : TakesOwn new.noted old.losses old.depots t request answered new.depots
+  pub damaged : DamageOf old.depots t old.noted new.noted answered.answer
+  pub apart : ApartFrom t old.depots new.depots
+  pub goes_on : GoesOn old.noted new.noted
+  pub site : IsSite old new
+
+-- The tenant at this place asked this: the machine gave the fact and told the answer.
+pub record Took (old : Chunks) (t : ℕ) (request : ChunkRequest) (facts : List Line) (told : List ℕ) (new : Chunks) : Type 0 where
+  pub answered : Answered
+  pub answers : Answers old t request answered new
+  pub facts_are : facts ≡ fact_lines old.plan t answered.fact
+  pub told_is : told ≡ chunk_answer_text old.plan old.node t answered.answer
+  pub within : t < length old.depots
+  pub stands : FactStands old.plan t answered.fact
+
+-- What the machine did not change: it is as it was, gave no fact, and told this.
+pub record Stays (old : Chunks) (facts : List Line) (told : List ℕ) (text : List ℕ) (new : Chunks) : Type 0 where
+  pub same : new ≡ old
+  pub facts_are : facts ≡ []
+  pub told_is : told ≡ text
+
+-- A request is answered, one without form is told to be bad, and another line is passed over.
+abbrev pub StepsBy : Asked → Chunks → List Line → List ℕ → Chunks → Type 0
+StepsBy None old facts told new = Stays old facts told [] new
+StepsBy (Some (t, None)) old facts told new = Stays old facts told (chunk_answer_text old.plan old.node t Bad) new
+StepsBy (Some (t, Some request)) old facts told new = Took old t request facts told new
+
+abbrev pub ChunkSteps : Chunks → List ℕ → List (List ℕ) → List ℕ → Chunks → Type 0
+ChunkSteps old line facts told new = StepsBy (asked_in old line) old facts told new
+
+-- ---- a line of an earlier run
+
+abbrev pub reads_told : List Depot → Option (ℕ × ChunkFact) → Bool
+reads_told depots None = false
+reads_told depots (Some (t, fact)) = depot_reads (slice_get depots t) fact
+
+-- the line says a fact that its tenant's depot reads
+abbrev pub chunk_reads : Chunks → List ℕ → Bool
+chunk_reads m line = reads_told m.depots (chunk_fact_of_line m.plan line)
+
+-- The tenant's depot is what the fact makes of it. All others stay.
+pub record Recalled (old : Chunks) (t : ℕ) (fact : ChunkFact) (new : Chunks) : Type 0 where
+  pub leads : LeadsOwn old.depots t (Some fact) new.depots
+  pub apart : ApartFrom t old.depots new.depots
+  pub site : IsSite old new
+  pub noted : new.noted ≡ old.noted
+
+-- The line says a fact of a tenant, whose depot reads it.
+pub record ChunkRecalls (old : Chunks) (line : List ℕ) (new : Chunks) : Type 0 where
+  pub tenant : ℕ
+  pub fact : ChunkFact
+  pub says : chunk_fact_of_line old.plan line ≡ Some (tenant, fact)
+  pub reads : depot_reads (slice_get old.depots tenant) fact ≡ true
+  pub recalled : Recalled old tenant fact new
+
+-- ---- faults
+
+-- why the machine ends where the shelf refuses: want of memory is told as that, and nothing else is
+abbrev pub IsFaultOf : ShelfFault → Fault → Type 0
+IsFaultOf (Shelf.Memory refused) fault = fault ≡ Ends.Memory refused
+IsFaultOf Shelf.Read fault = fault ≡ Ends.JournalRead
+IsFaultOf Shelf.Write fault = fault ≡ Ends.JournalWrite
+IsFaultOf (Shelf.Damaged segment) fault = fault ≡ Ends.JournalRead
+
+-- memory was wanting, or the shelf refused a call
+abbrev pub IsShelfRefusal : Fault → Noted → Noted → Type 0
+IsShelfRefusal (Ends.Memory refused) old new = ⊤
+IsShelfRefusal Ends.JournalRead old new = old.refused < new.refused
+IsShelfRefusal Ends.JournalWrite old new = old.refused < new.refused
+IsShelfRefusal _ old new = ⊥
+
+-- ---- a start
+
+-- how many bytes of chunks the tenant at place t may have by a setup that was read; none, where none was
+abbrev pub room_read : SetupReading Setup → (t : ℕ) → ℕ
+room_read (Ok setup) t = kib_of setup.rooms t * 1024
+room_read (Err fault) t = 0
+
+-- and by the plan of these lines in a journal
+abbrev pub room_of_lines : List Line → (t : ℕ) → ℕ
+room_of_lines lines t = room_read (setup_of_node_text (lines_text lines)) t
+
+-- A new node was begun in place of a lost one.
+abbrev pub is_new : (node : ℕ) → Bool
+is_new node = nat_lt 0 (generation node)
+
+-- Whether a node that was begun where the tenant might have so much lacks chunks of it, where it may have so much now: a new one does, where the tenant had room
+-- and has some.
+abbrev pub lacks_at_first : (node first allowed : ℕ) → Bool
+lacks_at_first node first allowed = is_new node && nat_lt 0 first && nat_lt 0 allowed
+
+-- the tenant's depot was never asked anything
+pub record IsBare (sessions allowed : ℕ) (lacks : Bool) (depot : Depot) : Type 0 where
+  pub sessions_are : length depot.stock.sessions.items ≡ sessions
+  pub allowed_is : depot.stock.allowed ≡ allowed
+  pub nothing : IsSame (standing_of depot) (bare lacks)
+
+-- The other is that of the same node, never started, with the same tenants, sessions and rooms. What a new node lacks the rooms say that the tenants had in the plan with which its journal
+-- begins.
+pub record IsBlank (first : ℕ → ℕ) (m blank : Chunks) : Type 0 where
+  pub site : IsSite m blank
+  pub depots : (t : ℕ) (was is : Depot) → slice_get m.depots t ≡ Some was → slice_get blank.depots t ≡ Some is →
+      IsBare (length was.stock.sessions.items) was.stock.allowed (lacks_at_first m.node (first t) was.stock.allowed) is
+
+abbrev pub ChunksAreBlank : List (List ℕ) → Chunks → Chunks → Type 0
+ChunksAreBlank lines m blank = IsBlank (room_of_lines lines) m blank
+
+-- no chunk is too long
+abbrev pub AllFit : Standing → Type 0
+AllFit it = (k n : ℕ) (placed : Placed) → (it.books k).at n ≡ Some placed → long_at placed.place ≤ MOST_CHUNK
+
+-- the depot has the sessions of the tenant at this place, and no chunk that is too long
+pub record IsSound (plan : CheckedPlan) (t : ℕ) (depot : Depot) : Type 0 where
+  pub sessions_are : length depot.stock.sessions.items ≡ (row_at plan t).sessions
+  pub fit : AllFit (standing_of depot)
+
+abbrev pub AreSound : CheckedPlan → List Depot → Type 0
+AreSound plan depots = (t : ℕ) (depot : Depot) → slice_get depots t ≡ Some depot → IsSound plan t depot
+
+-- the tenant may have so much; and only a new node lacks chunks of a tenant, of one that has room
+pub record HasRoom (node room : ℕ) (depot : Depot) : Type 0 where
+  pub allowed : depot.stock.allowed ≡ room
+  pub lacking : depot.lacks ≡ true → lacks_at_first node room depot.stock.allowed ≡ true
+
+-- each tenant has such room
+abbrev pub HasRooms : (room : ℕ → ℕ) → Chunks → Type 0
+HasRooms room m = (t : ℕ) (depot : Depot) → slice_get m.depots t ≡ Some depot → HasRoom m.node (room t) depot
+
+-- each tenant has the room that the plan of these lines gives it, its sessions, and chunks that fit
+pub record ChunksAreOf (lines : List (List ℕ)) (m : Chunks) : Type 0 where
+  pub tenants : length m.depots ≡ length m.plan.rows
+  pub rooms : HasRooms (room_of_lines lines) m
+  pub sound : AreSound m.plan m.depots
+
+-- the tenant has the same chunks and floors, may have the same, and so much is lacked
+pub record DepotRests (depot again : Depot) : Type 0 where
+  pub sessions : length again.stock.sessions.items ≡ length depot.stock.sessions.items
+  pub allowed : again.stock.allowed ≡ depot.stock.allowed
+  pub standing : IsSame (standing_of again) (standing_of depot)
+
+-- the other is that of the same node, and each tenant has the same
+pub record ChunksRest (m again : Chunks) : Type 0 where
+  pub site : IsSite m again
+  pub depots : (t : ℕ) (was is : Depot) → slice_get m.depots t ≡ Some was → slice_get again.depots t ≡ Some is → DepotRests was is
+
+-- how many bytes the chunks of all tenants take in a journal that is written anew, or somewhat less
+abbrev pub in_journals : List Depot → ℕ
+in_journals depots = sum_by (λ depot. depot.in_journal) depots
+
+-- ---- a machine that read no line yet
+
+-- 1 for a place of the same column
+abbrev pub in_column : (cols place other : ℕ) → ℕ
+in_column cols place other = if other % cols == place % cols then 1 else 0
+
+-- how many nodes of the column of this place were lost, of these places
+abbrev pub column_losses : (cols place : ℕ) → List ℕ → ℕ
+column_losses cols place lost = sum_by (in_column cols place) lost
+
+-- how many bytes the tenant might have by the setup that was read, if one was
+abbrev pub room_before : Option Setup → (t : ℕ) → ℕ
+room_before None t = 0
+room_before (Some setup) t = room_read (Ok setup) t
+
+-- Each tenant has the sessions and the room of the setup, and nothing yet.
+abbrev pub AreBare : Setup → (first : Option Setup) → (node : ℕ) → List Depot → Type 0
+AreBare setup first node depots = (t : ℕ) (depot : Depot) → slice_get depots t ≡ Some depot →
+    IsBare (row_at setup.plan t).sessions (room_read (Ok setup) t) (lacks_at_first node (room_before first t) (room_read (Ok setup) t)) depot
+
+-- It is that of the node of this number and setup, begun with the other setup, if one was read.
+pub record IsNewFor (setup : Setup) (first : Option Setup) (node : ℕ) (m : Chunks) : Type 0 where
+  pub plan_is : m.plan ≡ setup.plan
+  pub node_is : m.node ≡ node
+  pub losses_are : m.losses ≡ column_losses setup.plan.grid.cols (place_of node) setup.lost
+  pub tenants : length m.depots ≡ length setup.plan.rows
+  pub depots : AreBare setup first node m.depots

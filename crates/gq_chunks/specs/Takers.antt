@@ -1,0 +1,30 @@
+-- Which lines are of chunks.
+use Rattle.std.specs.Prelude.{ℕ, List, [], ◌∷◌, Bool, false, ◌||◌, ◌&&◌, is_none, codes, if◌then◌else◌}
+use Rattle.std.specs.Str.{bytes_eq}
+use Rattle.gq_pair.specs.declared.pair.Taker.{Taker}
+use Rattle.gq_pair.specs.declared.pair.Taker.TheVariants.{First, Second}
+use Rattle.gq_text.specs.Words.{Word, words_of, number_of}
+
+-- what a tenant may ask about its chunks
+abbrev pub is_chunk_verb : Word → Bool
+is_chunk_verb verb = bytes_eq verb (codes "keep") || bytes_eq verb (codes "get") || bytes_eq verb (codes "forget") || bytes_eq verb (codes "chunks") || bytes_eq verb (codes "room")
+
+-- A line `TO FROM VERB ..` of a tenant, which no number names, is the second machine's where its verb is one of chunks. All others are the first one's.
+abbrev pub words_taker : List Word → Taker
+words_taker (to ∷ from ∷ verb ∷ words) = if is_none (number_of from) && is_chunk_verb verb then Second else First
+words_taker _ = First
+
+abbrev pub line_taker : List ℕ → Taker
+line_taker line = words_taker (words_of line)
+
+-- what a fact of chunks may say
+abbrev pub is_fact_verb : Word → Bool
+is_fact_verb verb = bytes_eq verb (codes "chunk") || bytes_eq verb (codes "extent") || bytes_eq verb (codes "forgot") || bytes_eq verb (codes "filled")
+
+-- a fact's line is one of chunks by its first word
+abbrev pub words_tell_chunk : List Word → Bool
+words_tell_chunk [] = false
+words_tell_chunk (verb ∷ words) = is_fact_verb verb
+
+abbrev pub tells_chunk : List ℕ → Bool
+tells_chunk line = words_tell_chunk (words_of line)

@@ -1,0 +1,55 @@
+//! Which lines are of chunks.
+
+ghost use Rattle.std.specs.Prelude.{◌≡◌};
+ghost use Rattle.gq_chunks.specs.Takers.{is_chunk_verb, line_taker, is_fact_verb, tells_chunk};
+
+use gq_pair::Taker;
+use gq_text::{first_word, next_word, number};
+
+// Whether a tenant may ask this about its chunks.
+fn is_chunk_verb(verb: &[u8]) -> bool
+    ensures { result ≡ is_chunk_verb verb.now }
+{
+    verb == b"keep".as_slice()
+        || verb == b"get".as_slice()
+        || verb == b"forget".as_slice()
+        || verb == b"chunks".as_slice()
+        || verb == b"room".as_slice()
+}
+
+// Whether a fact of chunks may say this.
+fn is_fact_verb(verb: &[u8]) -> bool
+    ensures { result ≡ is_fact_verb verb.now }
+{
+    verb == b"chunk".as_slice()
+        || verb == b"extent".as_slice()
+        || verb == b"forgot".as_slice()
+        || verb == b"filled".as_slice()
+}
+
+/// Whose a line of a node's input is, where the second machine is one of chunks: that one's where a tenant asks about its chunks, else the first one's. A tick is the
+/// first one's.
+pub fn taker_of(line: &[u8]) -> Taker
+    ensures { result ≡ line_taker line.now }
+{
+    let (_, rest) = first_word(line);
+    let Some((from, rest)) = next_word(rest) else {
+        return Taker::First;
+    };
+    let Some((verb, _)) = next_word(rest) else {
+        return Taker::First;
+    };
+    if number(from).is_none() && is_chunk_verb(verb) {
+        Taker::Second
+    } else {
+        Taker::First
+    }
+}
+
+/// Whether the line of a fact is one of chunks, by its first word.
+pub fn is_chunk_fact(line: &[u8]) -> bool
+    ensures { result ≡ tells_chunk line.now }
+{
+    let (verb, _) = first_word(line);
+    is_fact_verb(verb)
+}
