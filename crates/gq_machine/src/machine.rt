@@ -551,7 +551,7 @@ impl NodeMachine {
         }
     }
 
-    // A tick comes to each lane of the tenant, in order.
+    // A tick comes to each lane of the tenant, in order. Where the server lacks no file, it does nothing at those behind the first.
     fn look_lanes(
         &mut self,
         tenant: u8,
@@ -561,7 +561,11 @@ impl NodeMachine {
         requires { tenant < length self.old.node.tables.plan.rows }
         ensures { OnOk result (TookOf self.old.node.tables tenant lane_ticks facts.old.items facts.new.items told.old.items told.new.items self.new.node.tables) }
     {
-        for lane in 0..LANES {
+        self.look(tenant, 0, facts, told)?;
+        if !self.node.lacks_some(tenant) {
+            return Ok(());
+        }
+        for lane in 1..LANES {
             self.look(tenant, lane, facts, told)?;
         }
         Ok(())
