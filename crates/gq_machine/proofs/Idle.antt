@@ -1,6 +1,6 @@
 -- Where a server lacks no file of a tenant, a tick does nothing at the lanes behind the first.
-use Rattle.std.proofs.Common.{◌≡◌, ◌≢◌, ◌∙◌, ℕ, zero, suc, ◌+◌, ◌≤◌, Bool, true, false, List, [], ◌∷◌, length, map, Option, Some, None, refl, sym, ap, subst, arith}
-use Rattle.std.specs.Prelude.{◌==◌, nat_lt, is_some, find, All}
+use Rattle.std.proofs.Common.{◌≡◌, ◌∙◌, ℕ, zero, suc, ◌+◌, ◌≤◌, Bool, true, false, List, [], ◌∷◌, map, Option, Some, None, refl, sym, ap, subst, arith}
+use Rattle.std.specs.Prelude.{◌==◌, nat_lt, is_some, find}
 use Rattle.std.specs.List.{range_with_len}
 use Rattle.std.proofs.lemmas.Bool.{ne_eqb}
 use Rattle.std.proofs.lemmas.List.Elements.{All-nil}
@@ -8,11 +8,10 @@ use Rattle.gq_tag.specs.Tag.{File}
 use Rattle.gq_desk.specs.declared.volumes.VolumeRow.{VolumeRow}
 use Rattle.gq_desk.specs.CheckedPlan.{CheckedPlan}
 use Rattle.gq_desk.specs.Volumes.{account_at}
-use Rattle.gq_cluster.specs.Facts.{OwnFact}
 use Rattle.gq_facts.specs.Laws.{FitsFact}
-use Rattle.gq_node.specs.Inputs.{Input, Looked}
+use Rattle.gq_node.specs.Inputs.{Looked}
 use Rattle.gq_node.specs.Joining.{all_files, lacked_files, all_joined, first_lacked, looks}
-use Rattle.gq_node.specs.Local.{Local, Doing, silently}
+use Rattle.gq_node.specs.Local.{Local, silently}
 use Rattle.gq_node.specs.Sites.{Here, Site, site_of}
 use Rattle.gq_node.specs.Tables.{Tables, Agrees, lacks_at, fact_of}
 use Rattle.gq_node.proofs.Counting.{some_found}
@@ -46,10 +45,10 @@ idle w t lane local behind none agrees = by (all_joined (site_of w.plan w.here t
 
 -- ---- one lane after another
 
-still : Local → ℕ → Move
+abbrev still : Local → ℕ → Move
 still local lane = record { input = Looked lane; plain = λ site l. (refl, refl); doing = silently local }
 
-stills : Local → (lane many : ℕ) → List Move
+abbrev stills : Local → (lane many : ℕ) → List Move
 stills local lane zero = []
 stills local lane (suc many) = still local lane ∷ stills local (lane + 1) many
 

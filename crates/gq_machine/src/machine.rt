@@ -18,7 +18,7 @@ ghost use Rattle.gq_wire.specs.Incoming.{FitsPlan};
 ghost use Rattle.gq_facts.specs.Facts.{fact_text};
 ghost use Rattle.gq_facts.specs.Laws.{FitsFact};
 ghost use Rattle.gq_node.specs.Shorts.{own_short};
-ghost use Rattle.gq_parts.specs.Inputs.{session_ticks, lane_ticks, ticks_of};
+ghost use Rattle.gq_parts.specs.Inputs.{session_ticks, lane_ticks, lanes_at, ticks_of};
 ghost use Rattle.gq_parts.specs.Within.{is_once_more};
 ghost use Rattle.gq_parts.specs.Texts.{answer_text, sent_line, reply_text, transfer_text, step_text, joins_text, joined_text, greeting_at, greeting_text};
 ghost use Rattle.gq_parts.specs.Steps.{AskedToJoin, fact_lines, HasAddress, IsAddressed, IsOfPlan, IsOfTenant, goes_home, going_home, table_form, table_line, table_lines, told_letters, Appended, TookHop, TookOwn, PutAll, TookOf, TookShort, TookAll, TookIncoming, some_lacks, all_lacked};
@@ -551,6 +551,15 @@ impl NodeMachine {
         }
     }
 
+    // In how many lanes files of the tenant are asked for.
+    fn lanes(&self, tenant: u8) -> u32
+        requires { tenant < length self.now.node.tables.plan.rows }
+        ensures { result ≡ lanes_at self.now.node.tables.plan tenant }
+    {
+        let row = self.node.plan().row(tenant);
+        row.most_volumes.min(LANES).max(1)
+    }
+
     // A tick comes to each lane of the tenant, in order. Where the server lacks no file, it does nothing at those behind the first.
     fn look_lanes(
         &mut self,
@@ -559,13 +568,14 @@ impl NodeMachine {
         told: &mut Vec<u8>,
     ) -> Result<(), OutOfMemory>
         requires { tenant < length self.old.node.tables.plan.rows }
-        ensures { OnOk result (TookOf self.old.node.tables tenant lane_ticks facts.old.items facts.new.items told.old.items told.new.items self.new.node.tables) }
+        ensures { OnOk result (TookOf self.old.node.tables tenant (lane_ticks self.old.node.tables.plan tenant) facts.old.items facts.new.items told.old.items told.new.items self.new.node.tables) }
     {
         self.look(tenant, 0, facts, told)?;
         if !self.node.lacks_some(tenant) {
             return Ok(());
         }
-        for lane in 1..LANES {
+        let lanes = self.lanes(tenant);
+        for lane in 1..lanes {
             self.look(tenant, lane, facts, told)?;
         }
         Ok(())

@@ -1,7 +1,7 @@
 -- The worked case in tables: what the lines of the losses do to them.
-use Rattle.std.proofs.Common.{◌≡◌, ◌∙◌, ℕ, zero, suc, ◌+◌, ◌-◌, ◌<◌, Bool, true, false, List, [], ◌∷◌, ◌++◌, map, refl, sym, ap, subst, arith, append-nil, Option, Some, None}
+use Rattle.std.proofs.Common.{◌≡◌, ◌∙◌, ℕ, zero, suc, ◌<◌, Bool, true, false, List, [], ◌∷◌, ◌++◌, map, refl, sym, ap, subst, arith, append-nil, Option, Some, None}
 use Rattle.std.specs.Prelude.{◌==◌, ◌&&◌, ◌||◌, not, nat_lt, is_some, option_map, slice_index_or, All, ⊤}
-use Rattle.std.specs.List.{list_all, flat_map, range_with_len}
+use Rattle.std.specs.List.{list_all, flat_map}
 use Rattle.std.specs.Option.{option_to_list}
 use Rattle.std.proofs.lemmas.List.Elements.{All-nil, All-append}
 use Rattle.gq_grid.specs.Grid.{no_servers, with_server}
@@ -22,7 +22,6 @@ use Rattle.gq_node.specs.declared.output.Transfer.TheVariants.{Wants as CodeWant
 use Rattle.gq_node.specs.declared.session_states.SessionState.{SessionState}
 use Rattle.gq_node.specs.Inputs.{Input, Ticked, Looked, Joined as HeardJoined, Fetching, Fetched as WasFetched}
 use Rattle.gq_node.specs.Joining.{all_joined, awaited, first_in_lane, first_lacked, lacked_files, next_peer, has_file, is_peer, hears_joined, looks, gives, takes}
-use Rattle.gq_node.specs.declared.lanes.TheConstants.{LANES}
 use Rattle.gq_node.specs.Lacks.{lacks_in}
 use Rattle.gq_node.specs.Lanes.{lane_of}
 use Rattle.gq_node.specs.Local.{Local, Resident, Doing, Wants, Brings, part_in, state_of, silently, given, file_fits, ticks}
@@ -33,12 +32,12 @@ use Rattle.gq_wire.specs.declared.incoming.Incoming.TheVariants.{Joins, Joined, 
 use Rattle.gq_wire.specs.Incoming.{incoming_of}
 use Rattle.gq_wire.specs.Texts.{transfer_line}
 use Rattle.gq_parts.specs.AllNodes.{here_in}
-use Rattle.gq_parts.specs.Inputs.{inputs_with, line_inputs_with, lane_ticks}
+use Rattle.gq_parts.specs.Inputs.{inputs_with, line_inputs_with}
 use Rattle.gq_parts.specs.Steps.{fact_lines, StepsTo}
 use Rattle.gq_parts.specs.Texts.{facts_for, written_for, joins_text, joined_text, node_text, lacks_some}
 use Rattle.gq_parts.specs.Within.{after_taken}
 use Rattle.gq_parts.specs.Worked.{grid_worked, file_worked}
-use Rattle.gq_parts.proofs.Chains.{Move, DoesAll, AllAlone, inputs_in, last_local, facts_in, text_in, Comes, comes_alone}
+use Rattle.gq_parts.proofs.Chains.{Move, inputs_in, last_local, facts_in, text_in, Comes, comes_alone}
 use Rattle.gq_parts.proofs.Replacing.{is_plan}
 use Rattle.gq_parts.proofs.WorkedTables.{file, site, session, View, tables_of, Sees, agrees_of, sees_of, no_set_is, first_set_is, not_first}
 
@@ -233,51 +232,28 @@ tick_steps new losses v joined lacks peer one two turn = record {
     asks : Local → Doing
     asks local = record (silently (record local { peer = 0 })) { transfer = Some (Wants (at.node_at 0) file) }
 
-    all_are : (local : Local) → Sees new losses v local → all_joined at local.joined ≡ true
-    all_are local sees = λ i. list_all (λ place. place == turn.place i || (sym sees.joined ∙ ap servers joined ∙ first_set_is) i place) (0 ∷ 1 ∷ [])
-
     looks_is : (local : Local) → Sees new losses v local → looks 0 at local ≡ asks local
     looks_is local sees =
+        let all : all_joined at local.joined ≡ true =
+        (λ i. list_all (λ place. place == turn.place i || (sym sees.joined ∙ ap servers joined ∙ first_set_is) i place) (0 ∷ 1 ∷ [])) in
         let next : next_peer at local.peer ≡ 0 = ap (next_peer at) (sym sees.peer ∙ peer) ∙ ap (λ p. next_peer (record at { place = p }) 1) turn.place in
         let first : first_lacked local 0 ≡ Some file = ap (λ (vs : List VolumeRow). first_in_lane local.lacks vs 0) (sym sees.volumes) ∙ (rw (lacked v local lacks sees) refl) in
-        rw (all_are local sees, next, first) refl
-
-    -- no other lane has a file
-    stays : (local : Local) (lane : ℕ) → Sees new losses v local → looks (suc lane) at (record local { peer = 0 }) ≡ silently (record local { peer = 0 })
-    stays local lane sees =
-        let none : first_lacked (record local { peer = 0 }) (suc lane) ≡ None = ap (λ (vs : List VolumeRow). first_in_lane local.lacks vs (suc lane)) (sym sees.volumes) ∙ (rw (lacked v local lacks sees) refl) in
-        rw (all_are local sees, none) refl
-
-    still : Local → ℕ → Move
-    still local lane = record { input = Looked lane; plain = λ site local. (refl, refl); doing = silently local }
-
-    stay : (local : Local) (lane many : ℕ) → Sees new losses v local → DoesAll at (record local { peer = 0 }) (map (still (record local { peer = 0 })) (range_with_len (suc lane) many))
-    stay local lane zero sees = tt
-    stay local lane (suc many) sees =
-        let next : suc (suc lane) ≡ suc lane + 1 = omega arith in (
-          stays local lane sees,
-          subst (λ n. DoesAll at (record local { peer = 0 }) (map (still (record local { peer = 0 })) (range_with_len n many))) next (stay local (suc lane) many sees),
-        )
-
-    alone : (local : Local) (lane many : ℕ) → AllAlone at (map (still local) (range_with_len lane many))
-    alone local lane zero = tt
-    alone local lane (suc many) = (refl, alone local (lane + 1) many)
+        rw (all, next, first) refl
 
     leads : (local : Local) → Sees new losses v local →
-        Leads new losses v w (Ticked (session new losses 0) ∷ Ticked (session new losses 1) ∷ lane_ticks) [] (transfer_line grid_worked.plan new (CodeWants 0 file_worked) ++ []) local
+        Leads new losses v w (Ticked (session new losses 0) ∷ Ticked (session new losses 1) ∷ Looked 0 ∷ []) [] (transfer_line grid_worked.plan new (CodeWants 0 file_worked) ++ []) local
     leads local sees =
         let first : (local.residents (session new losses 0)).session.current ≡ None = (is_idle (session new losses 0) v.one (local.residents (session new losses 0)) one sees.one).0 in
         let second : (local.residents (session new losses 1)).session.current ≡ None = (is_idle (session new losses 1) v.two (local.residents (session new losses 1)) two sees.two).0 in
-        let asked : Local = record local { peer = 0 } in
         let moves : List Move =
         record { input = Ticked (session new losses 0); plain = λ site local. (refl, refl); doing = silently local }
         ∷ record { input = Ticked (session new losses 1); plain = λ site local. (refl, refl); doing = silently local }
         ∷ record { input = Looked 0; plain = λ site local. (refl, refl); doing = asks local }
-        ∷ map (still asked) (range_with_len 1 (LANES - 1)) in
+        ∷ [] in
         let a : ticks (session new losses 0) at local ≡ silently local = rw first refl in
         let b : ticks (session new losses 1) at local ≡ silently local = rw second refl in
         leads_by new losses v w local moves [] (transfer_line grid_worked.plan new (CodeWants 0 file_worked) ++ [])
-        (comes_alone grid_worked.plan (here_in grid_worked losses new) 0 local moves (a, (b, (looks_is local sees, stay local 0 (LANES - 1) sees))) (refl, (refl, (refl, alone asked 1 (LANES - 1))))) refl
+        (comes_alone grid_worked.plan (here_in grid_worked losses new) 0 local moves (a, (b, (looks_is local sees, tt))) (refl, (refl, (refl, tt)))) refl
         (ap (λ m. transfer_line grid_worked.plan new (CodeWants m file_worked) ++ []) turn.other)
         (record {
           volumes = sees.volumes;
