@@ -123,7 +123,7 @@ LONG_LINES = {
     "a copy of one byte more": (b"67 1 ann fetched 0 0 5 1 %sab\n67 1 ann fetch 0 0\n" % LONG, None),
 }
 # A new node of three rows. Its volumes of small files are in 64 lanes, those of large files in four.
-WIDE = b"grid 3 2\nroom 18502\ntenant ann 70 1 1 1 70\ntenant bob 18432 1 1 1024 9\ngo\nann open 1 1 times 70\nbob open 2 1024 times 9\nreplace 5\n"
+WIDE = b"grid 3 2\nroom 4678\ntenant ann 70 1 1 1 70\ntenant bob 4608 1 1 256 9\ngo\nann open 1 1 times 70\nbob open 2 256 times 9\nreplace 5\n"
 IN_WIDE = 70 + 18  # files
 LANES = [b"ann fetch %d 0" % lane for lane in range(64)] + [b"bob fetch %d 0" % lane for lane in range(4)]
 # Enough facts for a journal that is written anew: stores of two files, of which one was given, and one is of a later plan.

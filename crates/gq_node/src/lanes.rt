@@ -6,8 +6,8 @@ ghost use Rattle.gq_node.specs.Lanes.{lanes_for};
 /// In so many lanes a new node asks for the files of a tenant.
 pub const LANES: u32 = 64;
 
-/// So many blocks in all the files of different lanes may have that are asked for side by side, where they are of one size.
-pub const LANE_BLOCKS: u32 = 4_096;
+/// So many blocks the files of one size may have in all that are asked for side by side.
+pub const LANE_BLOCKS: u32 = 1_024;
 
 // In how many lanes files of so many blocks are asked for.
 pub(crate) fn lanes_for(blocks: u32) -> u32
