@@ -51,7 +51,8 @@ LOSS = "the line `replace` number %d was `replace %d`"
 JOINS = b"0 67 joins 1\n1 67 joins 1\n2 67 joins 1\n"
 JOINED = b"67 0 joined 1\n67 1 joined 1\n67 2 joined 1\n"
 TICK = b"67 67 tick\n"
-FETCHES = b"1 67 ann fetch 0 0\n1 67 bob fetch 0 0\n"
+LANE = b"1 67 ann fetch 1 0\n"  # of volume 1, beside those of volume 0
+FETCHES = b"1 67 ann fetch 0 0\n" + LANE + b"1 67 bob fetch 0 0\n"
 ASK = b"67 0 ann 1 1 1 0 0 ask\n"
 STORE = b"67 0 ann 1 1 2 0 0 store 9 1 ff\n"
 GIVEN = b"67 1 ann fetched 0 0 5 1 Aa\n"
@@ -86,7 +87,7 @@ LINES = {
     "the number below it": (b"67 1 ann fetched 0 0 %d 1 aa\n" % (GREATEST - 1), NEXT),
     "files without a form": (b"67 1 ann fetched 0 0 5 1\n67 1 ann fetched 0 0 5 1 a\n67 1 ann fetched 0 0 5 256 aa\n67 1 ann fetch 0\n" + ASK, b""),
     "the last file of a tenant": (b"67 1 bob fetched 0 0 5 1 aa\n", b""),
-    "all files": (ALL_GIVEN + TICK, b"".join(b"1 67 ann fetch %s\n" % file for file in ANN[1:])),
+    "all files": (ALL_GIVEN + TICK, b"".join(b"1 67 ann fetch %s\n" % file for file in ANN[1:4])),
     "a session that goes on there": (READ, ASKS),
     "one of the node that was lost": (b"67 ann read 4 1 0 0\n67 ann read 36 1 0 0\n", b"ann 67 refused nosession 4 1\nann 67 refused nosession 36 1\n"),
     "one whose home was not lost": (b"67 ann read 1 1 0 0\n67 ann read 17 1 0 0\n", b"ann 67 refused home 0 1 1\nann 67 refused nosession 17 1\n"),
@@ -121,6 +122,10 @@ LONG_LINES = {
     "a copy of the most bytes": (b"67 1 ann fetched 0 0 %d 240 %s\n67 1 ann fetch 0 0\n" % (GREATEST - 1, LONG), b"%d 240 %s" % (GREATEST - 1, LONG)),
     "a copy of one byte more": (b"67 1 ann fetched 0 0 5 1 %sab\n67 1 ann fetch 0 0\n" % LONG, None),
 }
+# A new node of three rows. Its volumes of small files are in 64 lanes, those of large files in four.
+WIDE = b"grid 3 2\nroom 4678\ntenant ann 70 1 1 1 70\ntenant bob 4608 1 1 256 9\ngo\nann open 1 1 times 70\nbob open 2 256 times 9\nreplace 5\n"
+IN_WIDE = 70 + 18  # files
+LANES = [b"ann fetch %d 0" % lane for lane in range(64)] + [b"bob fetch %d 0" % lane for lane in range(4)]
 # Enough facts for a journal that is written anew: stores of two files, of which one was given, and one is of a later plan.
 LATER = LOST.replace(b"go\n", b"tenant cat 8 3 1\ngo\n") + b"cat open 2 2\n"
 MANY = b"".join(b"kept ann 0 0 %d 1 %s\nkept cat 0 0 %d 2 %s\n" % (at, b"ab" * 100, at, b"cd" * 100) for at in range(10, 2_600))
@@ -177,7 +182,7 @@ class NewNodes(Faults):
         fact = in_bytes(b"had ann 0 0 5 1 aa\n")
         self.held("a file that was given", get(self.at("journal")), sealed(1, first) + sealed(2, BASE) + sealed(3, fact))
         seen = self.node(ASK + JOINED + TICK)
-        self.held("a start behind it", seen, (0, LACKS % (2, FILES - 1), FIRST + in_bytes(COPY) + NEXT + b"1 67 bob fetch 0 0\n"))
+        self.held("a start behind it", seen, (0, LACKS % (2, FILES - 1), FIRST + in_bytes(COPY) + NEXT + LANE + b"1 67 bob fetch 0 0\n"))
         self.held("nobody has joined behind a start", self.node(TICK), (0, LACKS % (2, FILES - 1), FIRST + JOINS))
         late = self.node(b"67 1 ann fetched 0 1 0 0 -\n")
         self.held("a copy that comes late", late, (0, LACKS % (2, FILES - 1), FIRST + b"1 67 ann fetch 0 2\n"))
@@ -198,6 +203,18 @@ class NewNodes(Faults):
         for name, (given, copy) in LONG_LINES.items():
             wrote = FIRST + (in_bytes(b"1 67 ann fetch 0 1\n1 67 ann fetched 0 0 %s\n" % copy) if copy else b"")
             self.held(name, self.begin(ROOM, given=given), (0, LACKS % (0, 2), wrote))
+
+    def lanes(self):
+        """One file of each lane is asked for at a tick, of the next node of the column, and behind a file that is given the next one of its lane."""
+        joined = b"".join(b"69 %d joined 1\n" % number for number in range(5))
+        given = [b"ann fetched 5 0 0 0 -", b"ann fetched 69 0 0 0 -", b"bob fetched 2 0 0 0 -", b"bob fetched 2 1 0 0 -", b"ann fetched 5 0 0 0 -", b"bob fetched 7 1 0 0 -"]
+        next_ones = [b"ann fetch 69 0", None, b"bob fetch 2 1", b"bob fetch 6 0", None, b"bob fetch 3 0"]
+        later = [{b"ann fetch 5 0": None, b"bob fetch 2 0": b"bob fetch 6 0"}.get(ask, ask) for ask in LANES]
+        lines = joined + b"69 69 tick\n" + b"".join(b"69 3 %s\n" % one for one in given) + 2 * b"69 69 tick\n"
+        wanted = [(1, ask) for ask in LANES] + [(3, ask) for ask in next_ones] + [(1, ask) for ask in later] + [(3, ask) for ask in later]
+        told = b"gridfs: node 69 of 3 by 2: 0 facts, lacks %d files\n" % IN_WIDE
+        seen = self.begin(WIDE, number=69, given=lines)
+        self.held("lanes", seen, (0, told, FIRST + b"".join(b"%d 69 %s\n" % (to, ask) for to, ask in wanted if ask)))
 
     def written_anew(self):
         """A journal that is written anew has each file that the node has as one that was given, since the last plan is its first one then."""
@@ -366,7 +383,7 @@ class NewNodes(Faults):
 def tell_new_nodes(program, folder):
     """How many things were compared, and what is wrong."""
     new = NewNodes(program, folder)
-    for part in (new.lines, new.long_lines, new.journals, new.written_anew, new.numbers, new.late_store, new.plans, new.starts, new.plans_that_go_on, new.clients):
+    for part in (new.lines, new.long_lines, new.lanes, new.journals, new.written_anew, new.numbers, new.late_store, new.plans, new.starts, new.plans_that_go_on, new.clients):
         try:
             part()
         except WRONG as fault:  # (a node that does not start leaves no journal)

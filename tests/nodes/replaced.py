@@ -80,6 +80,14 @@ class Journal:
         """Whether the node has the file: one of the volumes of its first plan was lost with the node before it."""
         return self.is_there and (self.number < PLACES or int(volume) >= self.volumes[name] or (name, volume, file) in self.had)
 
+    def lane_before(self, name, volume, file):
+        """The files of the same lane that a new node is given before this one."""
+        blocks = [int(words[3]) for words in self.files if words[0] == name]
+        lanes = [at % max(min(1_024 // most, 64), 1) for at, most in enumerate(blocks)]
+        counts = [int(words[2]) for words in self.files if words[0] == name]
+        its = [(at, place) for at, count in enumerate(counts) if lanes[at] == lanes[int(volume)] for place in range(count)]
+        return [(b"%d" % at, b"%d" % place) for at, place in its if (at, place) < (int(volume), int(file))]
+
     def lacked(self):
         """The files that it lacks."""
         volumes = collections.Counter()
@@ -114,10 +122,13 @@ class Watch:
         """Whether a node has a file. (Journals grow alone.)"""
         if number < PLACES:
             return True
+        return self.journal_now(number).has(name, volume, file)
+
+    def journal_now(self, number):
         size = os.path.getsize(self.journal(number))
         if self.read.get(number, (0, None))[0] != size:
             self.read[number] = size, Journal(number, self.journal(number))
-        return self.read[number][1].has(name, volume, file)
+        return self.read[number][1]
 
     def wrote(self, number, line):
         """A whole line that a node wrote."""
@@ -160,8 +171,15 @@ class Watch:
         if to % PLACES % cols != number % PLACES % cols or to % PLACES == number % PLACES:
             return "which is not of its column"
         if what == b"fetch":
-            return None if number in self.ready else "before all others told it that they have joined"
+            return self.asked_of(number, name, volume, file)
         return None if self.has(number, name, volume, file) else "which it lacks"
+
+    def asked_of(self, number, name, volume, file):
+        if number not in self.ready:
+            return "before all others told it that they have joined"
+        journal = self.journal_now(number)
+        is_next = all(journal.has(name, *one) for one in journal.lane_before(name, volume, file))
+        return None if is_next else "before others of its lane"
 
 
 class Wanderer(Client):

@@ -18,7 +18,7 @@ ghost use Rattle.gq_wire.specs.Incoming.{FitsPlan};
 ghost use Rattle.gq_facts.specs.Facts.{fact_text};
 ghost use Rattle.gq_facts.specs.Laws.{FitsFact};
 ghost use Rattle.gq_node.specs.Shorts.{own_short};
-ghost use Rattle.gq_parts.specs.Inputs.{session_ticks, ticks_of};
+ghost use Rattle.gq_parts.specs.Inputs.{session_ticks, lane_ticks, lanes_at, ticks_of};
 ghost use Rattle.gq_parts.specs.Within.{is_once_more};
 ghost use Rattle.gq_parts.specs.Texts.{answer_text, sent_line, reply_text, transfer_text, step_text, joins_text, joined_text, greeting_at, greeting_text};
 ghost use Rattle.gq_parts.specs.Steps.{AskedToJoin, fact_lines, HasAddress, IsAddressed, IsOfPlan, IsOfTenant, goes_home, going_home, table_form, table_line, table_lines, told_letters, Appended, TookHop, TookOwn, PutAll, TookOf, TookShort, TookAll, TookIncoming, some_lacks, all_lacked};
@@ -30,7 +30,7 @@ use gq_keeper::{Fault, Lasting, Machine, Unread};
 use gq_memory::{GrowVec, OutOfMemory};
 use gq_model::Line;
 use gq_node::{
-    Answer, Ended, Fact, NeedRefused, Node, Output, Short, ShortBody, Transfer, place_of,
+    Answer, Ended, Fact, LANES, NeedRefused, Node, Output, Short, ShortBody, Transfer, place_of,
 };
 use gq_parts::laws::MOST_HOPS;
 use gq_tag::{Body, FileId, Message, StoredCopy};
@@ -533,21 +533,52 @@ impl NodeMachine {
         Ok(())
     }
 
-    // A tick comes to the tenant behind those of its sessions: a file that the server lacks may be asked for.
+    // A tick comes to the lane of the tenant behind those of its sessions: a file that the server lacks may be asked for.
     fn look(
+        &mut self,
+        tenant: u8,
+        lane: u32,
+        facts: &mut Vec<u8>,
+        told: &mut Vec<u8>,
+    ) -> Result<(), OutOfMemory>
+        requires { tenant < length self.old.node.tables.plan.rows }
+        ensures { OnOk result (TookOf self.old.node.tables tenant (Looked lane ∷ []) facts.old.items facts.new.items told.old.items told.new.items self.new.node.tables) }
+    {
+        self.has_memory()?;
+        match self.node.look(tenant, lane) {
+            Ok(out) => Ok(self.put(tenant, &Line::Bad, &out, false, facts, told)?),
+            Err(ended) => Err(no_memory(ended)),
+        }
+    }
+
+    // In how many lanes files of the tenant are asked for.
+    fn lanes(&self, tenant: u8) -> u32
+        requires { tenant < length self.now.node.tables.plan.rows }
+        ensures { result ≡ lanes_at self.now.node.tables.plan tenant }
+    {
+        let row = self.node.plan().row(tenant);
+        row.most_volumes.min(LANES).max(1)
+    }
+
+    // A tick comes to each lane of the tenant, in order. Where the server lacks no file, it does nothing at those behind the first.
+    fn look_lanes(
         &mut self,
         tenant: u8,
         facts: &mut Vec<u8>,
         told: &mut Vec<u8>,
     ) -> Result<(), OutOfMemory>
         requires { tenant < length self.old.node.tables.plan.rows }
-        ensures { OnOk result (TookOf self.old.node.tables tenant (Looked ∷ []) facts.old.items facts.new.items told.old.items told.new.items self.new.node.tables) }
+        ensures { OnOk result (TookOf self.old.node.tables tenant (lane_ticks self.old.node.tables.plan tenant) facts.old.items facts.new.items told.old.items told.new.items self.new.node.tables) }
     {
-        self.has_memory()?;
-        match self.node.look(tenant) {
-            Ok(out) => Ok(self.put(tenant, &Line::Bad, &out, false, facts, told)?),
-            Err(ended) => Err(no_memory(ended)),
+        self.look(tenant, 0, facts, told)?;
+        if !self.node.lacks_some(tenant) {
+            return Ok(());
         }
+        let lanes = self.lanes(tenant);
+        for lane in 1..lanes {
+            self.look(tenant, lane, facts, told)?;
+        }
+        Ok(())
     }
 
     // A tick comes to the tenant.
@@ -561,7 +592,7 @@ impl NodeMachine {
         ensures { OnOk result (TookOf self.old.node.tables tenant (ticks_of self.old.node.tables.plan self.old.node.tables.here tenant) facts.old.items facts.new.items told.old.items told.new.items self.new.node.tables) }
     {
         self.tick_sessions(tenant, facts, told)?;
-        self.look(tenant, facts, told)
+        self.look_lanes(tenant, facts, told)
     }
 
     // A tick comes to each tenant, in plan order.

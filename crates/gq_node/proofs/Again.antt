@@ -17,7 +17,8 @@ use Rattle.gq_node.specs.declared.output.Answer.{Answer}
 use Rattle.gq_node.specs.Again.{TellsEnd, is_start, begun_at, NoneBegins, forgotten, end_after, AllEndsToldAgain, AllBeginLater}
 use Rattle.gq_node.specs.Bridge.{AtHome}
 use Rattle.gq_node.specs.Inputs.{Input, Asked, AskedPlan, Brought, Shortened, Ticked, Looked, Joined, Fetching, Fetched, does}
-use Rattle.gq_node.specs.Joining.{tells_joined, hears_joined, all_joined, next_peer, asks_peer, looks, is_peer, has_file, gives, takes}
+use Rattle.gq_node.specs.Joining.{tells_joined, hears_joined, all_joined, peer_for, asks_peer, looks, is_peer, has_file, gives, takes}
+use Rattle.gq_node.specs.Lanes.{lane_of}
 use Rattle.gq_node.specs.Local.{Local, Resident, Doing, new_local, part_in, state_of, given, file_fits, recalled, fits_local}
 use Rattle.gq_node.specs.Nodes.{first_plan_in, NodeWorld, site_in, site_at, plan_volumes, Nodes, new_nodes, Event, Started, Came, AskedToJoin, node_in, started, first_of, fact_list, doing_of, takes_word, with_ready, after_doing, after_word, after_input, after_event, nodes_after}
 use Rattle.gq_node.specs.Once.{begun_by}
@@ -184,11 +185,11 @@ started_sound w first plan n facts =
 -- ---- what comes
 
 -- what a new node asks for and is given leaves all sessions
-looks_residents : (site : Site) (local : Local) → (looks site local).local.residents ≡ local.residents
-looks_residents site local = by (all_joined site local.joined) refl
+looks_residents : (lane : ℕ) (site : Site) (local : Local) → (looks lane site local).local.residents ≡ local.residents
+looks_residents lane site local = by (all_joined site local.joined) refl
   where
-    by : (b : Bool) → all_joined site local.joined ≡ b → (looks site local).local.residents ≡ local.residents
-    by true is = let e : looks site local ≡ asks_peer site local (next_peer site local.peer) = rw is refl in ap (λ (d : Doing). d.local.residents) e ∙ (asks_quiet site local (next_peer site local.peer)).0
+    by : (b : Bool) → all_joined site local.joined ≡ b → (looks lane site local).local.residents ≡ local.residents
+    by true is = let e : looks lane site local ≡ asks_peer site local lane (peer_for site lane local.peer) = rw is refl in ap (λ (d : Doing). d.local.residents) e ∙ (asks_quiet site local lane (peer_for site lane local.peer)).0
     by false is = rw is refl
 
 joined_residents : (from losses : ℕ) (site : Site) (local : Local) → (hears_joined from losses site local).local.residents ≡ local.residents
@@ -212,10 +213,10 @@ takes_residents : (from : ℕ) (file : File) (copy : StoredCopy) (site : Site) (
 takes_residents from file copy site local = by (taking from file copy site local) refl
   where
     asked : Doing
-    asked = asks_peer site (given file copy local) (place_of from)
+    asked = asks_peer site (given file copy local) (lane_of local.volumes file.volume) (place_of from)
 
     by : (b : Bool) → taking from file copy site local ≡ b → (takes from file copy site local).local.residents ≡ local.residents
-    by true is = let e : takes from file copy site local ≡ record asked { fact = Some (Had file copy) } = rw is refl in ap (λ (d : Doing). d.local.residents) e ∙ (asks_quiet site (given file copy local) (place_of from)).0
+    by true is = let e : takes from file copy site local ≡ record asked { fact = Some (Had file copy) } = rw is refl in ap (λ (d : Doing). d.local.residents) e ∙ (asks_quiet site (given file copy local) (lane_of local.volumes file.volume) (place_of from)).0
     by false is = rw is refl
 
 -- where the sessions stay, so does what holds of them
@@ -237,7 +238,7 @@ does_hold AskedPlan site local holds = holds
 does_hold (Brought from letter) site local holds = let b = all_letters_act from letter site local holds.0 in (b.home, bridged_used site local _ _ _ _ b holds.1)
 does_hold (Shortened from short bytes) site local holds = let b = shorts_act from short bytes site local holds.0 in (b.home, bridged_used site local _ _ _ _ b holds.1)
 does_hold (Ticked session) site local holds = let b = all_ticks_act session site local holds.0 in (b.home, bridged_used site local _ _ _ _ b holds.1)
-does_hold Looked site local holds = same_holds site local (looks site local).local (looks_residents site local) holds
+does_hold (Looked lane) site local holds = same_holds site local (looks lane site local).local (looks_residents lane site local) holds
 does_hold (Joined from losses) site local holds = same_holds site local (hears_joined from losses site local).local (joined_residents from losses site local) holds
 does_hold (Fetching from file) site local holds = same_holds site local (gives from file site local).local (gives_residents from file site local) holds
 does_hold (Fetched from file copy) site local holds = same_holds site local (takes from file copy site local).local (takes_residents from file copy site local) holds
@@ -300,7 +301,7 @@ input_view w nodes n AskedPlan = refl
 input_view w nodes n (Brought from letter) = refl
 input_view w nodes n (Shortened from short bytes) = refl
 input_view w nodes n (Ticked session) = refl
-input_view w nodes n Looked = refl
+input_view w nodes n (Looked lane) = refl
 input_view w nodes n (Joined from losses) = word_view w nodes n from losses (after_doing w nodes n (does (Joined from losses) (site_at w nodes n) (nodes.local n)))
 input_view w nodes n (Fetching from file) = refl
 input_view w nodes n (Fetched from file copy) = refl

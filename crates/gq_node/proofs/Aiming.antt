@@ -8,9 +8,7 @@ use Rattle.gq_grid.specs.Grid.{Grid, Servers, below, server_at, row_servers, col
 use Rattle.gq_grid.proofs.Meeting.{any_from, find_from, found_passes, has_row_more, has_column_more, row_servers-row, column_servers-column}
 use Rattle.gq_grid.proofs.Same.{or-true}
 use Rattle.gq_phase.specs.Quorums.{collect_quorum, store_quorum}
-use Rattle.gq_tag.specs.Tag.{OwnMessage}
-use Rattle.gq_phase.specs.Phase.{Operation}
-use Rattle.gq_node.specs.Columns.{AllStoresGoWhereGiven, stands_in, column_among, column_behind, asks_to_confirm, heard_with, gave}
+use Rattle.gq_node.specs.Columns.{AllStoresGoWhereGiven, stands_in, column_among, column_behind, heard_with, gave}
 use Rattle.gq_node.specs.Sites.{aim}
 use Rattle.gq_node.specs.Aims.{AllAimsHaveQuorums}
 use Rattle.std.proofs.Math.Nat.{mod-lt, mod-eq_of_lt}

@@ -87,7 +87,7 @@ one_input w g nodes u n (Ticked k) begun stays sound alike was =
     let local : Local = nodes.local n in
     request_follows w g nodes u n (tick_act k site local) None (λ told. None) (ticks k site local) begun stays sound alike
     (all_ticks_act k site local (sound.each n begun).home) (all_ticks_keep k site local) (ticks_view k site local) (tick_may w.world u k site local refl (sound.each n begun).home)
-one_input w g nodes u n Looked begun stays sound alike was = looks_follow w g nodes u n begun stays sound alike
+one_input w g nodes u n (Looked lane) begun stays sound alike was = looks_follow w g nodes u n lane begun stays sound alike
 one_input w g nodes u n (Joined from losses) begun stays sound alike was = joined_follows w g nodes u n from losses begun stays sound alike was
 one_input w g nodes u n (Fetching from file) begun stays sound alike was = gives_follow w g nodes u n from file begun stays sound alike was
 one_input w g nodes u n (Fetched from file copy) begun stays sound alike was = takes_follow w g nodes u n from file copy begun stays sound alike was

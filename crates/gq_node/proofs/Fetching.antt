@@ -23,7 +23,8 @@ use Rattle.gq_replace.specs.Fleet.{Fleet, Fetched as HasFetched, FleetStep, Give
 use Rattle.gq_replace.specs.Plans.{place_of}
 use Rattle.gq_node.specs.Bridge.{AtHome, Bridges}
 use Rattle.gq_node.specs.Inputs.{Fetching, Fetched}
-use Rattle.gq_node.specs.Joining.{all_joined, next_peer, first_lacked, asks_peer, looks, is_peer, has_file, gives, takes}
+use Rattle.gq_node.specs.Joining.{all_joined, peer_for, first_lacked, asks_peer, looks, is_peer, has_file, gives, takes}
+use Rattle.gq_node.specs.Lanes.{lane_of}
 use Rattle.gq_node.specs.Local.{Local, Doing, Wants, Brings, part_in, state_of, silently, file_fits, given}
 use Rattle.gq_node.specs.Nodes.{NodeWorld, site_at, Nodes, Question, questions_in, copies_in, posts, after_doing, PartAlike, IsAlike, IsOwn, input_steps}
 use Rattle.gq_node.specs.Sites.{Site, has_node}
@@ -54,9 +55,9 @@ idle_follows w g nodes u n begun stays sound alike =
 
 -- ---- a tick, behind those of the sessions
 
-asks_alike : (w : NodeWorld) → Grows w → (nodes : Nodes) (u : Fleet) (n place : ℕ) → nodes.begun n ≡ true → nodes.gone n ≡ false → Sound w nodes → IsAlike w nodes u → nodes.ready n ≡ true →
-    OneStep w (after_doing w nodes n (asks_peer (site_at w nodes n) (nodes.local n) place)) u [] (IsOwn None (asks_peer (site_at w nodes n) (nodes.local n) place))
-asks_alike w g nodes u n place begun stays sound alike ready = by (first_lacked local) refl
+asks_alike : (w : NodeWorld) → Grows w → (nodes : Nodes) (u : Fleet) (n lane place : ℕ) → nodes.begun n ≡ true → nodes.gone n ≡ false → Sound w nodes → IsAlike w nodes u → nodes.ready n ≡ true →
+    OneStep w (after_doing w nodes n (asks_peer (site_at w nodes n) (nodes.local n) lane place)) u [] (IsOwn None (asks_peer (site_at w nodes n) (nodes.local n) lane place))
+asks_alike w g nodes u n lane place begun stays sound alike ready = by (first_lacked local lane) refl
   where
     site : Site
     site = site_at w nodes n
@@ -70,11 +71,20 @@ asks_alike w g nodes u n place begun stays sound alike ready = by (first_lacked 
     Goal : Doing → Type 0
     Goal doing = OneStep w (after_doing w nodes n doing) u [] (IsOwn None doing)
 
-    by : (o : Option File) → first_lacked local ≡ o → Goal (asks_peer site local place)
-    by None is = let e : asks_peer site local place ≡ silently local = rw is refl in subst Goal (sym e) (idle_follows w g nodes u n begun stays sound alike)
+    by : (o : Option File) → first_lacked local lane ≡ o → Goal (asks_peer site local lane place)
+    by None is =
+        let turned : Doing = silently (record local { peer = place }) in
+        let e : asks_peer site local lane place ≡ turned = rw is refl in
+        subst Goal (sym e) (record {
+          may = tt;
+          said_is = record { told = refl; letters = refl };
+          alike = still_alike w nodes u n turned alike refl refl refl refl;
+          sound = doing_sound w nodes n turned sound begun (doing_at w g (nodes.first_plan n) (nodes.last_plan n) n local (nodes.facts n) (nodes.ready n) turned its its.home its.used refl refl)
+              (λ q c. nothing_there c) (λ f c. nothing_there c);
+        })
     by (Some file) is =
         let asked : Doing = record (silently (record local { peer = place })) { transfer = Some (Wants (site.node_at place) file) } in
-        let e : asks_peer site local place ≡ asked = rw is refl in
+        let e : asks_peer site local lane place ≡ asked = rw is refl in
         subst Goal (sym e) (record {
           may = tt;
           said_is = record { told = refl; letters = refl };
@@ -83,11 +93,11 @@ asks_alike w g nodes u n place begun stays sound alike ready = by (first_lacked 
               (λ q c. subst (λ (x : Question). nodes.ready x.from ≡ true) (one_there (record { from = n; to = site.node_at place; file = file }) q c) ready) (λ f c. nothing_there c);
         })
 
-pub looks_follow : (w : NodeWorld) → Grows w → (nodes : Nodes) (u : Fleet) (n : ℕ) → nodes.begun n ≡ true → nodes.gone n ≡ false → Sound w nodes → IsAlike w nodes u →
-    OneStep w (after_doing w nodes n (looks (site_at w nodes n) (nodes.local n))) u [] (IsOwn None (looks (site_at w nodes n) (nodes.local n)))
-looks_follow w g nodes u n begun stays sound alike = elim (cases_Bool (all_joined site local.joined)) [
-  | inr not' ↦ (let e : looks site local ≡ silently local = rw not' refl in subst Goal (sym e) (idle_follows w g nodes u n begun stays sound alike))
-  | inl all ↦ (let e : looks site local ≡ asks_peer site local (next_peer site local.peer) = rw all refl in subst Goal (sym e) (asks_alike w g nodes u n (next_peer site local.peer) begun stays sound alike ((sound.each n begun).ready_is all)))
+pub looks_follow : (w : NodeWorld) → Grows w → (nodes : Nodes) (u : Fleet) (n lane : ℕ) → nodes.begun n ≡ true → nodes.gone n ≡ false → Sound w nodes → IsAlike w nodes u →
+    OneStep w (after_doing w nodes n (looks lane (site_at w nodes n) (nodes.local n))) u [] (IsOwn None (looks lane (site_at w nodes n) (nodes.local n)))
+looks_follow w g nodes u n lane begun stays sound alike = elim (cases_Bool (all_joined site local.joined)) [
+  | inr not' ↦ (let e : looks lane site local ≡ silently local = rw not' refl in subst Goal (sym e) (idle_follows w g nodes u n begun stays sound alike))
+  | inl all ↦ (let e : looks lane site local ≡ asks_peer site local lane (peer_for site lane local.peer) = rw all refl in subst Goal (sym e) (asks_alike w g nodes u n lane (peer_for site lane local.peer) begun stays sound alike ((sound.each n begun).ready_is all)))
 ]
   where
     site : Site
@@ -185,15 +195,15 @@ record Quiet (n : ℕ) (l : Local) (doing : Doing) : Type 0 where
   copies : copies_in n doing.transfer ≡ []
   asks : (q : Question) → Contains (questions_in n doing.transfer) q → q.from ≡ n
 
-asks_quietly : (site : Site) (l : Local) (place n : ℕ) → Quiet n l (asks_peer site l place)
-asks_quietly site l place n = by (first_lacked l) refl
+asks_quietly : (site : Site) (l : Local) (lane place n : ℕ) → Quiet n l (asks_peer site l lane place)
+asks_quietly site l lane place n = by (first_lacked l lane) refl
   where
-    by : (o : Option File) → first_lacked l ≡ o → Quiet n l (asks_peer site l place)
+    by : (o : Option File) → first_lacked l lane ≡ o → Quiet n l (asks_peer site l lane place)
     by None is =
-        let e : asks_peer site l place ≡ silently l = rw is refl in
+        let e : asks_peer site l lane place ≡ silently (record l { peer = place }) = rw is refl in
         subst (Quiet n l) (sym e) (record { part = refl; residents = refl; view = refl; letters = refl; answer = refl; copies = refl; asks = λ q c. nothing_there c })
     by (Some file) is =
-        let e : asks_peer site l place ≡ record (silently (record l { peer = place })) { transfer = Some (Wants (site.node_at place) file) } = rw is refl in
+        let e : asks_peer site l lane place ≡ record (silently (record l { peer = place })) { transfer = Some (Wants (site.node_at place) file) } = rw is refl in
         subst (Quiet n l) (sym e) (record { part = refl; residents = refl; view = refl; letters = refl; answer = refl; copies = refl; asks = λ q c. ap (λ (x : Question). x.from) (sym (one_there (record { from = n; to = site.node_at place; file = file }) q c)) })
 
 -- the copy that it is given is the one that it has
@@ -247,9 +257,10 @@ takes_follow w g nodes u n from file copy begun stays sound alike was = by decid
         subst (λ d. Goal d (input_steps site local n (Fetched from file copy))) (sym e) (subst (Goal (silently local)) (sym f) (idle_follows w g nodes u n begun stays sound alike))
     by true is =
         let mid : Local = given file copy local in
-        let asked : Doing = asks_peer site mid (place_of from) in
+        let lane : ℕ = lane_of local.volumes file.volume in
+        let asked : Doing = asks_peer site mid lane (place_of from) in
         let doing : Doing = record asked { fact = Some (Had file copy) } in
-        let quiet : Quiet n mid asked = asks_quietly site mid (place_of from) n in
+        let quiet : Quiet n mid asked = asks_quietly site mid lane (place_of from) n in
         let e : takes from file copy site local ≡ doing = rw is refl in
         let f : input_steps site local n (Fetched from file copy) ≡ Takes n from file copy ∷ [] = rw is refl in
         let lacks : local.lacks file ≡ true = (and_parts (is_peer site from) (local.lacks file) (and_parts (is_peer site from && local.lacks file) (file_fits (limit_at (state_of everyone local) file.volume file.place) (Store copy)) is).0).1 in

@@ -2,7 +2,7 @@
 use Rattle.std.proofs.Common.{◌≡◌, ◌≢◌, ◌∙◌, ℕ, zero, suc, ◌+◌, ◌-◌, ◌*◌, ◌<◌, ◌≤◌, Bool, true, false, List, [], ◌∷◌, ◌++◌, length, map, Option, Some, None, refl, sym, ap, subst, arith, inl, inr}
 use Rattle.std.specs.Prelude.{◌==◌, ◌&&◌, not, is_some, find, slice_set, slice_index_or}
 use Rattle.std.specs.List.{range_with_len, flat_map}
-use Rattle.std.proofs.lemmas.Bool.{cases_eq, cases_lt, eq-eqb, and_parts, and_from, true≢false}
+use Rattle.std.proofs.lemmas.Bool.{cases_eq, cases_lt, eq-eqb, ne_eqb, and_parts, and_from, true≢false}
 use Rattle.std.proofs.lemmas.List.{get_or-set_same, get_or-set_other, length-set}
 use Rattle.gq_grid.specs.Grid.{with_server}
 use Rattle.gq_grid.specs.Sets.{servers}
@@ -25,7 +25,8 @@ use Rattle.gq_node.specs.declared.output.Output.{Output}
 use Rattle.gq_node.specs.declared.output.Transfer.{Transfer as Code}
 use Rattle.gq_node.specs.declared.output.Transfer.TheVariants.{Wants as CodeWants, Brings as CodeBrings}
 use Rattle.gq_node.specs.Deciding.{joins_it, gives_it, takes_it}
-use Rattle.gq_node.specs.Joining.{hears_joined, all_joined, next_peer, files_in_volume, first_among, first_lacked, asks_peer, looks, is_peer, has_file, gives, takes}
+use Rattle.gq_node.specs.Lanes.{lane_of, lacks_of_lane}
+use Rattle.gq_node.specs.Joining.{hears_joined, all_joined, peer_for, files_in_volume, first_in_lane, first_lacked, asks_peer, looks, is_peer, has_file, gives, takes}
 use Rattle.gq_node.specs.Lacks.{Given, lacks_in, marks_for, AllGiven}
 use Rattle.gq_node.specs.Local.{Local, Doing, Wants, Brings, part_in, state_of, silently, file_fits, recalls, given as given_local}
 use Rattle.gq_node.specs.SessionStates.{GivesNothing}
@@ -241,6 +242,32 @@ whole_none w t v shaped all there = sym (first_in_from (lacks_at w t) v n n none
       | inr kept ↦ (none_lacked_past (given_at w t) v kept place)
     ]
 
+-- of the files of a volume all are in its lane, or none
+pub first_of_lane : (lacks : File → Bool) (volumes : List VolumeRow) (lane v : ℕ) (places : List ℕ) → lane_of volumes v ≡ lane → find (lacks_of_lane lacks volumes lane) (map (at_place v) places) ≡ find lacks (map (at_place v) places)
+first_of_lane lacks volumes lane v [] same = refl
+first_of_lane lacks volumes lane v (p ∷ places) same = by (lacks (at_place v p)) refl (first_of_lane lacks volumes lane v places same)
+  where
+    by : (b : Bool) → lacks (at_place v p) ≡ b → find (lacks_of_lane lacks volumes lane) (map (at_place v) places) ≡ find lacks (map (at_place v) places) → find (lacks_of_lane lacks volumes lane) (map (at_place v) (p ∷ places)) ≡ find lacks (map (at_place v) (p ∷ places))
+    by true is rest = rw (is, eq-eqb (lane_of volumes v) lane same) refl
+    by false is rest = rw is rest
+
+pub first_of_others : (lacks : File → Bool) (volumes : List VolumeRow) (lane v : ℕ) (places : List ℕ) → lane_of volumes v ≢ lane → find (lacks_of_lane lacks volumes lane) (map (at_place v) places) ≡ None
+first_of_others lacks volumes lane v [] other = refl
+first_of_others lacks volumes lane v (p ∷ places) other = by (lacks (at_place v p)) refl (first_of_others lacks volumes lane v places other)
+  where
+    by : (b : Bool) → lacks (at_place v p) ≡ b → find (lacks_of_lane lacks volumes lane) (map (at_place v) places) ≡ None → find (lacks_of_lane lacks volumes lane) (map (at_place v) (p ∷ places)) ≡ None
+    by true is rest = rw (is, ne_eqb (lane_of volumes v) lane other) rest
+    by false is rest = rw is rest
+
+-- and where none is lacked, none of a lane is
+pub none_of_lane : (lacks : File → Bool) (volumes : List VolumeRow) (lane : ℕ) (files : List File) → find lacks files ≡ None → find (lacks_of_lane lacks volumes lane) files ≡ None
+none_of_lane lacks volumes lane [] none = refl
+none_of_lane lacks volumes lane (f ∷ files) none = by (lacks f) refl (none_of_lane lacks volumes lane files)
+  where
+    by : (b : Bool) → lacks f ≡ b → (find lacks files ≡ None → find (lacks_of_lane lacks volumes lane) files ≡ None) → find (lacks_of_lane lacks volumes lane) (f ∷ files) ≡ None
+    by true is rest = let h = rw is at none in absurd (cc)
+    by false is rest = let h = rw is at none in rw is (rest h)
+
 -- ---- whom it asks
 
 -- the tables in which the tenant's files were asked of that place last
@@ -271,20 +298,44 @@ mated_shaped w t place shaped within inside = record {
 }
 
 -- what the tables say of the first file that is lacked is what the part says
-pub first_is : (w : Tables) (t : ℕ) (local : Local) → Agrees w t local → first_among (lacks_at w t) (account_at w.desk t).volumes ≡ first_lacked local
-first_is w t local agrees = (λ i. first_among (λ f. agrees.lacks f i) (account_at w.desk t).volumes) ∙ ap (λ (a : Account). first_among local.lacks a.volumes) agrees.account
+pub first_is : (w : Tables) (t lane : ℕ) (local : Local) → Agrees w t local → first_in_lane (lacks_at w t) (account_at w.desk t).volumes lane ≡ first_lacked local lane
+first_is w t lane local agrees = (λ i. first_in_lane (λ f. agrees.lacks f i) (account_at w.desk t).volumes lane) ∙ ap (λ (a : Account). first_in_lane local.lacks a.volumes lane) agrees.account
 
-asks_none : (site : Site) (local : Local) (place : ℕ) → first_lacked local ≡ None → asks_peer site local place ≡ silently local
-asks_none site local place is = rw is refl
+asks_none : (site : Site) (local : Local) (lane place : ℕ) → first_lacked local lane ≡ None → asks_peer site local lane place ≡ silently (record local { peer = place })
+asks_none site local lane place is = rw is refl
 
-asks_some : (site : Site) (local : Local) (place : ℕ) (file : File) → first_lacked local ≡ Some file → asks_peer site local place ≡ record (silently (record local { peer = place })) { transfer = Some (Wants (site.node_at place) file) }
-asks_some site local place file is = rw is refl
+asks_some : (site : Site) (local : Local) (lane place : ℕ) (file : File) → first_lacked local lane ≡ Some file → asks_peer site local lane place ≡ record (silently (record local { peer = place })) { transfer = Some (Wants (site.node_at place) file) }
+asks_some site local lane place file is = rw is refl
 
-pub none_asked : (w : Tables) (t place : ℕ) (out : Output) → first_among (lacks_at w t) (account_at w.desk t).volumes ≡ None → GivesNothing out → Acts w t (λ site local. asks_peer site local place) out w
-none_asked w t place out is none =
-    let same : (local : Local) → Agrees w t local → asks_peer (site_of w.plan w.here t) local place ≡ silently local = λ local agrees. asks_none (site_of w.plan w.here t) local place (sym (first_is w t local agrees) ∙ is) in
+-- whom it asks next is another
+asked_leads : (w : Tables) (t place : ℕ) (step : Site → Local → Doing) → t < length w.peers → ((local : Local) → Agrees w t local → (step (site_of w.plan w.here t) local).local ≡ record local { peer = place }) → Leads w t step (with_peer w t place)
+asked_leads w t place step within same = record {
+  plan = refl;
+  here = refl;
+  own = λ local agrees. subst (Agrees (with_peer w t place) t) (sym (same local agrees)) (record {
+    account = agrees.account;
+    copies = agrees.copies;
+    lacks = agrees.lacks;
+    joined = agrees.joined;
+    peer = get_or-set_same w.peers t place 0 within;
+    session_states = agrees.session_states;
+  });
+  others = λ u other local agrees. record {
+    account = agrees.account;
+    copies = agrees.copies;
+    lacks = agrees.lacks;
+    joined = agrees.joined;
+    peer = get_or-set_other w.peers t u place 0 other ∙ agrees.peer;
+    session_states = agrees.session_states;
+  };
+}
+
+pub none_asked : (w : Tables) (t lane place : ℕ) (out : Output) → t < length w.peers → first_in_lane (lacks_at w t) (account_at w.desk t).volumes lane ≡ None → GivesNothing out → Acts w t (λ site local. asks_peer site local lane place) out (with_peer w t place)
+none_asked w t lane place out within is none =
+    let same : (local : Local) → Agrees w t local → asks_peer (site_of w.plan w.here t) local lane place ≡ silently (record local { peer = place }) =
+    λ local agrees. asks_none (site_of w.plan w.here t) local lane place (sym (first_is w t lane local agrees) ∙ is) in
     record {
-      leads = same_leads w t (λ site local. asks_peer site local place) (λ local agrees. ap (λ (d : Doing). d.local) (same local agrees));
+      leads = asked_leads w t place (λ site local. asks_peer site local lane place) within (λ local agrees. ap (λ (d : Doing). d.local) (same local agrees));
       gives = λ local agrees. subst (λ (d : Doing). Gives t d out) (sym (same local agrees)) (record { answer = none.answer; letters = none.letters; transfer = none.transfer; fact = none.fact });
     }
 
@@ -295,33 +346,14 @@ pub record GivesTransfer (transfer : Code) (out : Output) : Type 0 where
   pub transfer_is : out.transfer ≡ Some transfer
   pub fact : out.fact ≡ None
 
-pub some_asked : (w : Tables) (t place : ℕ) (file : FileId) (out : Output) → t < length w.peers → file.tenant ≡ t → first_among (lacks_at w t) (account_at w.desk t).volumes ≡ Some (file_place file) → GivesTransfer (CodeWants (node_at (plan_in w.here.lost) place) file) out →
-    Acts w t (λ site local. asks_peer site local place) out (with_peer w t place)
-some_asked w t place file out within own is given =
-    let same : (local : Local) → Agrees w t local → asks_peer (site_of w.plan w.here t) local place ≡ record (silently (record local { peer = place })) { transfer = Some (Wants (node_at (plan_in w.here.lost) place) (file_place file)) } =
-    λ local agrees. asks_some (site_of w.plan w.here t) local place (file_place file) (sym (first_is w t local agrees) ∙ is) in
+pub some_asked : (w : Tables) (t lane place : ℕ) (file : FileId) (out : Output) → t < length w.peers → file.tenant ≡ t → first_in_lane (lacks_at w t) (account_at w.desk t).volumes lane ≡ Some (file_place file) →
+    GivesTransfer (CodeWants (node_at (plan_in w.here.lost) place) file) out → Acts w t (λ site local. asks_peer site local lane place) out (with_peer w t place)
+some_asked w t lane place file out within own is given =
+    let same : (local : Local) → Agrees w t local → asks_peer (site_of w.plan w.here t) local lane place ≡ record (silently (record local { peer = place })) { transfer = Some (Wants (node_at (plan_in w.here.lost) place) (file_place file)) } =
+    λ local agrees. asks_some (site_of w.plan w.here t) local lane place (file_place file) (sym (first_is w t lane local agrees) ∙ is) in
     let its : file ≡ file_of t (file_place file) = λ i. record { tenant = own i; volume = file.volume; file = file.file } in
     record {
-      leads = record {
-        plan = refl;
-        here = refl;
-        own = λ local agrees. subst (λ (d : Doing). Agrees (with_peer w t place) t d.local) (sym (same local agrees)) (record {
-          account = agrees.account;
-          copies = agrees.copies;
-          lacks = agrees.lacks;
-          joined = agrees.joined;
-          peer = get_or-set_same w.peers t place 0 within;
-          session_states = agrees.session_states;
-        });
-        others = λ u other local agrees. record {
-          account = agrees.account;
-          copies = agrees.copies;
-          lacks = agrees.lacks;
-          joined = agrees.joined;
-          peer = get_or-set_other w.peers t u place 0 other ∙ agrees.peer;
-          session_states = agrees.session_states;
-        };
-      };
+      leads = asked_leads w t place (λ site local. asks_peer site local lane place) within (λ local agrees. ap (λ (d : Doing). d.local) (same local agrees));
       gives = λ local agrees. subst (λ (d : Doing). Gives t d out) (sym (same local agrees)) (record {
         answer = given.answer;
         letters = given.letters;
@@ -353,19 +385,21 @@ same_acts w new t step other out same acts = record {
 
 -- ---- a tick, behind those of the sessions
 
-pub looks_not : (w : Tables) (t : ℕ) (out : Output) → ((u : ℕ) → all_joined (site_of w.plan w.here u) (servers w.joined) ≡ false) → GivesNothing out → Acts w t looks out w
-looks_not w t out not' none = quiet_acts w t looks out (λ local agrees. by local (ap (all_joined (site_of w.plan w.here t)) (sym agrees.joined) ∙ not' t)) none
+pub looks_not : (w : Tables) (t lane : ℕ) (out : Output) → ((u : ℕ) → all_joined (site_of w.plan w.here u) (servers w.joined) ≡ false) → GivesNothing out → Acts w t (looks lane) out w
+looks_not w t lane out not' none = quiet_acts w t (looks lane) out (λ local agrees. by local (ap (all_joined (site_of w.plan w.here t)) (sym agrees.joined) ∙ not' t)) none
   where
-    by : (local : Local) → all_joined (site_of w.plan w.here t) local.joined ≡ false → looks (site_of w.plan w.here t) local ≡ silently local
+    by : (local : Local) → all_joined (site_of w.plan w.here t) local.joined ≡ false → looks lane (site_of w.plan w.here t) local ≡ silently local
     by local is = rw is refl
 
-pub looks_on : (w new : Tables) (t place : ℕ) (out : Output) → ((u : ℕ) → all_joined (site_of w.plan w.here u) (servers w.joined) ≡ true) → ((u : ℕ) → place ≡ next_peer (site_of w.plan w.here u) (peer_at w t)) → Acts w t (λ site local. asks_peer site local place) out new → Acts w t looks out new
-looks_on w new t place out all next acts = same_acts w new t looks (λ site local. asks_peer site local place) out (λ local agrees. by local (ap (all_joined site) (sym agrees.joined) ∙ all t) ∙ ap (asks_peer site local) (ap (next_peer site) (sym agrees.peer) ∙ sym (next t))) acts
+pub looks_on : (w new : Tables) (t lane place : ℕ) (out : Output) → ((u : ℕ) → all_joined (site_of w.plan w.here u) (servers w.joined) ≡ true) → ((u : ℕ) → place ≡ peer_for (site_of w.plan w.here u) lane (peer_at w t)) →
+    Acts w t (λ site local. asks_peer site local lane place) out new → Acts w t (looks lane) out new
+looks_on w new t lane place out all next acts =
+    same_acts w new t (looks lane) (λ site local. asks_peer site local lane place) out (λ local agrees. by local (ap (all_joined site) (sym agrees.joined) ∙ all t) ∙ ap (asks_peer site local lane) (ap (peer_for site lane) (sym agrees.peer) ∙ sym (next t))) acts
   where
     site : Site
     site = site_of w.plan w.here t
 
-    by : (local : Local) → all_joined site local.joined ≡ true → looks site local ≡ asks_peer site local (next_peer site local.peer)
+    by : (local : Local) → all_joined site local.joined ≡ true → looks lane site local ≡ asks_peer site local lane (peer_for site lane local.peer)
     by local is = rw is refl
 
 -- ---- a peer asks for a file
@@ -426,19 +460,19 @@ takes_not w from file copy out not' none = quiet_acts w file.tenant (takes from 
     by local is = rw is refl
 
 -- the server has the file, and the next one is asked for
-pub takes_so : (w mid new : Tables) (from : ℕ) (file : FileId) (copy : StoredCopy) (asked out : Output) → takes_it w from file copy ≡ true → Leads w file.tenant (λ site local. silently (given_local (file_place file) copy local)) mid →
-    Acts mid file.tenant (λ site local. asks_peer site local (place_of from)) asked new → out.answer ≡ None → out.letters.items ≡ [] → out.transfer ≡ asked.transfer → out.fact ≡ Some (WasGiven file copy) → Acts w file.tenant (takes from (file_place file) copy) out new
-takes_so w mid new from file copy asked out is gets asks answer letters transfer fact = record {
+pub takes_so : (w mid new : Tables) (from lane : ℕ) (file : FileId) (copy : StoredCopy) (asked out : Output) → takes_it w from file copy ≡ true → lane ≡ lane_of (account_at w.desk file.tenant).volumes file.volume → Leads w file.tenant (λ site local. silently (given_local (file_place file) copy local)) mid →
+    Acts mid file.tenant (λ site local. asks_peer site local lane (place_of from)) asked new → out.answer ≡ None → out.letters.items ≡ [] → out.transfer ≡ asked.transfer → out.fact ≡ Some (WasGiven file copy) → Acts w file.tenant (takes from (file_place file) copy) out new
+takes_so w mid new from lane file copy asked out is lane_is gets asks answer letters transfer fact = record {
   leads = record {
     plan = asks.leads.plan ∙ gets.plan;
     here = asks.leads.here ∙ gets.here;
     own = λ local agrees.
         subst (λ (d : Doing). Agrees new t d.local) (sym (same local agrees))
-        (subst (λ (s : Site). Agrees new t (asks_peer s (after local) (place_of from)).local) site_is (asks.leads.own (after local) (gets.own local agrees)));
+        (subst (λ (s : Site). Agrees new t (asks_peer s (after local) lane (place_of from)).local) site_is (asks.leads.own (after local) (gets.own local agrees)));
     others = λ u other local agrees. asks.leads.others u other local (gets.others u other local agrees);
   };
   gives = λ local agrees.
-      let next : Gives t (asks_peer site (after local) (place_of from)) asked = subst (λ (s : Site). Gives t (asks_peer s (after local) (place_of from)) asked) site_is (asks.gives (after local) (gets.own local agrees)) in
+      let next : Gives t (asks_peer site (after local) lane (place_of from)) asked = subst (λ (s : Site). Gives t (asks_peer s (after local) lane (place_of from)) asked) site_is (asks.gives (after local) (gets.own local agrees)) in
       subst (λ (d : Doing). Gives t d out) (sym (same local agrees)) (record {
         answer = answer ∙ sym (asked_quiet (after local)).0;
         letters = letters ∙ sym (ap (map (message_of t)) (asked_quiet (after local)).1);
@@ -459,19 +493,22 @@ takes_so w mid new from file copy asked out is gets asks answer letters transfer
     site_is : site_of mid.plan mid.here t ≡ site
     site_is = ap (λ p. site_of p mid.here t) gets.plan ∙ ap (λ x. site_of w.plan x t) gets.here
 
-    asked_quiet : (local : Local) → ((asks_peer site local (place_of from)).answer ≡ None) × ((asks_peer site local (place_of from)).letters ≡ [])
-    asked_quiet local = by (first_lacked local) refl
+    asked_quiet : (local : Local) → ((asks_peer site local lane (place_of from)).answer ≡ None) × ((asks_peer site local lane (place_of from)).letters ≡ [])
+    asked_quiet local = by (first_lacked local lane) refl
       where
-        by : (o : Option File) → first_lacked local ≡ o → ((asks_peer site local (place_of from)).answer ≡ None) × ((asks_peer site local (place_of from)).letters ≡ [])
+        by : (o : Option File) → first_lacked local lane ≡ o → ((asks_peer site local lane (place_of from)).answer ≡ None) × ((asks_peer site local lane (place_of from)).letters ≡ [])
         by None is = rw is (refl, refl)
         by (Some f) is = rw is (refl, refl)
 
     by : (local : Local) → (is_peer site from && local.lacks (file_place file) && file_fits (limit_at (state_of everyone local) file.volume file.file) (Store copy)) ≡ true →
-        takes from (file_place file) copy site local ≡ record (asks_peer site (after local) (place_of from)) { fact = Some (Had (file_place file) copy) }
+        takes from (file_place file) copy site local ≡ record (asks_peer site (after local) (lane_of local.volumes file.volume) (place_of from)) { fact = Some (Had (file_place file) copy) }
     by local is = rw is refl
 
-    same : (local : Local) → Agrees w t local → takes from (file_place file) copy site local ≡ record (asks_peer site (after local) (place_of from)) { fact = Some (Had (file_place file) copy) }
-    same local agrees = by local (taken_by w from file copy local agrees true is)
+    own_lane : (local : Local) → Agrees w t local → lane_of local.volumes file.volume ≡ lane
+    own_lane local agrees = sym (lane_is ∙ ap (λ (a : Account). lane_of a.volumes file.volume) agrees.account)
+
+    same : (local : Local) → Agrees w t local → takes from (file_place file) copy site local ≡ record (asks_peer site (after local) lane (place_of from)) { fact = Some (Had (file_place file) copy) }
+    same local agrees = by local (taken_by w from file copy local agrees true is) ∙ ap (λ n. record (asks_peer site (after local) n (place_of from)) { fact = Some (Had (file_place file) copy) }) (own_lane local agrees)
 
 -- ---- another node joins
 

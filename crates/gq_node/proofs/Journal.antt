@@ -22,9 +22,10 @@ use Rattle.gq_laws.proofs.OperationMoments.{same_file}
 use Rattle.gq_node.specs.declared.output.Admission.{Admission}
 use Rattle.gq_node.specs.declared.output.Admission.TheVariants.{Tells, Passes, Goes}
 use Rattle.gq_cluster.specs.Facts.{OwnFact, Begun, Numbered, Kept, Had, Reserved, greatest_op, greatest_number, last_of_run, reserving, reserved_by}
+use Rattle.gq_node.specs.Lanes.{lane_of}
 use Rattle.gq_node.specs.Local.{Local, Resident, Doing, part_in, state_of, state_for, state_behind, aim_at, tries_next, asker, begins, admission_in, asks, asked_by, goes_on, answer_of, with_resident, receives, serves, hears, brings, ticks, waits_on, letter_fits, file_fits, has_above, of_round, fits_local, given, recalls, recalled, rested}
 use Rattle.gq_node.specs.Inputs.{Input, Asked, AskedPlan, Brought, Shortened, Ticked, Looked, Joined, Fetching, Fetched, does}
-use Rattle.gq_node.specs.Joining.{hears_joined, all_joined, next_peer, first_lacked, asks_peer, looks, is_peer, has_file, gives, takes}
+use Rattle.gq_node.specs.Joining.{hears_joined, all_joined, peer_for, first_lacked, asks_peer, looks, is_peer, has_file, gives, takes}
 use Rattle.gq_node.specs.Resting.{IsBare}
 use Rattle.gq_node.specs.Shorts.{OwnShort, letter_with, takes_short}
 use Rattle.gq_node.specs.Sites.{Site, has_session, is_new, has_node}
@@ -310,22 +311,22 @@ joined_keeps from losses site local = by (is_new site && has_node site from && l
     by true is = rw is refl
     by false is = rw is refl
 
-pub asked_peer : (site : Site) (local : Local) (place : ℕ) → (part_in (asks_peer site local place).local ≡ part_in local) × ((asks_peer site local place).fact ≡ None)
-asked_peer site local place = by (first_lacked local) refl
+pub asked_peer : (site : Site) (local : Local) (lane place : ℕ) → (part_in (asks_peer site local lane place).local ≡ part_in local) × ((asks_peer site local lane place).fact ≡ None)
+asked_peer site local lane place = by (first_lacked local lane) refl
   where
-    by : (o : Option File) → first_lacked local ≡ o → (part_in (asks_peer site local place).local ≡ part_in local) × ((asks_peer site local place).fact ≡ None)
+    by : (o : Option File) → first_lacked local lane ≡ o → (part_in (asks_peer site local lane place).local ≡ part_in local) × ((asks_peer site local lane place).fact ≡ None)
     by None is = rw is (refl, refl)
     by (Some file) is = rw is (refl, refl)
 
-looks_keep : (site : Site) (local : Local) → Keeps site local (looks site local)
-looks_keep site local = by (all_joined site local.joined) refl
+looks_keep : (lane : ℕ) (site : Site) (local : Local) → Keeps site local (looks lane site local)
+looks_keep lane site local = by (all_joined site local.joined) refl
   where
-    by : (b : Bool) → all_joined site local.joined ≡ b → Keeps site local (looks site local)
+    by : (b : Bool) → all_joined site local.joined ≡ b → Keeps site local (looks lane site local)
     by true is =
-        let same : looks site local ≡ asks_peer site local (next_peer site local.peer) = rw is refl in
-        let asked = asked_peer site local (next_peer site local.peer) in
+        let same : looks lane site local ≡ asks_peer site local lane (peer_for site lane local.peer) = rw is refl in
+        let asked = asked_peer site local lane (peer_for site lane local.peer) in
         let P : Option OwnFact → Part → Type 0 = λ fact part. KeepsBy site local fact part in
-        subst (Keeps site local) (sym same) (subst (λ x. P x (part_in (asks_peer site local (next_peer site local.peer)).local)) (sym asked.1) (subst (P None) (sym asked.0) refl))
+        subst (Keeps site local) (sym same) (subst (λ x. P x (part_in (asks_peer site local lane (peer_for site lane local.peer)).local)) (sym asked.1) (subst (P None) (sym asked.0) refl))
     by false is = rw is refl
 
 gives_keep : (from : ℕ) (file : File) (site : Site) (local : Local) → Keeps site local (gives from file site local)
@@ -362,8 +363,8 @@ takes_keep from file copy site local bare = by fits refl
     by true is =
         let parts = and_parts (is_peer site from && local.lacks file) (file_fits (limit_at (state_of everyone local) file.volume file.place) (Store copy)) is in
         let lacks : local.lacks file ≡ true = (and_parts (is_peer site from) (local.lacks file) parts.0).1 in
-        let asked = asked_peer site (given file copy local) (place_of from) in
-        let same : takes from file copy site local ≡ record (asks_peer site (given file copy local) (place_of from)) { fact = Some (Had file copy) } = rw is refl in
+        let asked = asked_peer site (given file copy local) (lane_of local.volumes file.volume) (place_of from) in
+        let same : takes from file copy site local ≡ record (asks_peer site (given file copy local) (lane_of local.volumes file.volume) (place_of from)) { fact = Some (Had file copy) } = rw is refl in
         subst (Keeps site local) (sym same)
         (ap files_of_part asked.0 ∙ given_files local file copy (bare file lacks), (parts.1, bare file lacks))
 
@@ -375,7 +376,7 @@ does_keep AskedPlan site local bare = refl
 does_keep (Brought from letter) site local bare = all_letters_keep from letter site local
 does_keep (Shortened from short bytes) site local bare = shorts_keep from short bytes site local
 does_keep (Ticked session) site local bare = all_ticks_keep session site local
-does_keep Looked site local bare = looks_keep site local
+does_keep (Looked lane) site local bare = looks_keep lane site local
 does_keep (Joined from losses) site local bare = joined_keeps from losses site local
 does_keep (Fetching from file) site local bare = gives_keep from file site local
 does_keep (Fetched from file copy) site local bare = takes_keep from file copy site local bare

@@ -12,6 +12,7 @@ use Rattle.gq_model.specs.declared.events.Refusal.TheVariants.{NoSession, Busy, 
 use Rattle.gq_model.specs.Trace.{files_of}
 use Rattle.gq_model.specs.Lone.{Cause, first_cause}
 use Rattle.gq_node.specs.Asking.{volume_causes}
+use Rattle.gq_node.specs.Lanes.{blocks_of}
 use Rattle.gq_node.specs.Sites.{site_of, has_session}
 use Rattle.gq_node.specs.Tables.{Tables, session_state_at}
 use Rattle.gq_node.proofs.Placing.{in_range}
@@ -36,6 +37,12 @@ pub files_at : (volumes : List VolumeRow) (v : ℕ) (none : VolumeRow) → v < l
 files_at [] v none within = absurd (omega arith)
 files_at (x ∷ xs) zero none within = refl
 files_at (x ∷ xs) (suc v) none within = files_at xs v none (omega arith)
+
+-- and the blocks
+pub blocks_at : (volumes : List VolumeRow) (v : ℕ) (none : VolumeRow) → v < length volumes → (slice_index_or volumes v none).blocks ≡ blocks_of volumes v
+blocks_at [] v none within = absurd (omega arith)
+blocks_at (x ∷ xs) zero none within = refl
+blocks_at (x ∷ xs) (suc v) none within = blocks_at xs v none (omega arith)
 
 -- each volume has a file, and no more than it may
 pub sized_files : (most : ℕ) (volumes : List VolumeRow) (v : ℕ) → list_all (is_sized most) volumes ≡ true → v < length volumes → (1 ≤ files_of volumes v) × (files_of volumes v ≤ MOST_FILES)

@@ -27,7 +27,8 @@ use Rattle.gq_node.specs.declared.output.Admission.{Admission}
 use Rattle.gq_node.specs.declared.output.Admission.TheVariants.{Tells, Passes, Goes}
 use Rattle.gq_node.specs.Again.{told_at_home, told_again, AllToldAgain, session_in, number_in, TellsEnd}
 use Rattle.gq_node.specs.Inputs.{Input, Asked, AskedPlan, Brought, Shortened, Ticked, Looked, Joined, Fetching, Fetched, does}
-use Rattle.gq_node.specs.Joining.{hears_joined, all_joined, next_peer, first_lacked, asks_peer, looks, is_peer, has_file, gives, takes}
+use Rattle.gq_node.specs.Joining.{hears_joined, all_joined, peer_for, first_lacked, asks_peer, looks, is_peer, has_file, gives, takes}
+use Rattle.gq_node.specs.Lanes.{lane_of}
 use Rattle.gq_node.specs.Local.{Local, Resident, Doing, Brings, given, file_fits, part_in, silently, state_of, state_for, state_behind, aim_at, with_resident, tries_next, asker, begins, ended, again, own_admission, admission, admission_in, asks, asks_in, asked_by, goes_on, answer_of, refused_with, outcome_after, receives, at_server, serves, hears, brings, ticks, waits_on, letter_fits, has_above, of_round}
 use Rattle.gq_node.specs.Once.{begun_by}
 use Rattle.gq_node.specs.Shorts.{OwnShort, letter_with, takes_short}
@@ -716,20 +717,20 @@ ticks_move k site local = elim (cases_Bool (is_some (local.residents k).session.
 
 -- ---- what a new node asks for and is given
 
-pub asks_quiet : (site : Site) (local : Local) (place : ℕ) → ((asks_peer site local place).local.residents ≡ local.residents) × ((asks_peer site local place).answer ≡ None)
-asks_quiet site local place = by (first_lacked local) refl
+pub asks_quiet : (site : Site) (local : Local) (lane place : ℕ) → ((asks_peer site local lane place).local.residents ≡ local.residents) × ((asks_peer site local lane place).answer ≡ None)
+asks_quiet site local lane place = by (first_lacked local lane) refl
   where
-    by : (o : Option File) → first_lacked local ≡ o → ((asks_peer site local place).local.residents ≡ local.residents) × ((asks_peer site local place).answer ≡ None)
+    by : (o : Option File) → first_lacked local lane ≡ o → ((asks_peer site local lane place).local.residents ≡ local.residents) × ((asks_peer site local lane place).answer ≡ None)
     by None is = rw is (refl, refl)
     by (Some file) is = rw is (refl, refl)
 
-looks_move : (site : Site) (local : Local) → Moves site local (looks site local)
-looks_move site local = elim (cases_Bool (all_joined site local.joined)) [
-  | inr not' ↦ (let e : looks site local ≡ silently local = rw not' refl in subst (Moves site local) (sym e) (Stays (quiet site local (silently local) refl refl)))
+looks_move : (lane : ℕ) (site : Site) (local : Local) → Moves site local (looks lane site local)
+looks_move lane site local = elim (cases_Bool (all_joined site local.joined)) [
+  | inr not' ↦ (let e : looks lane site local ≡ silently local = rw not' refl in subst (Moves site local) (sym e) (Stays (quiet site local (silently local) refl refl)))
   | inl all ↦ (
-      let place : ℕ = next_peer site local.peer in
-      let e : looks site local ≡ asks_peer site local place = rw all refl in
-      subst (Moves site local) (sym e) (Stays (quiet site local (asks_peer site local place) (asks_quiet site local place).0 (asks_quiet site local place).1)))
+      let place : ℕ = peer_for site lane local.peer in
+      let e : looks lane site local ≡ asks_peer site local lane place = rw all refl in
+      subst (Moves site local) (sym e) (Stays (quiet site local (asks_peer site local lane place) (asks_quiet site local lane place).0 (asks_quiet site local lane place).1)))
 ]
 
 joins_move : (from losses : ℕ) (site : Site) (local : Local) → Moves site local (hears_joined from losses site local)
@@ -750,11 +751,11 @@ takes_move : (from : ℕ) (file : File) (copy : StoredCopy) (site : Site) (local
 takes_move from file copy site local = by (is_peer site from && local.lacks file && file_fits (limit_at (state_of everyone local) file.volume file.place) (Store copy)) refl
   where
     asked : Doing
-    asked = asks_peer site (given file copy local) (place_of from)
+    asked = asks_peer site (given file copy local) (lane_of local.volumes file.volume) (place_of from)
 
     by : (b : Bool) → (is_peer site from && local.lacks file && file_fits (limit_at (state_of everyone local) file.volume file.place) (Store copy)) ≡ b → Moves site local (takes from file copy site local)
     by true is =
-        let q = asks_quiet site (given file copy local) (place_of from) in
+        let q = asks_quiet site (given file copy local) (lane_of local.volumes file.volume) (place_of from) in
         let e : takes from file copy site local ≡ record asked { fact = Some (Had file copy) } = rw is refl in
         subst (Moves site local) (sym e) (Stays (quiet site local (record asked { fact = Some (Had file copy) }) q.0 q.1))
     by false is = rw is (Stays (quiet site local (silently local) refl refl))
@@ -765,7 +766,7 @@ all_move AskedPlan site local = Stays (says site local (does AskedPlan site loca
 all_move (Brought from letter) site local = letters_move from letter site local
 all_move (Shortened from short bytes) site local = shorts_move from short bytes site local
 all_move (Ticked session) site local = ticks_move session site local
-all_move Looked site local = looks_move site local
+all_move (Looked lane) site local = looks_move lane site local
 all_move (Joined from losses) site local = joins_move from losses site local
 all_move (Fetching from file) site local = gives_move from file site local
 all_move (Fetched from file copy) site local = takes_move from file copy site local

@@ -136,7 +136,7 @@ losses = Started 0 0
     ∷ letter 64 64 17 1 0 Ask
     ∷ AskedToJoin 1 64 1
     ∷ Came 64 (Joined 1 1)
-    ∷ Came 64 Looked
+    ∷ Came 64 (Looked 0)
     ∷ Came 1 (Fetching 64 file)
     ∷ Came 64 (Fetched 1 file written)
     ∷ letter 64 64 17 1 0 Ask

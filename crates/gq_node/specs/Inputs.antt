@@ -19,8 +19,8 @@ pub data Input : Type 0 where
   Shortened : (from : ℕ) (short : OwnShort) (bytes : List ℕ) → Input
   -- a tick for this session
   Ticked : (session : ℕ) → Input
-  -- a tick, behind those of the sessions
-  Looked : Input
+  -- a tick for this lane, behind those of the sessions
+  Looked : (lane : ℕ) → Input
   -- that node tells that its plan has this one, and so many losses
   Joined : (from losses : ℕ) → Input
   -- that node asks for this one's copy of the file
@@ -35,7 +35,7 @@ does AskedPlan site local = tells_holding site local
 does (Brought from letter) site local = receives from letter site local
 does (Shortened from short bytes) site local = (takes_short from short bytes site local).doing
 does (Ticked session) site local = ticks session site local
-does Looked site local = looks site local
+does (Looked lane) site local = looks lane site local
 does (Joined from losses) site local = hears_joined from losses site local
 does (Fetching from file) site local = gives from file site local
 does (Fetched from file copy) site local = takes from file copy site local

@@ -14,6 +14,7 @@ use Rattle.gq_model.specs.Trace.{files_of, limit_at}
 use Rattle.gq_cluster.specs.Cluster.{everyone, copy_in}
 use Rattle.gq_cluster.specs.Facts.{Had}
 use Rattle.gq_replace.specs.Plans.{place_of}
+use Rattle.gq_node.specs.Lanes.{lane_of, lacks_of_lane}
 use Rattle.gq_node.specs.Local.{Local, Doing, Wants, Brings, part_in, state_of, silently, given, file_fits}
 use Rattle.gq_node.specs.Sites.{Site, is_new, has_node, places_of, nodes_from}
 
@@ -52,8 +53,12 @@ all_files volumes = flat_map (λ v. files_in_volume v (files_of volumes v)) (ran
 abbrev pub first_among : (lacks : File → Bool) → List VolumeRow → Option File
 first_among lacks volumes = find lacks (all_files volumes)
 
-abbrev pub first_lacked : Local → Option File
-first_lacked local = first_among local.lacks local.volumes
+-- the first file of the lane that it lacks
+abbrev pub first_in_lane : (lacks : File → Bool) → List VolumeRow → (lane : ℕ) → Option File
+first_in_lane lacks volumes lane = first_among (lacks_of_lane lacks volumes lane) volumes
+
+abbrev pub first_lacked : Local → (lane : ℕ) → Option File
+first_lacked local lane = first_in_lane local.lacks local.volumes lane
 
 -- the place below that one in its column, and above all others behind the last; and the next one that is not the node's own
 abbrev pub below_in_column : Grid → ℕ → ℕ
@@ -63,21 +68,25 @@ abbrev pub next_peer : Site → ℕ → ℕ
 next_peer site place =
     if below_in_column site.grid place == site.place then below_in_column site.grid site.place else below_in_column site.grid place
 
--- it asks the node at that place for the first file
-abbrev pub asks_peer : Site → Local → (place : ℕ) → Doing
-asks_peer site local place = by (first_lacked local)
+-- it asks the node at that place for the first file of the lane
+abbrev pub asks_peer : Site → Local → (lane place : ℕ) → Doing
+asks_peer site local lane place = by (first_lacked local lane)
   where
     by : Option File → Doing
-    by None = silently local
+    by None = silently (record local { peer = place })
     by (Some file) = record (silently (record local { peer = place })) { transfer = Some (Wants (site.node_at place) file) }
 
--- at a tick, once all have joined, the next one
-abbrev pub looks : Site → Local → Doing
-looks site local = by (all_joined site local.joined)
+-- whom it asks at a tick for a file of the lane: at the first lane the next one, and then that one for all others
+abbrev pub peer_for : Site → (lane place : ℕ) → ℕ
+peer_for site lane place = if lane == 0 then next_peer site place else place
+
+-- at a tick, once all have joined
+abbrev pub looks : (lane : ℕ) → Site → Local → Doing
+looks lane site local = by (all_joined site local.joined)
   where
     by : Bool → Doing
     by false = silently local
-    by true = asks_peer site local (next_peer site local.peer)
+    by true = asks_peer site local lane (peer_for site lane local.peer)
 
 -- ---- what it is given
 
@@ -97,13 +106,13 @@ gives from file site local = by (is_peer site from && has_file local file)
     by false = silently local
     by true = record (silently local) { transfer = Some (Brings from file (copy_in (part_in local) file)) }
 
--- a node of the column gives its own of a file that this one lacks; the next file is asked of it at once
+-- a node of the column gives its own of a file that this one lacks; the next file of the lane is asked of it at once
 abbrev pub takes : (from : ℕ) → File → StoredCopy → Site → Local → Doing
 takes from file copy site local = by (is_peer site from && local.lacks file && file_fits (limit_at (state_of everyone local) file.volume file.place) (Store copy))
   where
     by : Bool → Doing
     by false = silently local
-    by true = record (asks_peer site (given file copy local) (place_of from)) { fact = Some (Had file copy) }
+    by true = record (asks_peer site (given file copy local) (lane_of local.volumes file.volume) (place_of from)) { fact = Some (Had file copy) }
 
 -- ---- how much it lacks
 

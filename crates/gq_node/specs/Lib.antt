@@ -11,6 +11,7 @@ pub mod Heard
 pub mod Inputs
 pub mod Joining
 pub mod Lacks
+pub mod Lanes
 pub mod Local
 pub mod Lost
 pub mod Needing

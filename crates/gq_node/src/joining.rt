@@ -9,12 +9,13 @@ ghost use Rattle.gq_grid.specs.Sets.{servers};
 ghost use Rattle.gq_desk.specs.Volumes.{account_at, limit_of};
 ghost use Rattle.gq_desk.specs.declared.limits.TheConstants.{MOST_VOLUMES};
 ghost use Rattle.gq_replace.specs.Plans.{place_of};
-ghost use Rattle.gq_node.specs.Joining.{is_peer, hears_joined, all_joined, tells_joined, awaited, lacked_files, below_in_column, next_peer, files_in_volume, first_among, asks_peer, looks, gives, takes};
+ghost use Rattle.gq_node.specs.Joining.{is_peer, hears_joined, all_joined, tells_joined, awaited, lacked_files, below_in_column, next_peer, files_in_volume, first_among, first_in_lane, peer_for, asks_peer, looks, gives, takes};
 ghost use Rattle.gq_desk.specs.CheckedPlan.{row_at};
+ghost use Rattle.gq_node.specs.Lanes.{lacks_of_lane};
 ghost use Rattle.gq_node.specs.Local.{new_local, silently, given, file_fits};
 ghost use Rattle.gq_node.specs.Opening.{lost_local, Loses, Reserves, Bereaves};
 ghost use Rattle.gq_node.specs.Sites.{site_of, is_new, has_node, nodes_from};
-ghost use Rattle.gq_node.specs.Tables.{Acts, Agrees, Leads, LeadsAll, is_new_node, lacks_at, has_joined};
+ghost use Rattle.gq_node.specs.Tables.{Acts, Agrees, Leads, LeadsAll, is_new_node, lacks_at, peer_at, has_joined};
 ghost use Rattle.gq_node.specs.Deciding.{joins_it, gives_it, takes_it, nodes_of_turn};
 ghost use Rattle.gq_model.specs.Trace.{files_of};
 ghost use Rattle.gq_tag.specs.declared.Body.{Body};
@@ -195,6 +196,35 @@ impl Core {
         None
     }
 
+    // The first file of the volume that the server lacks, if the volume's files have that lane.
+    fn first_of(&self, tenant: u8, volume: u32, lane: u32) -> Option<FileId>
+        requires tenant { tenant < length self.now.plan.rows }
+        requires volume { volume < length (account_at self.now.desk tenant).volumes }
+        ensures first { option_map file_place result ≡ find (lacks_of_lane (lacks_at self.now tenant) (account_at self.now.desk tenant).volumes lane) (files_in_volume volume (files_of (account_at self.now.desk tenant).volumes volume)) }
+        ensures tenant { IfSome result (λ file. file.tenant ≡ tenant) }
+    {
+        if self.lane(tenant, volume) != lane {
+            return None;
+        }
+        self.first_in(tenant, volume)
+    }
+
+    // The first file of the lane that the server lacks.
+    fn first_in_lane(&self, tenant: u8, lane: u32) -> Option<FileId>
+        requires { tenant < length self.now.plan.rows }
+        ensures first { option_map file_place result ≡ first_in_lane (lacks_at self.now tenant) (account_at self.now.desk tenant).volumes lane }
+        ensures tenant { IfSome result (λ file. file.tenant ≡ tenant) }
+    {
+        let count = self.count_volumes(tenant);
+        let whole = self.lacks[usize::from(tenant)].first();
+        for volume in whole..count {
+            if let Some(file) = self.first_of(tenant, volume as u32, lane) {
+                return Some(file);
+            }
+        }
+        None
+    }
+
     // How many files of the volume the server lacks.
     fn lacked_in(&self, tenant: u8, volume: u32) -> usize
         requires tenant { tenant < length self.now.plan.rows }
@@ -267,31 +297,45 @@ impl Core {
         }
     }
 
-    // Asks the node at that place for the first file of the tenant that the server lacks.
-    fn ask(&mut self, tenant: u8, place: usize) -> Output
+    // Asks the node at that place for the first file of the lane that the server lacks.
+    fn ask(&mut self, tenant: u8, lane: u32, place: usize) -> Output
         requires tenant { tenant < length self.old.plan.rows }
         requires place { place < self.old.plan.grid.rows * self.old.plan.grid.cols }
-        ensures { Acts self.old tenant (λ site local. asks_peer site local place) result self.new }
+        ensures { Acts self.old tenant (λ site local. asks_peer site local lane place) result self.new }
     {
-        let Some(file) = self.first_lacked(tenant) else {
+        let first = self.first_in_lane(tenant, lane);
+        self.peers[usize::from(tenant)] = place as u8;
+        let Some(file) = first else {
             return Output::nothing(self.alloc);
         };
-        self.peers[usize::from(tenant)] = place as u8;
         let to = self.lost.node_at(place);
         Output::sent(self.alloc, Transfer::Wants { to, file })
     }
 
+    // The place whose node is asked at a tick for a file of the lane.
+    fn peer_for(&self, tenant: u8, lane: u32) -> usize
+        requires { tenant < length self.now.plan.rows }
+        ensures peer { (t : ℕ) → result ≡ peer_for (site_of self.now.plan self.now.here t) lane (peer_at self.now tenant) }
+        ensures within { result < self.now.plan.grid.rows * self.now.plan.grid.cols }
+    {
+        let last = usize::from(self.peers[usize::from(tenant)]);
+        if lane == 0 {
+            self.next_peer(last)
+        } else {
+            last
+        }
+    }
+
     // A tick, behind those of the sessions.
-    pub(crate) fn look(&mut self, tenant: u8) -> Output
+    pub(crate) fn look(&mut self, tenant: u8, lane: u32) -> Output
         requires { tenant < length self.old.plan.rows }
-        ensures { Acts self.old tenant looks result self.new }
+        ensures { Acts self.old tenant (looks lane) result self.new }
     {
         if !self.all_joined() {
             return Output::nothing(self.alloc);
         }
-        let last = usize::from(self.peers[usize::from(tenant)]);
-        let place = self.next_peer(last);
-        self.ask(tenant, place)
+        let place = self.peer_for(tenant, lane);
+        self.ask(tenant, lane, place)
     }
 
     // Whether this node gives that one its copy of the file.
@@ -366,8 +410,9 @@ impl Core {
         if !self.takes(from, file, &copy) {
             return Output::nothing(self.alloc);
         }
+        let lane = self.lane(file.tenant, file.volume);
         self.has_now(file, &copy);
-        let asked = self.ask(file.tenant, usize::from(place_of(from)));
+        let asked = self.ask(file.tenant, lane, usize::from(place_of(from)));
         Output {
             answer: None,
             letters: Vec::new(self.alloc),

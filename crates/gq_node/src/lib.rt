@@ -8,6 +8,7 @@ mod facts;
 mod homes;
 mod joining;
 mod lacks;
+mod lanes;
 pub mod laws;
 mod letters;
 mod lost;
@@ -19,6 +20,7 @@ mod shorts;
 mod tables;
 
 pub use gq_model::{Line, Refusal};
+pub use lanes::LANES;
 pub use lost::{Lost, LostRefused, MOST_NUMBERS, MOST_TIMES, NODE_NUMBERS};
 pub use node::{Ended, Node};
 pub use output::{Answer, Fact, Holding, NeedRefused, NodeNumbers, Output, Transfer};

@@ -336,11 +336,12 @@ impl Node {
         self.tables.lacked(tenant)
     }
 
-    /// Takes a tick behind those of the tenant's sessions: once all other nodes have joined, the first file of the tenant
-    /// that the server lacks is asked of the next node of its column.
-    pub fn look(&mut self, tenant: u8) -> Result<Output, Ended>
+    /// Takes a tick for the lane, behind those of the tenant's sessions. Once all other nodes have joined, the first file of the lane that
+    /// the server lacks is asked of a node of its column: at lane 0 of the next one, and at any other of that one again. A tick of the node is
+    /// one for each lane, in order.
+    pub fn look(&mut self, tenant: u8, lane: u32) -> Result<Output, Ended>
         requires { tenant < length self.old.tables.plan.rows }
-        ensures acts { IfOk result (λ out. Acts self.old.tables tenant looks out self.new.tables) }
+        ensures acts { IfOk result (λ out. Acts self.old.tables tenant (looks lane) out self.new.tables) }
         ensures ended { OnErr result (self.new.ended ≡ true) }
         ensures after { self.old.ended ≡ true → IsErr result }
         ensures still { self.old.ended ≡ true → self.new ≡ self.old }
@@ -349,7 +350,7 @@ impl Node {
         if let Some(refused) = &self.ended {
             return Err(Ended(refused.again()));
         }
-        Ok(self.tables.look(tenant))
+        Ok(self.tables.look(tenant, lane))
     }
 
     /// Takes a question of the node of that number for this one's copy of the file. It is given where that is a node of
@@ -376,7 +377,7 @@ impl Node {
     }
 
     /// Takes the copy of the file that the node of that number gives. The server has it from then on, where it lacked the
-    /// file and that is a node of its column, and the next file that it lacks is asked of that node at once.
+    /// file and that is a node of its column, and the next file of the same lane that it lacks is asked of that node at once.
     pub fn fetched(&mut self, from: u16, file: FileId, copy: StoredCopy) -> Result<Output, Ended>
         requires { file.tenant < length self.old.tables.plan.rows }
         ensures acts { IfOk result (λ out. Acts self.old.tables file.tenant (takes from (file_place file) copy) out self.new.tables) }

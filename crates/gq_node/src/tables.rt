@@ -5,6 +5,7 @@ ghost use Rattle.gq_tag.specs.declared.TheConstants.{MOST_FILES};
 ghost use Rattle.gq_desk.specs.CheckedPlan.{row_at};
 ghost use Rattle.gq_desk.specs.Volumes.{IsRefusedFor, open_fault, account_at};
 ghost use Rattle.gq_model.specs.Trace.{files_of};
+ghost use Rattle.gq_node.specs.Lanes.{lane_of};
 ghost use Rattle.gq_node.specs.Local.{holding, tells_holding};
 ghost use Rattle.gq_node.specs.Bounds.{IsBounded, content_bytes};
 ghost use Rattle.gq_node.specs.Shape.{FewSessions, IsShaped, IsFirst};
@@ -16,6 +17,7 @@ ghost use Rattle.gq_node.specs.Opening.{Opens};
 
 use crate::homes::{generation, home_place, session_state_place};
 use crate::lacks::Lacks;
+use crate::lanes::lanes_for;
 use crate::lost::{Lost, MOST_NUMBERS};
 use crate::output::{Answer, Holding, NodeNumbers, Output};
 use crate::session_states::SessionStates;
@@ -241,6 +243,16 @@ impl Core {
         ensures bound { result ≤ MOST_FILES }
     {
         self.desk.volumes(tenant)[volume as usize].files
+    }
+
+    // The lane of the volume's files.
+    pub(crate) fn lane(&self, tenant: u8, volume: u32) -> u32
+        requires tenant { tenant < length self.now.plan.rows }
+        requires volume { volume < length (account_at self.now.desk tenant).volumes }
+        ensures { result ≡ lane_of (account_at self.now.desk tenant).volumes volume }
+    {
+        let row = self.desk.volumes(tenant)[volume as usize];
+        volume % lanes_for(row.blocks)
     }
 
     // What the tenant has.

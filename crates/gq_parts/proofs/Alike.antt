@@ -22,8 +22,9 @@ use Rattle.gq_replace.specs.Plans.{place_of}
 use Rattle.gq_node.specs.declared.output.Answer.{Answer}
 use Rattle.gq_node.specs.declared.output.Answer.TheVariants.{Refused as IsRefused, Away, Old, Early, Bad as IsBad}
 use Rattle.gq_model.specs.declared.events.Refusal.TheVariants.{NoSession}
-use Rattle.gq_node.specs.Joining.{all_files, files_in_volume, lacked_files, hears_joined, all_joined, first_lacked, next_peer, asks_peer, looks, is_peer, has_file, gives, takes}
+use Rattle.gq_node.specs.Joining.{all_files, files_in_volume, lacked_files, hears_joined, all_joined, first_lacked, peer_for, asks_peer, looks, is_peer, has_file, gives, takes}
 use Rattle.gq_node.specs.Columns.{column_behind, stays_after}
+use Rattle.gq_node.specs.Lanes.{lane_of, lacks_of_lane}
 use Rattle.gq_node.specs.Local.{Local, Resident, Doing, Wants, Brings, part_in, state_of, state_for, state_behind, aim_at, tries_next, with_resident, silently, tells, answer_of, outcome_after, waits_after, goes_on, asker, begins, ended, asked_by, asks, letter_fits, file_fits, has_above, of_round, brings, serves, hears, receives, waits_on, ticks, with_copy, given}
 use Rattle.gq_node.specs.Sites.{Site, has_session, is_new, has_node, aim}
 use Rattle.gq_node.proofs.Receiving.{Parts, parts, session_here, to_a_session, to_the_server, has_it, lacks_it}
@@ -457,8 +458,15 @@ unfolding SaySame
 counted_same p q [] n same = refl
 counted_same p q (f ∷ files) n same = ap (λ b. fold (λ n f. n + cond (p f) 1 0) (n + cond b 1 0) files) same.0 ∙ counted_same p q files (n + cond (q f) 1 0) same.1
 
-first_same : (site : Site) (a b : Local) → AreAlike site a b → first_lacked a ≡ first_lacked b
-first_same site a b alike = ap (λ (vs : List VolumeRow). find a.lacks (all_files vs)) alike.volumes ∙ found_same a.lacks b.lacks (all_files b.volumes) (lack_same site a b alike)
+lanes_same : (p q : File → Bool) (volumes : List VolumeRow) (lane : ℕ) (files : List File) → SaySame p q files → SaySame (lacks_of_lane p volumes lane) (lacks_of_lane q volumes lane) files
+unfolding SaySame
+lanes_same p q volumes lane [] same = tt
+lanes_same p q volumes lane (f ∷ files) same = (ap (λ b. b && lane_of volumes f.volume == lane) same.0, lanes_same p q volumes lane files same.1)
+
+first_same : (site : Site) (a b : Local) (lane : ℕ) → AreAlike site a b → first_lacked a lane ≡ first_lacked b lane
+first_same site a b lane alike =
+    ap (λ (vs : List VolumeRow). find (lacks_of_lane a.lacks vs lane) (all_files vs)) alike.volumes
+    ∙ found_same (lacks_of_lane a.lacks b.volumes lane) (lacks_of_lane b.lacks b.volumes lane) (all_files b.volumes) (lanes_same a.lacks b.lacks b.volumes lane (all_files b.volumes) (lack_same site a b alike))
 
 -- as many are lacked in the one as in the other
 pub lacked_same : (site : Site) (a b : Local) → AreAlike site a b → lacked_files a.lacks a.volumes ≡ lacked_files b.lacks b.volumes
@@ -466,30 +474,30 @@ lacked_same site a b alike = ap (λ (vs : List VolumeRow). lacked_files a.lacks 
 
 -- ---- who joined, and what is fetched
 
-asked_same : (site : Site) (a b : Local) (place : ℕ) → AreAlike site a b → DoSame site (asks_peer site a place) (asks_peer site b place)
-asked_same site a b place alike = by (first_lacked b) refl
+asked_same : (site : Site) (a b : Local) (lane place : ℕ) → AreAlike site a b → DoSame site (asks_peer site a lane place) (asks_peer site b lane place)
+asked_same site a b lane place alike = by (first_lacked b lane) refl
   where
-    by : (o : Option File) → first_lacked b ≡ o → DoSame site (asks_peer site a place) (asks_peer site b place)
-    by None is = let also : first_lacked a ≡ None = first_same site a b alike ∙ is in same_as site (asks_peer site a place) (silently a) (asks_peer site b place) (silently b) (rw also refl) (rw is refl) (silent_same site a b alike)
-    by (Some file) is =
-        let also : first_lacked a ≡ Some file = first_same site a b alike ∙ is in
-        let ask : Local → Doing = λ x. record (silently (record x { peer = place })) { transfer = Some (Wants (site.node_at place) file) } in
-        same_as site (asks_peer site a place) (ask a) (asks_peer site b place) (ask b) (rw also refl) (rw is refl) (record {
-          local = record { volumes = alike.volumes; copies = alike.copies; lacks = alike.lacks; joined = alike.joined; peer = refl; residents = alike.residents; idle = alike.idle };
-          answer = refl;
-          letters = refl;
-          transfer = refl;
-          fact = refl;
-        })
+    asks : AreAlike site (record a { peer = place }) (record b { peer = place })
+    asks = record { volumes = alike.volumes; copies = alike.copies; lacks = alike.lacks; joined = alike.joined; peer = refl; residents = alike.residents; idle = alike.idle }
 
-pub looks_same : (site : Site) (a b : Local) → AreAlike site a b → DoSame site (looks site a) (looks site b)
-looks_same site a b alike = by (all_joined site b.joined) refl
+    by : (o : Option File) → first_lacked b lane ≡ o → DoSame site (asks_peer site a lane place) (asks_peer site b lane place)
+    by None is =
+        let also : first_lacked a lane ≡ None = first_same site a b lane alike ∙ is in
+        let turn : Local → Doing = λ x. silently (record x { peer = place }) in
+        same_as site (asks_peer site a lane place) (turn a) (asks_peer site b lane place) (turn b) (rw also refl) (rw is refl) (record { local = asks; answer = refl; letters = refl; transfer = refl; fact = refl })
+    by (Some file) is =
+        let also : first_lacked a lane ≡ Some file = first_same site a b lane alike ∙ is in
+        let ask : Local → Doing = λ x. record (silently (record x { peer = place })) { transfer = Some (Wants (site.node_at place) file) } in
+        same_as site (asks_peer site a lane place) (ask a) (asks_peer site b lane place) (ask b) (rw also refl) (rw is refl) (record { local = asks; answer = refl; letters = refl; transfer = refl; fact = refl })
+
+pub looks_same : (lane : ℕ) (site : Site) (a b : Local) → AreAlike site a b → DoSame site (looks lane site a) (looks lane site b)
+looks_same lane site a b alike = by (all_joined site b.joined) refl
   where
-    by : (c : Bool) → all_joined site b.joined ≡ c → DoSame site (looks site a) (looks site b)
-    by false is = let also : all_joined site a.joined ≡ false = ap (all_joined site) alike.joined ∙ is in same_as site (looks site a) (silently a) (looks site b) (silently b) (rw also refl) (rw is refl) (silent_same site a b alike)
+    by : (c : Bool) → all_joined site b.joined ≡ c → DoSame site (looks lane site a) (looks lane site b)
+    by false is = let also : all_joined site a.joined ≡ false = ap (all_joined site) alike.joined ∙ is in same_as site (looks lane site a) (silently a) (looks lane site b) (silently b) (rw also refl) (rw is refl) (silent_same site a b alike)
     by true is =
         let also : all_joined site a.joined ≡ true = ap (all_joined site) alike.joined ∙ is in
-        same_as site (looks site a) (asks_peer site a (next_peer site b.peer)) (looks site b) (asks_peer site b (next_peer site b.peer)) (rw also (ap (λ p. asks_peer site a (next_peer site p)) alike.peer)) (rw is refl) (asked_same site a b (next_peer site b.peer) alike)
+        same_as site (looks lane site a) (asks_peer site a lane (peer_for site lane b.peer)) (looks lane site b) (asks_peer site b lane (peer_for site lane b.peer)) (rw also (ap (λ p. asks_peer site a lane (peer_for site lane p)) alike.peer)) (rw is refl) (asked_same site a b lane (peer_for site lane b.peer) alike)
 
 pub joins_same : (from losses : ℕ) (site : Site) (a b : Local) → AreAlike site a b → DoSame site (hears_joined from losses site a) (hears_joined from losses site b)
 joins_same from losses site a b alike = by (is_new site && has_node site from && losses == site.losses) refl
@@ -575,7 +583,9 @@ takes_same from file copy site a b alike = by (takes_it site b from file copy) r
         same_as site (takes from file copy site a) (silently a) (takes from file copy site b) (silently b) (rw also refl) (rw is refl) (silent_same site a b alike)
     by true is =
         let also : takes_it site a from file copy ≡ true = took_same from file copy site a b alike ∙ is in
-        let take : Local → Doing = λ x. record (asks_peer site (given file copy x) (place_of from)) { fact = Some (Had file copy) } in
-        let asks : DoSame site (asks_peer site (given file copy a) (place_of from)) (asks_peer site (given file copy b) (place_of from)) = asked_same site (given file copy a) (given file copy b) (place_of from) (given_same site a b file copy alike) in
-        same_as site (takes from file copy site a) (take a) (takes from file copy site b) (take b) (rw also refl) (rw is refl)
+        let lane : ℕ = lane_of b.volumes file.volume in
+        let take : Local → Doing = λ x. record (asks_peer site (given file copy x) lane (place_of from)) { fact = Some (Had file copy) } in
+        let asks : DoSame site (asks_peer site (given file copy a) lane (place_of from)) (asks_peer site (given file copy b) lane (place_of from)) = asked_same site (given file copy a) (given file copy b) lane (place_of from) (given_same site a b file copy alike) in
+        let own : lane_of a.volumes file.volume ≡ lane = ap (λ (vs : List VolumeRow). lane_of vs file.volume) alike.volumes in
+        same_as site (takes from file copy site a) (take a) (takes from file copy site b) (take b) (rw also (ap (λ n. record (asks_peer site (given file copy a) n (place_of from)) { fact = Some (Had file copy) }) own)) (rw is refl)
         (record { local = asks.local; answer = asks.answer; letters = asks.letters; transfer = asks.transfer; fact = refl })

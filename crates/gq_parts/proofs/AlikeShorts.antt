@@ -193,7 +193,7 @@ does_same AskedPlan site a b alike = record { local = alike; answer = ap (λ (vs
 does_same (Brought from letter) site a b alike = receives_same from letter site a b alike
 does_same (Shortened from short bytes) site a b alike = (shorts_same from short bytes site a b alike).doing
 does_same (Ticked session) site a b alike = ticks_same session site a b alike
-does_same Looked site a b alike = looks_same site a b alike
+does_same (Looked lane) site a b alike = looks_same lane site a b alike
 does_same (Joined from losses) site a b alike = joins_same from losses site a b alike
 does_same (Fetching from file) site a b alike = gives_same from file site a b alike
 does_same (Fetched from file copy) site a b alike = takes_same from file copy site a b alike
@@ -209,7 +209,7 @@ goes_same_out site a b AskedPlan alike = record { letters = refl; reply = refl }
 goes_same_out site a b (Brought from letter) alike = record { letters = (does_same (Brought from letter) site a b alike).letters; reply = refl }
 goes_same_out site a b (Shortened from short bytes) alike = record { letters = (shorts_same from short bytes site a b alike).whole; reply = (shorts_same from short bytes site a b alike).short }
 goes_same_out site a b (Ticked session) alike = record { letters = (does_same (Ticked session) site a b alike).letters; reply = refl }
-goes_same_out site a b Looked alike = record { letters = (does_same Looked site a b alike).letters; reply = refl }
+goes_same_out site a b (Looked lane) alike = record { letters = (does_same (Looked lane) site a b alike).letters; reply = refl }
 goes_same_out site a b (Joined from losses) alike = record { letters = (does_same (Joined from losses) site a b alike).letters; reply = refl }
 goes_same_out site a b (Fetching from file) alike = record { letters = (does_same (Fetching from file) site a b alike).letters; reply = refl }
 goes_same_out site a b (Fetched from file copy) alike = record { letters = (does_same (Fetched from file copy) site a b alike).letters; reply = refl }

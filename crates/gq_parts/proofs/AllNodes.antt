@@ -84,7 +84,7 @@ one_event w nodes n AskedPlan = doing_one w nodes n (does AskedPlan (site_at w n
 one_event w nodes n (Brought from letter) = doing_one w nodes n (does (Brought from letter) (site_at w nodes n) (nodes.local n))
 one_event w nodes n (Shortened from short bytes) = doing_one w nodes n (does (Shortened from short bytes) (site_at w nodes n) (nodes.local n))
 one_event w nodes n (Ticked session) = doing_one w nodes n (does (Ticked session) (site_at w nodes n) (nodes.local n))
-one_event w nodes n Looked = doing_one w nodes n (does Looked (site_at w nodes n) (nodes.local n))
+one_event w nodes n (Looked lane) = doing_one w nodes n (does (Looked lane) (site_at w nodes n) (nodes.local n))
 one_event w nodes n (HeardJoined from losses) =
     let doing : Doing = does (HeardJoined from losses) (site_at w nodes n) (nodes.local n) in
     word_one w nodes (after_doing w nodes n doing) n from losses doing (doing_one w nodes n doing)

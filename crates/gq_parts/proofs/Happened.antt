@@ -191,7 +191,7 @@ replaced m new losses before tick v home later fresh has_home has_new other lack
     (has_still d.next e.next 0 0 losses x [] (e.others 0 away) (has_still c.next d.next 0 0 losses x [] (d.others 0 away) c.has)) read.1.1.1.1.1.0.2 (fetch_steps new losses x refl turn) in
     let g = takes_line f.next new losses losses (record y { joined = record { bits = 1 }; peer = 0 }) (given_view new losses) [] (transfer_text grid_worked.plan 0 (Brings new file_worked first_copy)) _ _
     (has_still e.next f.next new losses losses (record y { joined = record { bits = 1 }; peer = 0 }) [] (f.others new other) e.has) read.1.1.1.1.1.1.0.2
-    (fetched_steps new losses (record y { joined = record { bits = 1 }; peer = 0 }) refl lacks turn) in
+    (fetched_steps new losses (record y { joined = record { bits = 1 }; peer = 0 }) refl lacks refl turn) in
     record {
       next = g.next;
       goes = (a.next, a.goes, (b.next, b.goes, (c.next, c.goes, (d.next, d.goes, (e.next, e.goes, (f.next, f.goes, (g.next, g.goes, refl {a = g.next})))))));

@@ -16,7 +16,8 @@ use Rattle.gq_cluster.specs.Keeping.{KeptPart, kept_of, with_fact}
 use Rattle.gq_replace.specs.Keeping.{KeptFiles, files_of_part, with_fleet_fact, lacks_behind}
 use Rattle.gq_replace.specs.Plans.{place_of}
 use Rattle.gq_node.specs.Inputs.{Input, Asked, AskedPlan, Brought, Shortened, Ticked, Looked, Joined, Fetching, Fetched, does, after_one, after_all}
-use Rattle.gq_node.specs.Joining.{hears_joined, all_joined, first_lacked, next_peer, asks_peer, looks, is_peer, has_file, gives, takes}
+use Rattle.gq_node.specs.Joining.{hears_joined, all_joined, first_lacked, peer_for, asks_peer, looks, is_peer, has_file, gives, takes}
+use Rattle.gq_node.specs.Lanes.{lane_of}
 use Rattle.gq_node.specs.Local.{Local, Doing, part_in, state_of, file_fits, fits_local, with_copy, given, recalled}
 use Rattle.gq_node.specs.Resting.{GoesBehind, recall_one, recall_all, IsAtRest, IsBare}
 use Rattle.gq_node.specs.Sites.{Site, is_new, has_node}
@@ -33,10 +34,10 @@ takes_it site local from file copy = is_peer site from && local.lacks file && fi
 
 -- ---- a step
 
-asked_volumes : (site : Site) (local : Local) (place : ℕ) → (asks_peer site local place).local.volumes ≡ local.volumes
-asked_volumes site local place = by (first_lacked local) refl
+asked_volumes : (site : Site) (local : Local) (lane place : ℕ) → (asks_peer site local lane place).local.volumes ≡ local.volumes
+asked_volumes site local lane place = by (first_lacked local lane) refl
   where
-    by : (o : Option File) → first_lacked local ≡ o → (asks_peer site local place).local.volumes ≡ local.volumes
+    by : (o : Option File) → first_lacked local lane ≡ o → (asks_peer site local lane place).local.volumes ≡ local.volumes
     by None is = rw is refl
     by (Some file) is = rw is refl
 
@@ -46,10 +47,10 @@ does_volumes AskedPlan site local = refl
 does_volumes (Brought from letter) site local = ap (λ (v : List VolumeRow × Servers). v.0) (receives_view from letter site local)
 does_volumes (Shortened from short bytes) site local = ap (λ (v : List VolumeRow × Servers). v.0) (shorts_view from short bytes site local)
 does_volumes (Ticked session) site local = ap (λ (v : List VolumeRow × Servers). v.0) (ticks_view session site local)
-does_volumes Looked site local = by (all_joined site local.joined) refl
+does_volumes (Looked lane) site local = by (all_joined site local.joined) refl
   where
-    by : (b : Bool) → all_joined site local.joined ≡ b → (looks site local).local.volumes ≡ local.volumes
-    by true is = rw is (asked_volumes site local (next_peer site local.peer))
+    by : (b : Bool) → all_joined site local.joined ≡ b → (looks lane site local).local.volumes ≡ local.volumes
+    by true is = rw is (asked_volumes site local lane (peer_for site lane local.peer))
     by false is = rw is refl
 does_volumes (Joined from losses) site local = by (is_new site && has_node site from && losses == site.losses) refl
   where
@@ -64,7 +65,7 @@ does_volumes (Fetching from file) site local = by (is_peer site from && has_file
 does_volumes (Fetched from file copy) site local = by (takes_it site local from file copy) refl
   where
     by : (b : Bool) → takes_it site local from file copy ≡ b → (takes from file copy site local).local.volumes ≡ local.volumes
-    by true is = rw is (asked_volumes site (given file copy local) (place_of from))
+    by true is = rw is (asked_volumes site (given file copy local) (lane_of local.volumes file.volume) (place_of from))
     by false is = rw is refl
 
 pub all_volumes : (site : Site) (local : Local) (inputs : List Input) → (after_all site local inputs).volumes ≡ local.volumes

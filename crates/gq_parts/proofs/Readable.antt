@@ -16,7 +16,7 @@ use Rattle.gq_tag.specs.declared.Body.TheVariants.{Store}
 use Rattle.gq_keeper.specs.Starting.{RecallsAll}
 use Rattle.gq_node.specs.declared.output.Fact.{Fact}
 use Rattle.gq_node.specs.Inputs.{Input, Asked, AskedPlan, Brought, Shortened, Ticked, Looked, Joined, Fetching, Fetched, does}
-use Rattle.gq_node.specs.Joining.{hears_joined, all_joined, next_peer, looks, is_peer, has_file, gives, takes}
+use Rattle.gq_node.specs.Joining.{hears_joined, all_joined, peer_for, looks, is_peer, has_file, gives, takes}
 use Rattle.gq_node.specs.Local.{Local, Doing, asks, receives, ticks, fact_fits, file_fits, file_in, part_in, state_of}
 use Rattle.gq_node.specs.Resting.{FirstPlan, begun_local}
 use Rattle.gq_node.specs.Recalling.{tenant_of, own_fact, fits_in}
@@ -157,10 +157,10 @@ doing_fits (Brought from letter) site local = kept_fits site local (receives fro
 doing_fits (Shortened from short bytes) site local =
     kept_fits site local (takes_short from short bytes site local).doing.fact (part_in (takes_short from short bytes site local).doing.local) (shorts_keep from short bytes site local)
 doing_fits (Ticked session) site local = kept_fits site local (ticks session site local).fact (part_in (ticks session site local).local) (all_ticks_keep session site local)
-doing_fits Looked site local = no_fact site local (looks site local) (by (all_joined site local.joined) refl)
+doing_fits (Looked lane) site local = no_fact site local (looks lane site local) (by (all_joined site local.joined) refl)
   where
-    by : (b : Bool) → all_joined site local.joined ≡ b → (looks site local).fact ≡ None
-    by true is = rw is (asked_peer site local (next_peer site local.peer)).1
+    by : (b : Bool) → all_joined site local.joined ≡ b → (looks lane site local).fact ≡ None
+    by true is = rw is (asked_peer site local lane (peer_for site lane local.peer)).1
     by false is = rw is refl
 doing_fits (Joined from losses) site local = no_fact site local (hears_joined from losses site local) (joined_silent from losses site local).fact
 doing_fits (Fetching from file) site local = no_fact site local (gives from file site local) (by (is_peer site from && has_file local file) refl)

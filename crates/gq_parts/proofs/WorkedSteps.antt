@@ -21,8 +21,9 @@ use Rattle.gq_node.specs.declared.output.Fact.{Fact}
 use Rattle.gq_node.specs.declared.output.Transfer.TheVariants.{Wants as CodeWants, Brings as CodeBrings}
 use Rattle.gq_node.specs.declared.session_states.SessionState.{SessionState}
 use Rattle.gq_node.specs.Inputs.{Input, Ticked, Looked, Joined as HeardJoined, Fetching, Fetched as WasFetched}
-use Rattle.gq_node.specs.Joining.{all_joined, awaited, first_among, first_lacked, lacked_files, next_peer, has_file, is_peer, hears_joined, looks, gives, takes}
+use Rattle.gq_node.specs.Joining.{all_joined, awaited, first_in_lane, first_lacked, lacked_files, next_peer, has_file, is_peer, hears_joined, looks, gives, takes}
 use Rattle.gq_node.specs.Lacks.{lacks_in}
+use Rattle.gq_node.specs.Lanes.{lane_of}
 use Rattle.gq_node.specs.Local.{Local, Resident, Doing, Wants, Brings, part_in, state_of, silently, given, file_fits, ticks}
 use Rattle.gq_node.specs.Sites.{Here, Site, site_of, is_new, has_node}
 use Rattle.gq_node.specs.Tables.{Agrees, AllStand, SessionStateAgrees, Sits, fact_of}
@@ -231,23 +232,23 @@ tick_steps new losses v joined lacks peer one two turn = record {
     asks : Local → Doing
     asks local = record (silently (record local { peer = 0 })) { transfer = Some (Wants (at.node_at 0) file) }
 
-    looks_is : (local : Local) → Sees new losses v local → looks at local ≡ asks local
+    looks_is : (local : Local) → Sees new losses v local → looks 0 at local ≡ asks local
     looks_is local sees =
         let all : all_joined at local.joined ≡ true =
         (λ i. list_all (λ place. place == turn.place i || (sym sees.joined ∙ ap servers joined ∙ first_set_is) i place) (0 ∷ 1 ∷ [])) in
         let next : next_peer at local.peer ≡ 0 = ap (next_peer at) (sym sees.peer ∙ peer) ∙ ap (λ p. next_peer (record at { place = p }) 1) turn.place in
-        let first : first_lacked local ≡ Some file = ap (λ (vs : List VolumeRow). first_among local.lacks vs) (sym sees.volumes) ∙ (rw (lacked v local lacks sees) refl) in
+        let first : first_lacked local 0 ≡ Some file = ap (λ (vs : List VolumeRow). first_in_lane local.lacks vs 0) (sym sees.volumes) ∙ (rw (lacked v local lacks sees) refl) in
         rw (all, next, first) refl
 
     leads : (local : Local) → Sees new losses v local →
-        Leads new losses v w (Ticked (session new losses 0) ∷ Ticked (session new losses 1) ∷ Looked ∷ []) [] (transfer_line grid_worked.plan new (CodeWants 0 file_worked) ++ []) local
+        Leads new losses v w (Ticked (session new losses 0) ∷ Ticked (session new losses 1) ∷ Looked 0 ∷ []) [] (transfer_line grid_worked.plan new (CodeWants 0 file_worked) ++ []) local
     leads local sees =
         let first : (local.residents (session new losses 0)).session.current ≡ None = (is_idle (session new losses 0) v.one (local.residents (session new losses 0)) one sees.one).0 in
         let second : (local.residents (session new losses 1)).session.current ≡ None = (is_idle (session new losses 1) v.two (local.residents (session new losses 1)) two sees.two).0 in
         let moves : List Move =
         record { input = Ticked (session new losses 0); plain = λ site local. (refl, refl); doing = silently local }
         ∷ record { input = Ticked (session new losses 1); plain = λ site local. (refl, refl); doing = silently local }
-        ∷ record { input = Looked; plain = λ site local. (refl, refl); doing = asks local }
+        ∷ record { input = Looked 0; plain = λ site local. (refl, refl); doing = asks local }
         ∷ [] in
         let a : ticks (session new losses 0) at local ≡ silently local = rw first refl in
         let b : ticks (session new losses 1) at local ≡ silently local = rw second refl in
@@ -302,8 +303,8 @@ given_all (suc v) place = rw (not_first v) (sym (plain (nat_lt (suc v) 1 && true
     plain true = refl
     plain false = refl
 
-pub fetched_steps : (new losses : ℕ) (v : View) → v.copy ≡ first_copy → v.given ≡ [] ∷ [] → IsTurn new losses → Steps new losses v (record v { given = (true ∷ []) ∷ [] }) (Fetched 0 file_worked first_copy) (fact_of 0 (Had file first_copy) ∷ [])
-fetched_steps new losses v first lacks turn = record {
+pub fetched_steps : (new losses : ℕ) (v : View) → v.copy ≡ first_copy → v.given ≡ [] ∷ [] → v.peer ≡ 0 → IsTurn new losses → Steps new losses v (record v { given = (true ∷ []) ∷ [] }) (Fetched 0 file_worked first_copy) (fact_of 0 (Had file first_copy) ∷ [])
+fetched_steps new losses v first lacks peer turn = record {
   told = [];
   own = [];
   leads = λ bytes. leads;
@@ -318,16 +319,17 @@ fetched_steps new losses v first lacks turn = record {
     w = record v { given = (true ∷ []) ∷ [] }
 
     took : Local → Doing
-    took local = record (silently (given file first_copy local)) { fact = Some (Had file first_copy) }
+    took local = record (silently (record (given file first_copy local) { peer = 0 })) { fact = Some (Had file first_copy) }
 
     leads : (local : Local) → Sees new losses v local → Leads new losses v w (WasFetched 0 file first_copy ∷ []) (fact_of 0 (Had file first_copy) ∷ []) [] local
     leads local sees =
         let lacked : local.lacks file ≡ true = sym (sees.lacks file) ∙ ap (λ g. lacks_in g file) lacks in
         let fits : file_fits (limit_at (state_of everyone local) 0 0) (Store first_copy) ≡ true =
         ap (λ (vs : List VolumeRow). file_fits (limit_at (state_of everyone (record local { volumes = vs })) 0 0) (Store first_copy)) (sym sees.volumes) in
-        let none : first_lacked (given file first_copy local) ≡ None = ap (λ (vs : List VolumeRow). first_among (given file first_copy local).lacks vs) (sym sees.volumes) ∙ (rw lacked refl) in
+        let lane : lane_of local.volumes 0 ≡ 0 = ap (λ (vs : List VolumeRow). lane_of vs 0) (sym sees.volumes) in
+        let none : first_lacked (given file first_copy local) 0 ≡ None = ap (λ (vs : List VolumeRow). first_in_lane (given file first_copy local).lacks vs 0) (sym sees.volumes) ∙ (rw lacked refl) in
         let moves : List Move = record { input = WasFetched 0 file first_copy; plain = λ site local. (refl, refl); doing = took local } ∷ [] in
-        let is : takes 0 file first_copy at local ≡ took local = rw (turn.peer, lacked, fits, none) refl in
+        let is : takes 0 file first_copy at local ≡ took local = rw (turn.peer, lacked, fits, lane, none) refl in
         leads_by new losses v w local moves (fact_of 0 (Had file first_copy) ∷ []) [] (comes_alone grid_worked.plan (here_in grid_worked losses new) 0 local moves (is, tt) (refl, tt)) refl refl
         (record {
           volumes = sees.volumes;
@@ -335,7 +337,7 @@ fetched_steps new losses v first lacks turn = record {
           others = λ f is. (let same : (given file first_copy local).brought f ≡ local.brought f = rw is refl in sees.others f is ∙ ap (λ cs. greatest (first_copy ∷ cs)) (sym same));
           lacks = λ f. given_all f.volume f.place ∙ ap (λ l. l && not (is_file file f)) (ap (λ g. lacks_in g f) (sym lacks) ∙ sees.lacks f);
           joined = sees.joined;
-          peer = sees.peer;
+          peer = peer;
           one = sees.one;
           two = sees.two;
         })

@@ -1,10 +1,11 @@
 -- What a line brings to each tenant's part of a node.
-use Rattle.std.specs.Prelude.{ℕ, List, [], ◌∷◌, ◌++◌, Bool, true, ◌==◌, map, if◌then◌else◌}
+use Rattle.std.specs.Prelude.{ℕ, max, min, List, [], ◌∷◌, ◌++◌, Bool, true, ◌==◌, map, if◌then◌else◌}
 use Rattle.std.specs.List.{flat_map, range_with_len}
 use Rattle.gq_tag.specs.Tag.{own_message, file_place}
 use Rattle.gq_desk.specs.CheckedPlan.{CheckedPlan, row_at}
 use Rattle.gq_model.specs.declared.events.Line.{Line}
 use Rattle.gq_model.specs.declared.events.Line.TheVariants.{Bad as NoLine}
+use Rattle.gq_node.specs.declared.lanes.TheConstants.{LANES}
 use Rattle.gq_node.specs.Inputs.{Input, Asked, AskedPlan, Brought, Shortened, Ticked, Looked, Joined as HeardJoined, Fetching, Fetched as WasFetched}
 use Rattle.gq_node.specs.Shorts.{own_short}
 use Rattle.gq_node.specs.Sites.{Here, session_at}
@@ -16,12 +17,19 @@ use Rattle.gq_wire.specs.Incoming.{incoming_of}
 abbrev pub alone : (tenant : ℕ) → Input → ℕ → List Input
 alone tenant input t = if t == tenant then input ∷ [] else []
 
--- a tick of the node is one for each session of the tenant, in order, and one behind these
+-- a tick of the node is one for each session of the tenant, in order, and then one for each lane
 abbrev pub session_ticks : CheckedPlan → Here → ℕ → List Input
 session_ticks plan here t = map (λ place. Ticked (session_at plan here t place)) (range_with_len 0 (row_at plan t).sessions)
 
+-- a tenant has no more lanes than it may have volumes
+abbrev pub lanes_at : CheckedPlan → ℕ → ℕ
+lanes_at plan t = max (min (row_at plan t).most_volumes LANES) 1
+
+abbrev pub lane_ticks : CheckedPlan → ℕ → List Input
+lane_ticks plan t = map Looked (range_with_len 0 (lanes_at plan t))
+
 abbrev pub ticks_of : CheckedPlan → Here → ℕ → List Input
-ticks_of plan here t = session_ticks plan here t ++ Looked ∷ []
+ticks_of plan here t = session_ticks plan here t ++ lane_ticks plan t
 
 -- The inputs of the tenant at place t. A line without form is a request that none is. That a node has joined is told to each tenant's part; that one asks
 -- whether it has is answered by the node, and is no tenant's. Nor is the form of lines that a node speaks. A letter in a short form is one whose copy

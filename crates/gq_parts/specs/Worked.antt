@@ -27,7 +27,7 @@ use Rattle.gq_parts.specs.Texts.{written_by, parts_after, facts_by, line_text_of
 -- ---- the plans
 
 abbrev pub row : TenantRow
-row = record { name = codes "ann"; share = 4; sessions = 2; steps = 1; most_blocks = 16; most_volumes = 64 }
+row = record { name = codes "ann"; share = 4; sessions = 2; steps = 1; most_blocks = 16; most_volumes = 1 }
 
 -- the node at place 1 is lost by plan 1, the next one by plan 2, and the one after that by plan 3
 abbrev pub lost_by : ℕ → List ℕ

@@ -18,6 +18,6 @@ returns c =
     let t : ℕ = c.args.file.tenant in
     let out : Output = record { answer = None; letters = c.new.result; transfer = c.ask-asked.result.transfer; fact = Some (WasGiven c.args.file c.args.copy) } in
     let place : c.from.result ≡ place_of c.args.from = c.from.ensures ∙ c.place_of.ensures in
-    let asks : Acts c.has_now.new.self t (λ site local. asks_peer site local (place_of c.args.from)) c.ask-asked.result c.ask-asked.new.self =
-    subst (λ n. Acts c.has_now.new.self t (λ site local. asks_peer site local n) c.ask-asked.result c.ask-asked.new.self) place (record { leads = c.ask-asked.ensures.leads; gives = c.ask-asked.ensures.gives }) in
-    takes_so w c.has_now.new.self c.ask-asked.new.self c.args.from c.args.file c.args.copy c.ask-asked.result out (sym c.takes.ensures.takes ∙ c.if-not-takes.false) c.has_now.ensures.leads asks refl c.new.ensures.items refl refl
+    let asks : Acts c.has_now.new.self t (λ site local. asks_peer site local c.lane-lane.result (place_of c.args.from)) c.ask-asked.result c.ask-asked.new.self =
+    subst (λ n. Acts c.has_now.new.self t (λ site local. asks_peer site local c.lane-lane.result n) c.ask-asked.result c.ask-asked.new.self) place (record { leads = c.ask-asked.ensures.leads; gives = c.ask-asked.ensures.gives }) in
+    takes_so w c.has_now.new.self c.ask-asked.new.self c.args.from c.lane-lane.result c.args.file c.args.copy c.ask-asked.result out (sym c.takes.ensures.takes ∙ c.if-not-takes.false) c.lane-lane.ensures c.has_now.ensures.leads asks refl c.new.ensures.items refl refl
