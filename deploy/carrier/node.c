@@ -509,7 +509,7 @@ double number(const char *what, const char *word, double least, double most) {
 }
 
 /* The longest line of a plan: 255 bytes, and 128 for each block that a tenant's largest file may have; or, of what a tenant has, 400 and 15
-   for each of its lines `open`. (The node itself refuses a plan with a fault.) */
+   for each of its lines `open`; or, where a tenant has room for chunks, the longest of any plan. (The node itself refuses a plan with a fault.) */
 static size_t longest_of(const char *plan) {
     struct { char name[17]; size_t opens; } tenants[TENANTS] = {{"", 0}};
     char row[256], name[17];
@@ -518,7 +518,7 @@ static size_t longest_of(const char *plan) {
     FILE *file = fopen(plan, "re");
     if (!file) say("%s: %s", plan, strerror(errno)), exit(1);
     while (fgets(row, sizeof row, file)) {
-        unsigned long most = 0, files;
+        unsigned long most = 0, files, kib;
         size_t length = 0;
         if (!strcmp(row, "go\n")) behind = true;
         else if (!behind && many < TENANTS && sscanf(row, "tenant %16s %*s %*s %*s %lu", tenants[many].name, &most) > 0) {
@@ -527,6 +527,8 @@ static size_t longest_of(const char *plan) {
         } else if (behind && sscanf(row, "%16s open %lu", name, &files) == 2) {
             for (size_t i = 0; i < many; i++)
                 if (!strcmp(tenants[i].name, name)) length = 15 * ++tenants[i].opens + 400;
+        } else if (behind && sscanf(row, "%16s chunks %lu", name, &kib) == 2) {
+            length = LONGEST_EVER;
         }
         if (found < length && length <= LONGEST_EVER) found = length;
     }

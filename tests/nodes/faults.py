@@ -147,12 +147,10 @@ class Faults:
         self.refused("no such server", 1, b"gridfs: node 4: of 4\n", number=4)
 
     def chunks(self):
-        """A plan that gives room for chunks is refused before a file is made, since no node keeps any yet."""
-        told = b"gridfs: %b: room for chunks, and this program keeps none\n"
+        """A plan that gives room for chunks. Faults of its shelf are in tests/chunks/nodes."""
         put(self.at("chunks"), PLAN + b"bob chunks 9\n")
-        for is_new in (False, True):
-            self.held(f"room for chunks, --new {is_new}", self.node(plan="chunks", journal="of_chunks", is_new=is_new), (1, told % b"chunks", b""))
-        self.held("no files of it", [name for name in os.listdir(self.folder) if name.startswith("of_chunks")], [])
+        self.held("no journal, with room for chunks", self.node(plan="chunks", journal="of_chunks"), (1, b"gridfs: of_chunks: no journal\n", b""))
+        self.held("no files of it", [name for name in os.listdir(self.folder) if name.startswith("of_chunks")], ["of_chunks.lock"])
         put(self.at("twice"), PLAN + b"bob chunks 9\nbob chunks 10\n")
         self.refused("room for chunks, twice", 1, b"gridfs: twice: line 11: chunks\n", plan="twice")
         self.refused("no such server, with room for chunks", 1, b"gridfs: node 4: of 4\n", number=4, plan="chunks")

@@ -3,6 +3,7 @@ pub mod Requests
 pub mod Answers
 pub mod Takers
 pub mod Laws
+pub mod Longest
 pub mod Machines
 pub mod Lasting
 pub mod Needed

@@ -9,7 +9,7 @@ use Rattle.gq_text.specs.Words.{Word}
 use Rattle.gq_text.specs.AnswerText.{line_text}
 use Rattle.gq_replace.specs.Plans.{node_at}
 use Rattle.gq_node.specs.Sites.{home_place, plan_in}
-use Rattle.gq_wire.specs.Incoming.{longest_line}
+use Rattle.gq_chunks.specs.Longest.{longest_of}
 use Rattle.gq_setup.specs.Setups.{Setup, SetupReading, holdings, kib_of}
 use Rattle.gq_plan.specs.declared.line.Named.{Named}
 use Rattle.gq_plan.specs.declared.line.Named.TheVariants.{Number, Word as Text}
@@ -92,7 +92,7 @@ grid_line setup =
     ∷ number (codes "room") setup.plan.blocks
     ∷ number (codes "tenants") (length setup.plan.rows)
     ∷ number (codes "losses") (length setup.lost)
-    ∷ number (codes "line") (longest_line setup.plan)
+    ∷ number (codes "line") (longest_of setup)
     ∷ number (codes "answer") (answer setup)
     ∷ number (codes "memory") (memory setup.plan.blocks (files_in setup))
     ∷ number (codes "peak") (peak setup.plan.blocks (files_in setup))

@@ -9,10 +9,10 @@ ghost use Rattle.gq_plan.specs.Following.{TellsNext, IsFollowFault};
 use crate::line::{Named, put_line};
 use crate::runs::{Run, runs_of};
 use crate::sums::{answer, files_in, files_of, memory, peak};
+use gq_chunks::longest_of;
 use gq_desk::{Plan, TenantRow};
 use gq_memory::OutOfMemory;
 use gq_setup::{NotKept, Setup, SetupFault, read_setup};
-use gq_wire::longest_line;
 use std::alloc::Global;
 
 // Appends the line of the grid.
@@ -32,7 +32,7 @@ fn put_grid(alloc: Global, out: &mut Vec<u8>, setup: &Setup) -> Result<(), OutOf
             Named::Number(b"room", u64::from(plan.blocks())),
             Named::Number(b"tenants", plan.tenants() as u64),
             Named::Number(b"losses", u64::from(setup.losses())),
-            Named::Number(b"line", longest_line(plan) as u64),
+            Named::Number(b"line", longest_of(setup) as u64),
             Named::Number(b"answer", answer),
             Named::Number(b"memory", memory(plan.blocks(), files)),
             Named::Number(b"peak", peak(plan.blocks(), files)),

@@ -7,74 +7,73 @@ use Rattle.gq_keeper.specs.Crashes.{Elapses, Leaves, LeavesSyncing}
 use Rattle.gq_keeper.specs.Restarting.{ReadsAs, Restarts, RestartsAsOne}
 use Rattle.gq_keeper.proofs.Crashing.{leaves_all}
 use Rattle.gq_keeper.proofs.Instants.{elapses_only, elapses_then}
-use Rattle.gq_machine.specs.declared.machine.NodeMachine.{NodeMachine}
-use Rattle.gq_machine.specs.Machines.{tables_of, MachineSteps, MachineRecalls, machine_reads, MachineIsBlank, MachineRests}
 use Rattle.gq_setup.specs.Setups.{Setup}
-use Rattle.gq_setup.specs.Texts.{node_text, first_read}
-use Rattle.gq_service.specs.Serving.{IsNewFor, IsStarted, MayBeLeft, journal_found}
+use Rattle.gq_setup.specs.Texts.{node_text}
+use Rattle.gq_service.specs.Kinds.{Kind}
+use Rattle.gq_service.specs.Serving.{IsStarted, MayBeLeft, journal_found}
 
 -- a node that begins its journal
-begun_is_started : (setup : Setup) (number : ℕ) (is_new : Bool) (machine : NodeMachine) (seen : List ℕ) → is_new ≡ true → IsNewFor setup number (first_read (Ok setup)) (tables_of machine) → IsStarted setup number (journal_found is_new seen) machine
-begun_is_started setup number is_new machine seen is new = subst (λ b. IsStarted setup number (journal_found b seen) machine) (sym is) (record { new = machine; is_new = new; reads = refl })
+pub begun_is_started : {M : Type 0} (k : Kind M) (setup : Setup) (number : ℕ) (is_new : Bool) (machine : M) (seen : List ℕ) → is_new ≡ true → k.is_new setup number (Ok setup) machine → IsStarted k setup number (journal_found is_new seen) machine
+begun_is_started k setup number is_new machine seen is new = subst (λ b. IsStarted k setup number (journal_found b seen) machine) (sym is) (record { new = machine; is_new = new; reads = refl })
 
-pub left_beginning : (setup : Setup) (number : ℕ) (is_new : Bool) (machine : NodeMachine) (text synced seen left : List ℕ) → is_new ≡ true → IsNewFor setup number (first_read (Ok setup)) (tables_of machine) → text ≡ node_text number setup →
-    Leaves synced seen left ⊎ Restarts MachineRecalls machine_reads MachineIsBlank MachineRests (whole_lines text) machine left → MayBeLeft setup number is_new synced seen left
-left_beginning setup number is_new machine text synced seen left is new same l = ⊎_elim (λ old. inl old) (λ r. inr (inr (record {
+pub left_beginning : {M : Type 0} (k : Kind M) (setup : Setup) (number : ℕ) (is_new : Bool) (machine : M) (text synced seen left : List ℕ) → is_new ≡ true → k.is_new setup number (Ok setup) machine → text ≡ node_text number setup →
+    Leaves synced seen left ⊎ Restarts k.recalls k.readable k.blank k.rests (whole_lines text) machine left → MayBeLeft k setup number is_new synced seen left
+left_beginning k setup number is_new machine text synced seen left is new same l = ⊎_elim (λ old. inl old) (λ r. inr (inr (record {
   first = machine;
-  started = begun_is_started setup number is_new machine seen is new;
-  restarts = (machine, [], refl, subst (λ (t : List ℕ). Restarts MachineRecalls machine_reads MachineIsBlank MachineRests (whole_lines t) machine left) same r);
+  started = begun_is_started k setup number is_new machine seen is new;
+  restarts = (machine, [], refl, subst (λ (t : List ℕ). Restarts k.recalls k.readable k.blank k.rests (whole_lines t) machine left) same r);
 }))) l
 
-pub left_going_on : (setup : Setup) (number : ℕ) (is_new : Bool) (text synced seen left : List ℕ) → is_new ≡ false → text ≡ node_text number setup → ReadsAs (whole_lines text) seen left → MayBeLeft setup number is_new synced seen left
-left_going_on setup number is_new text synced seen left is same r = inr (inl (is, subst (λ (t : List ℕ). ReadsAs (whole_lines t) seen left) same r))
+pub left_going_on : {M : Type 0} (k : Kind M) (setup : Setup) (number : ℕ) (is_new : Bool) (text synced seen left : List ℕ) → is_new ≡ false → text ≡ node_text number setup → ReadsAs (whole_lines text) seen left → MayBeLeft k setup number is_new synced seen left
+left_going_on k setup number is_new text synced seen left is same r = inr (inl (is, subst (λ (t : List ℕ). ReadsAs (whole_lines t) seen left) same r))
 
-pub left_serving : (setup : Setup) (number : ℕ) (is_new : Bool) (first : NodeMachine) (text synced seen left : List ℕ) → IsStarted setup number (journal_found is_new seen) first → text ≡ node_text number setup →
-    RestartsAsOne MachineSteps MachineRecalls machine_reads MachineIsBlank MachineRests (whole_lines text) first left → MayBeLeft setup number is_new synced seen left
-left_serving setup number is_new first text synced seen left started same r = inr (inr (record {
+pub left_serving : {M : Type 0} (k : Kind M) (setup : Setup) (number : ℕ) (is_new : Bool) (first : M) (text synced seen left : List ℕ) → IsStarted k setup number (journal_found is_new seen) first → text ≡ node_text number setup →
+    RestartsAsOne k.steps k.recalls k.readable k.blank k.rests (whole_lines text) first left → MayBeLeft k setup number is_new synced seen left
+left_serving k setup number is_new first text synced seen left started same r = inr (inr (record {
   first = first;
   started = started;
-  restarts = subst (λ (t : List ℕ). RestartsAsOne MachineSteps MachineRecalls machine_reads MachineIsBlank MachineRests (whole_lines t) first left) same r;
+  restarts = subst (λ (t : List ℕ). RestartsAsOne k.steps k.recalls k.readable k.blank k.rests (whole_lines t) first left) same r;
 }))
 
 -- a journal that was made sure of is left whole
 left_whole : (plan : List Line) (seen left : List ℕ) → Leaves seen seen left → ReadsAs plan seen left
 left_whole plan seen left l = subst (λ (t : List ℕ). ReadsAs plan seen t) (sym (leaves_all seen left l)) (record { facts = refl; begins = refl; first = refl; last = inl refl; mends = refl })
 
-left_reading : (setup : Setup) (number : ℕ) (is_new : Bool) (synced seen left : List ℕ) → (is_new ≡ false) × LeavesSyncing synced seen left → MayBeLeft setup number is_new synced seen left
-left_reading setup number is_new synced seen left l = ⊎_elim (λ old. inl old) (λ whole. inr (inl (l.0, left_whole (whole_lines (node_text number setup)) seen left whole))) l.1
+left_reading : {M : Type 0} (k : Kind M) (setup : Setup) (number : ℕ) (is_new : Bool) (synced seen left : List ℕ) → (is_new ≡ false) × LeavesSyncing synced seen left → MayBeLeft k setup number is_new synced seen left
+left_reading k setup number is_new synced seen left l = ⊎_elim (λ old. inl old) (λ whole. inr (inl (l.0, left_whole (whole_lines (node_text number setup)) seen left whole))) l.1
 
 -- what may be left behind a read may be left before it
-left_behind : (setup : Setup) (number : ℕ) (is_new : Bool) (synced seen synced_then seen_then left : List ℕ) → seen_then ≡ seen → (is_new ≡ true → synced_then ≡ synced) → (is_new ≡ false → synced_then ≡ seen_then) →
-    MayBeLeft setup number is_new synced_then seen_then left → MayBeLeft setup number is_new synced seen left
-left_behind setup number is_new synced seen synced_then seen_then left same alone sure l =
+left_behind : {M : Type 0} (k : Kind M) (setup : Setup) (number : ℕ) (is_new : Bool) (synced seen synced_then seen_then left : List ℕ) → seen_then ≡ seen → (is_new ≡ true → synced_then ≡ synced) → (is_new ≡ false → synced_then ≡ seen_then) →
+    MayBeLeft k setup number is_new synced_then seen_then left → MayBeLeft k setup number is_new synced seen left
+left_behind k setup number is_new synced seen synced_then seen_then left same alone sure l =
     ⊎_elim
     (λ old. elim (cases_Bool is_new) [
       | inl is ↦ inl (subst (λ (s : List ℕ). Leaves s seen left) (alone is) (subst (λ (t : List ℕ). Leaves synced_then t left) same old))
       | inr is ↦ inr (inl (is, left_whole (whole_lines (node_text number setup)) seen left (subst (λ (s : List ℕ). Leaves s seen left) (sure is ∙ same) (subst (λ (t : List ℕ). Leaves synced_then t left) same old))))
     ])
-    (λ more. subst (λ (t : List ℕ). MayBeLeft setup number is_new synced t left) same (inr more)) l
+    (λ more. subst (λ (t : List ℕ). MayBeLeft k setup number is_new synced t left) same (inr more)) l
 
 -- ---- one call behind another
 
-pub elapses_reading : (setup : Setup) (number : ℕ) (is_new : Bool) (a b : ℕ) (since_a since_b : ℕ → List ℕ → Type 0) (synced seen : List ℕ) →
-    Elapses a b since_a since_b (λ left. (is_new ≡ false) × LeavesSyncing synced seen left) → Elapses a b since_a since_b (MayBeLeft setup number is_new synced seen)
-elapses_reading setup number is_new a b since_a since_b synced seen e = elapses_only a b since_a since_b _ (MayBeLeft setup number is_new synced seen) e (λ left l. left_reading setup number is_new synced seen left l)
+pub elapses_reading : {M : Type 0} (k : Kind M) (setup : Setup) (number : ℕ) (is_new : Bool) (a b : ℕ) (since_a since_b : ℕ → List ℕ → Type 0) (synced seen : List ℕ) →
+    Elapses a b since_a since_b (λ left. (is_new ≡ false) × LeavesSyncing synced seen left) → Elapses a b since_a since_b (MayBeLeft k setup number is_new synced seen)
+elapses_reading k setup number is_new a b since_a since_b synced seen e = elapses_only a b since_a since_b _ (MayBeLeft k setup number is_new synced seen) e (λ left l. left_reading k setup number is_new synced seen left l)
 
-pub elapses_beginning : (setup : Setup) (number : ℕ) (is_new : Bool) (a b c : ℕ) (since_a since_b since_c : ℕ → List ℕ → Type 0) (synced seen synced_then seen_then : List ℕ) →
+pub elapses_beginning : {M : Type 0} (k : Kind M) (setup : Setup) (number : ℕ) (is_new : Bool) (a b c : ℕ) (since_a since_b since_c : ℕ → List ℕ → Type 0) (synced seen synced_then seen_then : List ℕ) →
     seen_then ≡ seen → (is_new ≡ true → synced_then ≡ synced) → (is_new ≡ false → synced_then ≡ seen_then) →
-    Elapses a b since_a since_b (λ left. (is_new ≡ false) × LeavesSyncing synced seen left) → Elapses b c since_b since_c (MayBeLeft setup number is_new synced_then seen_then) → Elapses a c since_a since_c (MayBeLeft setup number is_new synced seen)
-elapses_beginning setup number is_new a b c since_a since_b since_c synced seen synced_then seen_then same alone sure read begun =
-    elapses_then a b c since_a since_b since_c _ _ (MayBeLeft setup number is_new synced seen) read begun (λ left l. left_reading setup number is_new synced seen left l) (λ left l. left_behind setup number is_new synced seen synced_then seen_then left same alone sure l)
+    Elapses a b since_a since_b (λ left. (is_new ≡ false) × LeavesSyncing synced seen left) → Elapses b c since_b since_c (MayBeLeft k setup number is_new synced_then seen_then) → Elapses a c since_a since_c (MayBeLeft k setup number is_new synced seen)
+elapses_beginning k setup number is_new a b c since_a since_b since_c synced seen synced_then seen_then same alone sure read begun =
+    elapses_then a b c since_a since_b since_c _ _ (MayBeLeft k setup number is_new synced seen) read begun (λ left l. left_reading k setup number is_new synced seen left l) (λ left l. left_behind k setup number is_new synced seen synced_then seen_then left same alone sure l)
 
-pub elapses_serving : (setup : Setup) (number : ℕ) (is_new : Bool) (a b c : ℕ) (since_a since_b since_c : ℕ → List ℕ → Type 0) (synced seen : List ℕ) (first : NodeMachine) (text : List ℕ) →
-    IsStarted setup number (journal_found is_new seen) first → text ≡ node_text number setup →
-    Elapses a b since_a since_b (MayBeLeft setup number is_new synced seen) → Elapses b c since_b since_c (RestartsAsOne MachineSteps MachineRecalls machine_reads MachineIsBlank MachineRests (whole_lines text) first) → Elapses a c since_a since_c (MayBeLeft setup number is_new synced seen)
-elapses_serving setup number is_new a b c since_a since_b since_c synced seen first text started is begun served =
-    elapses_then a b c since_a since_b since_c _ _ (MayBeLeft setup number is_new synced seen) begun served (λ left l. l) (λ left r. left_serving setup number is_new first text synced seen left started is r)
+pub elapses_serving : {M : Type 0} (k : Kind M) (setup : Setup) (number : ℕ) (is_new : Bool) (a b c : ℕ) (since_a since_b since_c : ℕ → List ℕ → Type 0) (synced seen : List ℕ) (first : M) (text : List ℕ) →
+    IsStarted k setup number (journal_found is_new seen) first → text ≡ node_text number setup →
+    Elapses a b since_a since_b (MayBeLeft k setup number is_new synced seen) → Elapses b c since_b since_c (RestartsAsOne k.steps k.recalls k.readable k.blank k.rests (whole_lines text) first) → Elapses a c since_a since_c (MayBeLeft k setup number is_new synced seen)
+elapses_serving k setup number is_new a b c since_a since_b since_c synced seen first text started is begun served =
+    elapses_then a b c since_a since_b since_c _ _ (MayBeLeft k setup number is_new synced seen) begun served (λ left l. l) (λ left r. left_serving k setup number is_new first text synced seen left started is r)
 
 -- ---- at any time
 
-pub at_any : (setup : Setup) (number : ℕ) (is_new : Bool) (before now : ℕ) (past since : ℕ → List ℕ → Type 0) (synced seen : List ℕ) →
-    Elapses before now past since (MayBeLeft setup number is_new synced seen) → ((left : List ℕ) → past before left → Leaves synced seen left) →
-    (left : List ℕ) → since before left → MayBeLeft setup number is_new synced seen left
-at_any setup number is_new before now past since synced seen e only left may = ⊎_elim (λ old. inl (only left old)) (λ during. during) (e.nothing_else before left (omega arith) may)
+pub at_any : {M : Type 0} (k : Kind M) (setup : Setup) (number : ℕ) (is_new : Bool) (before now : ℕ) (past since : ℕ → List ℕ → Type 0) (synced seen : List ℕ) →
+    Elapses before now past since (MayBeLeft k setup number is_new synced seen) → ((left : List ℕ) → past before left → Leaves synced seen left) →
+    (left : List ℕ) → since before left → MayBeLeft k setup number is_new synced seen left
+at_any k setup number is_new before now past since synced seen e only left may = ⊎_elim (λ old. inl (only left old)) (λ during. during) (e.nothing_else before left (omega arith) may)

@@ -1,3 +1,5 @@
 pub mod Crashes
-pub mod ByParts
 pub mod NewNodes
+pub mod NewRegisters
+pub mod NewBoth
+pub mod ByParts

@@ -8,8 +8,8 @@ use Rattle.gq_desk.specs.CheckedPlan.{CheckedPlan, nobody, row_at}
 use Rattle.gq_desk.specs.Volumes.{Account, account_at, no_account, open_fault, with_volume, account_with, new_account}
 use Rattle.gq_desk.specs.declared.plans.TenantRow.{TenantRow}
 use Rattle.gq_desk.specs.declared.volumes.VolumeRow.{VolumeRow}
-use Rattle.gq_journal.specs.Batches.{Line, batches_of}
-use Rattle.gq_keeper.specs.Plans.{begins_with_plan, first_plan}
+use Rattle.gq_journal.specs.Batches.{Line, batches_of, lines_text, whole_lines}
+use Rattle.gq_keeper.specs.Plans.{IsPlan, begins_with_plan, first_plan}
 use Rattle.gq_replace.specs.Plans.{place_of}
 use Rattle.gq_node.specs.Local.{new_local}
 use Rattle.gq_node.specs.Opening.{Bereaves, Opens}
@@ -21,8 +21,11 @@ use Rattle.gq_parts.proofs.Resting.{its_volumes}
 use Rattle.gq_setup.specs.declared.openings.Opening.{Opening}
 use Rattle.gq_setup.specs.Setups.{Setup, SetupReading, holdings, volume_of, accounts_of, after_opening, after_openings, opening_fault, CanOpen}
 use Rattle.gq_setup.specs.Laws.{here_of}
-use Rattle.gq_setup.specs.Texts.{first_read, first_of_lines, OpensFor}
-use Rattle.gq_service.specs.Serving.{volumes_in, first_of_read, first_of_journal, is_its_journal, IsOpen, IsNewFor}
+use Rattle.gq_setup.specs.Texts.{first_read, first_of_lines, node_text, setup_of_node_text, OpensFor}
+use Rattle.gq_service.specs.Kinds.{Kind}
+use Rattle.gq_service.specs.declared.fault.NodeFault.{NodeFault}
+use Rattle.gq_service.specs.declared.fault.NodeFault.TheVariants.{Memory, Read, Write, PlanRead, Plan, PlanText, NoServer, InUse, NoJournal, Journal, NoShelf, Shelf, ShelfRead, ShelfWrite, JournalRead, JournalWrite, Form, Damaged, Another, Strange}
+use Rattle.gq_service.specs.Serving.{IsOwnText, TellsAnother, TellsNoOther, volumes_in, first_of_read, begun_with, is_its_journal, IsOpen, IsNewFor}
 
 -- ---- what tenants have
 
@@ -239,14 +242,49 @@ read_is (Ok setup) None is t = absurd (let e = is in cc)
 read_is (Err fault) None is t = refl
 read_is reading (Some setup) is t = ap (λ (r : SetupReading Setup). first_read r t) (sym is)
 
--- a journal of the node begins with a plan, whose volumes were lost
-pub found_volumes : (setup : Setup) (number : ℕ) (journal : List ℕ) → is_its_journal setup number journal ≡ true → first_of_journal setup journal ≡ first_of_lines (first_plan (batches_of journal))
-found_volumes setup number journal its = let begins : begins_with_plan (batches_of journal) ≡ true = (and_parts _ _ its).0 in rw begins refl
+-- a journal of the node begins with a plan
+pub begun_found : (setup : Setup) (number : ℕ) (journal : List ℕ) → is_its_journal setup number journal ≡ true → begun_with setup journal ≡ setup_of_node_text (lines_text (first_plan (batches_of journal)))
+begun_found setup number journal its = let begins : begins_with_plan (batches_of journal) ≡ true = (and_parts _ _ its).0 in rw begins refl
 
 -- two things that hold where a call gave Ok
 pub both_ok : {T E : Type 0} (r : Result T E) {P Q R : Type 0} → (P → Q → R) → OnOk r P → OnOk r Q → OnOk r R
 both_ok (Ok x) f p q = f p q
 both_ok (Err e) f p q = tt
 
+pub always : {T E : Type 0} (r : Result T E) {P : Type 0} → P → OnOk r P
+always (Ok x) p = p
+always (Err e) p = tt
+
 pub some_of : {A : Type 0} (o : Option A) (x : A) (P : A → Type 0) → o ≡ Some x → IfSome o P → P x
 some_of o x P is holds = subst (λ m. IfSome m P) is holds
+
+-- the text of a node's plan
+pub own_text : (setup : Setup) (number : ℕ) (text : List ℕ) → text ≡ node_text number setup → IsPlan text → setup_of_node_text text ≡ Ok setup → OpensFor (whole_lines text) setup → IsOwnText setup number
+own_text setup number text is plan back volumes = record {
+  is_plan = subst IsPlan is plan;
+  back = subst (λ (t : List ℕ). setup_of_node_text t ≡ Ok setup) is back;
+  volumes = subst (λ (t : List ℕ). OpensFor (whole_lines t) setup) is volumes;
+}
+
+-- what is told of no other journal
+pub tells_no_other : {M : Type 0} (k : Kind M) (setup : Setup) (number : ℕ) (journal : List ℕ) (fault : NodeFault) → TellsNoOther fault → TellsAnother k setup number journal fault
+tells_no_other k setup number journal (Another why) told = absurd told
+tells_no_other k setup number journal Strange told = absurd told
+tells_no_other k setup number journal Memory told = tt
+tells_no_other k setup number journal Read told = tt
+tells_no_other k setup number journal Write told = tt
+tells_no_other k setup number journal PlanRead told = tt
+tells_no_other k setup number journal (Plan x) told = tt
+tells_no_other k setup number journal PlanText told = tt
+tells_no_other k setup number journal (NoServer x) told = tt
+tells_no_other k setup number journal InUse told = tt
+tells_no_other k setup number journal NoJournal told = tt
+tells_no_other k setup number journal Journal told = tt
+tells_no_other k setup number journal NoShelf told = tt
+tells_no_other k setup number journal Shelf told = tt
+tells_no_other k setup number journal ShelfRead told = tt
+tells_no_other k setup number journal ShelfWrite told = tt
+tells_no_other k setup number journal JournalRead told = tt
+tells_no_other k setup number journal JournalWrite told = tt
+tells_no_other k setup number journal (Form x) told = tt
+tells_no_other k setup number journal (Damaged x) told = tt

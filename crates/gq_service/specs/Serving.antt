@@ -16,7 +16,7 @@ use Rattle.gq_node.specs.Local.{new_local}
 use Rattle.gq_node.specs.Resting.{FirstPlan}
 use Rattle.gq_node.specs.Sites.{Here}
 use Rattle.gq_node.specs.Tables.{Tables, Agrees}
-use Rattle.gq_wire.specs.Incoming.{longest_line}
+use Rattle.gq_chunks.specs.Longest.{longest_of}
 use Rattle.gq_parts.specs.Resting.{IsNodeOf, IsNewNode}
 use Rattle.gq_machine.specs.declared.machine.NodeMachine.{NodeMachine}
 use Rattle.gq_machine.specs.Machines.{tables_of, MachineSteps, MachineRecalls, machine_reads, MachineIsBlank, MachineRests}
@@ -26,10 +26,11 @@ use Rattle.gq_setup.specs.Setups.{Setup, SetupReading, has_node, volume_of}
 use Rattle.gq_setup.specs.NotKept.{IsNotKept}
 use Rattle.gq_setup.specs.Laws.{here_of}
 use Rattle.gq_setup.specs.GoingOn.{goes_on_from_read}
-use Rattle.gq_setup.specs.Texts.{node_text, setup_of_node_text, no_first, first_read, first_of_lines}
+use Rattle.gq_setup.specs.Texts.{node_text, setup_of_node_text, no_first, first_read, OpensFor}
+use Rattle.gq_service.specs.Kinds.{Kind, kind}
 use Rattle.gq_service.specs.Forms.{form_of}
 use Rattle.gq_service.specs.declared.fault.NodeFault.{NodeFault}
-use Rattle.gq_service.specs.declared.fault.NodeFault.TheVariants.{NoServer, Chunks, PlanText, Form, Damaged, Another, Strange}
+use Rattle.gq_service.specs.declared.fault.NodeFault.TheVariants.{NoServer, PlanText, Form, Damaged, Another, Strange}
 use Rattle.gq_service.specs.declared.mismatch.Mismatch.{Mismatch}
 use Rattle.gq_service.specs.declared.mismatch.Mismatch.TheVariants.{NoPlan, Node, Plan}
 
@@ -54,15 +55,29 @@ abbrev pub first_of_read : Option Setup → (t : ℕ) → FirstPlan
 first_of_read None t = no_first
 first_of_read (Some setup) t = first_read (Ok setup) t
 
--- what it takes from the plan with which its journal begins: that of the journal that is found, or its own where none is
+-- the plan with which its journal begins, as it is read: that of the journal that is found, or its own where none is
+abbrev pub begun_with : Setup → (journal : List ℕ) → SetupReading Setup
+begun_with setup journal = if begins_with_plan (batches_of journal) then setup_of_node_text (lines_text (first_plan (batches_of journal))) else Ok setup
+
+-- what it takes from that
 abbrev pub first_of_journal : Setup → (journal : List ℕ) → ℕ → FirstPlan
-first_of_journal setup journal = if begins_with_plan (batches_of journal) then first_of_lines (first_plan (batches_of journal)) else first_read (Ok setup)
+first_of_journal setup journal = first_read (begun_with setup journal)
+
+-- what is known of the text of a node's plan: it may stand in a journal, and is read as the setup
+pub record IsOwnText (setup : Setup) (number : ℕ) : Type 0 where
+  pub is_plan : IsPlan (node_text number setup)
+  pub back : setup_of_node_text (node_text number setup) ≡ Ok setup
+  pub volumes : OpensFor (whole_lines (node_text number setup)) setup
+
+-- a node that keeps registers alone
+abbrev pub registers : Kind NodeMachine
+registers = kind MachineSteps MachineRecalls machine_reads MachineIsBlank MachineRests (λ setup number read m. IsNewFor setup number (first_read read) (tables_of m))
 
 -- the node started from this journal: one that was never started read its facts
-pub record IsStarted (setup : Setup) (number : ℕ) (journal : List ℕ) (m : NodeMachine) : Type 0 where
-  pub new : NodeMachine
-  pub is_new : IsNewFor setup number (first_of_journal setup journal) (tables_of new)
-  pub reads : RecallsAll MachineRecalls new (facts_read journal) m
+pub record IsStarted {M : Type 0} (k : Kind M) (setup : Setup) (number : ℕ) (journal : List ℕ) (m : M) : Type 0 where
+  pub new : M
+  pub is_new : k.is_new setup number (begun_with setup journal) new
+  pub reads : RecallsAll k.recalls new (facts_read journal) m
 
 -- the journal that is found: none, where it is to be begun
 abbrev pub journal_found : (is_new : Bool) → List ℕ → List ℕ
@@ -74,52 +89,52 @@ journal_found false seen = seen
 -- From this journal a node started, and its steps took these lines. What is shown after `base` is what they told; and a start from
 -- what is synced reads the node that they left, the operations of its sessions gone, and these behind the numbers that are reserved
 -- for them.
-pub record Serves (setup : Setup) (number : ℕ) (journal : List ℕ) (lines : List Line) (base synced shown : List ℕ) : Type 0 where
-  pub first : NodeMachine
-  pub last : NodeMachine
-  pub started : IsStarted setup number journal first
-  pub durable : Durable MachineSteps MachineRecalls machine_reads MachineIsBlank MachineRests first last (whole_lines (node_text number setup)) lines base synced shown
+pub record Serves {M : Type 0} (k : Kind M) (setup : Setup) (number : ℕ) (journal : List ℕ) (lines : List Line) (base synced shown : List ℕ) : Type 0 where
+  pub first : M
+  pub last : M
+  pub started : IsStarted k setup number journal first
+  pub durable : Durable k.steps k.recalls k.readable k.blank k.rests first last (whole_lines (node_text number setup)) lines base synced shown
 
 -- At any write: the same of the node of this number, by some plan and journal, and of the lines of a beginning of the input, of which
 -- this is known. Whatever was shown is told by steps whose facts are synced.
-pub record IsDurable (number : ℕ) (input : Option (List ℕ)) (base synced shown : List ℕ) : Type 0 where
+pub record IsDurable {M : Type 0} (k : Kind M) (number : ℕ) (input : Option (List ℕ)) (base synced shown : List ℕ) : Type 0 where
   pub setup : Setup
   pub journal : List ℕ
   pub taken : List ℕ
   pub begins : IfSome input (Begins taken)
-  pub serves : Serves setup number journal (short_lines (longest_line setup.plan) taken) base synced shown
+  pub serves : Serves k setup number journal (short_lines (longest_of setup) taken) base synced shown
 
 -- what comes of an input, of which this is known: all lines of it are taken
-pub record ServesInput (setup : Setup) (number : ℕ) (journal : List ℕ) (input : Option (List ℕ)) (base synced shown : List ℕ) : Type 0 where
+pub record ServesInput {M : Type 0} (k : Kind M) (setup : Setup) (number : ℕ) (journal : List ℕ) (input : Option (List ℕ)) (base synced shown : List ℕ) : Type 0 where
   pub bytes : List ℕ
   pub all : IfSome input (λ known. known ≡ bytes)
-  pub serves : Serves setup number journal (short_lines (longest_line setup.plan) bytes) base synced shown
+  pub serves : Serves k setup number journal (short_lines (longest_of setup) bytes) base synced shown
 
 -- whether the journal is of the node of this number, and of a plan from which this setup goes on
 abbrev pub is_its_journal : Setup → (number : ℕ) → List ℕ → Bool
 is_its_journal setup number journal = is_of (λ last. goes_on_from_read (setup_of_node_text last) setup) (node_text number setup) (batches_of journal)
 
 -- at the end of the input: the same, by some plan and journal; where none was to be begun, by one that is its own
-pub record ServesSomehow (number : ℕ) (is_new : Bool) (input : Option (List ℕ)) (base shown : List ℕ) : Type 0 where
+pub record ServesSomehow {M : Type 0} (k : Kind M) (number : ℕ) (is_new : Bool) (input : Option (List ℕ)) (base shown : List ℕ) : Type 0 where
   pub setup : Setup
   pub journal : List ℕ
   pub synced : List ℕ
-  pub serves : ServesInput setup number journal input base synced shown
+  pub serves : ServesInput k setup number journal input base synced shown
   pub its : is_new ≡ false → is_its_journal setup number journal ≡ true
 
 -- ---- what a crash leaves
 
 -- a start from this reads the node of this number, at rest, to which steps led from the one that started from the journal
-pub record RestartsFrom (setup : Setup) (number : ℕ) (journal left : List ℕ) : Type 0 where
-  pub first : NodeMachine
-  pub started : IsStarted setup number journal first
-  pub restarts : RestartsAsOne MachineSteps MachineRecalls machine_reads MachineIsBlank MachineRests (whole_lines (node_text number setup)) first left
+pub record RestartsFrom {M : Type 0} (k : Kind M) (setup : Setup) (number : ℕ) (journal left : List ℕ) : Type 0 where
+  pub first : M
+  pub started : IsStarted k setup number journal first
+  pub restarts : RestartsAsOne k.steps k.recalls k.readable k.blank k.rests (whole_lines (node_text number setup)) first left
 
 -- At any time from a call on a crash leaves what it could leave before; or what a start reads as the journal that was found; or what it
 -- reads as this node behind some steps.
-abbrev pub MayBeLeft : Setup → (number : ℕ) → (is_new : Bool) → (synced seen left : List ℕ) → Type 0
-MayBeLeft setup number is_new synced seen left =
-    Leaves synced seen left ⊎ (((is_new ≡ false) × ReadsAs (whole_lines (node_text number setup)) seen left) ⊎ RestartsFrom setup number (journal_found is_new seen) left)
+abbrev pub MayBeLeft : {M : Type 0} → Kind M → Setup → (number : ℕ) → (is_new : Bool) → (synced seen left : List ℕ) → Type 0
+MayBeLeft k setup number is_new synced seen left =
+    Leaves synced seen left ⊎ (((is_new ≡ false) × ReadsAs (whole_lines (node_text number setup)) seen left) ⊎ RestartsFrom k setup number (journal_found is_new seen) left)
 
 -- ---- faults
 
@@ -127,11 +142,6 @@ MayBeLeft setup number is_new synced seen left =
 abbrev pub TellsNoServer : Setup → (number : ℕ) → NodeFault → Type 0
 TellsNoServer setup number (NoServer told) = (told ≡ setup.plan.grid.rows * setup.plan.grid.cols) × (has_node setup number ≡ false)
 TellsNoServer setup number _ = Unit {0}
-
--- where it is told that the plan gives room for chunks, it does, and has the node
-abbrev pub TellsChunks : Setup → (number : ℕ) → NodeFault → Type 0
-TellsChunks setup number Chunks = (0 < length setup.rooms) × (has_node setup number ≡ true)
-TellsChunks setup number _ = Unit {0}
 
 -- where damage is told, the journal is damaged at that place
 abbrev pub TellsDamage : (journal : List ℕ) → NodeFault → Type 0
@@ -144,10 +154,10 @@ TellsForm journal (Form form) = form_of journal ≡ Some form
 TellsForm journal _ = Unit {0}
 
 -- a line of the journal says no fact that fits in the node of this number, never started
-pub record IsStrange (setup : Setup) (number : ℕ) (journal : List ℕ) : Type 0 where
-  pub new : NodeMachine
-  pub is_new : IsNewFor setup number (first_of_lines (first_plan (batches_of journal))) (tables_of new)
-  pub strange : list_all (machine_reads new) (facts_read journal) ≡ false
+pub record IsStrange {M : Type 0} (k : Kind M) (setup : Setup) (number : ℕ) (journal : List ℕ) : Type 0 where
+  pub new : M
+  pub is_new : k.is_new setup number (setup_of_node_text (lines_text (first_plan (batches_of journal)))) new
+  pub strange : list_all (k.readable new) (facts_read journal) ≡ false
 
 -- where it is told that the plan's text may not stand in a journal, it may not
 abbrev pub TellsNoText : Setup → (number : ℕ) → NodeFault → Type 0
@@ -166,10 +176,16 @@ TellsMismatch setup last NoPlan = Unit {0}
 
 -- where it is told that the journal is of another node or plan, it is, and what is told of its last plan is so; where it is told that one of
 -- its lines is strange, one is
-abbrev pub TellsAnother : Setup → (number : ℕ) → (journal : List ℕ) → NodeFault → Type 0
-TellsAnother setup number journal (Another why) = (is_its_journal setup number journal ≡ false) × TellsMismatch setup (lines_text (last_plan [] (batches_of journal))) why
-TellsAnother setup number journal Strange = IsStrange setup number journal
-TellsAnother setup number journal _ = Unit {0}
+abbrev pub TellsAnother : {M : Type 0} → Kind M → Setup → (number : ℕ) → (journal : List ℕ) → NodeFault → Type 0
+TellsAnother k setup number journal (Another why) = (is_its_journal setup number journal ≡ false) × TellsMismatch setup (lines_text (last_plan [] (batches_of journal))) why
+TellsAnother k setup number journal Strange = IsStrange k setup number journal
+TellsAnother k setup number journal _ = Unit {0}
+
+-- none of these is told
+abbrev pub TellsNoOther : NodeFault → Type 0
+TellsNoOther (Another why) = ⊥
+TellsNoOther Strange = ⊥
+TellsNoOther _ = Unit {0}
 
 -- these leave the journal as it was
 abbrev pub LeavesJournal : (same : Type 0) → NodeFault → Type 0

@@ -34,8 +34,6 @@ pub enum NodeFault {
     Plan(SetupFault),
     /// The plan's text may not stand in a journal. No setup has such a text; that is not proved.
     PlanText,
-    /// The plan gives some tenant room for chunks, and this program keeps none.
-    Chunks,
     /// The grid has so many servers, and its plan has no node of the number.
     NoServer(usize),
     /// Another process has the journal.
@@ -44,6 +42,14 @@ pub enum NodeFault {
     NoJournal,
     /// There is a journal, and one was to be begun.
     Journal,
+    /// The journal's last plan gave room for chunks, and there is no shelf beside it.
+    NoShelf,
+    /// There is a shelf with chunks beside the journal, and one was to be begun.
+    Shelf,
+    /// The shelf could not be read, or its folder could not be made sure of.
+    ShelfRead,
+    /// The shelf's folder could not be made.
+    ShelfWrite,
     /// The journal could not be read.
     JournalRead,
     /// The journal could not be written or synced.
@@ -126,11 +132,14 @@ impl Display for Told<'_, '_> {
             NodeFault::PlanRead => write!(f, "{plan}: read fault"),
             NodeFault::Plan(fault) => write!(f, "{plan}: {fault}"),
             NodeFault::PlanText => write!(f, "{plan}: no text for a journal"),
-            NodeFault::Chunks => write!(f, "{plan}: room for chunks, and this program keeps none"),
             NodeFault::NoServer(servers) => write!(f, "node {number}: of {servers}"),
             NodeFault::InUse => write!(f, "{journal}: in use"),
             NodeFault::NoJournal => write!(f, "{journal}: no journal"),
             NodeFault::Journal => write!(f, "{journal}: a journal"),
+            NodeFault::NoShelf => write!(f, "{journal}.shelf: no shelf"),
+            NodeFault::Shelf => write!(f, "{journal}.shelf: a shelf"),
+            NodeFault::ShelfRead => write!(f, "{journal}.shelf: read fault"),
+            NodeFault::ShelfWrite => write!(f, "{journal}.shelf: write fault"),
             NodeFault::JournalRead => write!(f, "{journal}: read fault"),
             NodeFault::JournalWrite => write!(f, "{journal}: write fault"),
             NodeFault::Form(form) => {

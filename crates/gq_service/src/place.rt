@@ -1,6 +1,7 @@
 //! The files of a journal.
 
 use gq_keeper::Place;
+use gq_shelf::ShelfPlace;
 use std::alloc::{AllocError, Global};
 
 // The folder that the file is in.
@@ -25,5 +26,13 @@ pub(crate) fn place_of(alloc: Global, path: &str) -> Result<Place, AllocError> {
         path: String::from_str(alloc, path)?,
         next: beside(alloc, path, ".new")?,
         folder: String::from_str(alloc, folder_of(path))?,
+    })
+}
+
+/// Where the shelf of the journal of this path lies: in a folder beside it.
+pub(crate) fn shelf_of(alloc: Global, path: &str) -> Result<ShelfPlace, AllocError> {
+    Ok(ShelfPlace {
+        folder: beside(alloc, path, ".shelf")?,
+        above: String::from_str(alloc, folder_of(path))?,
     })
 }

@@ -8,67 +8,66 @@ ghost use Rattle.gq_wire.specs.Texts.{first_text};
 ghost use Rattle.gq_keeper.specs.Durable.{AllSealed};
 ghost use Rattle.gq_keeper.specs.Restarting.{ReadsAs, Restarts};
 ghost use Rattle.gq_keeper.specs.Starting.{RecallsAll, behind, facts_read};
-ghost use Rattle.gq_machine.specs.Machines.{tables_of, MachineRecalls, machine_reads, MachineIsBlank, MachineIsOf, MachineRests};
-ghost use Rattle.gq_setup.specs.Setups.{Setup};
-ghost use Rattle.gq_setup.specs.Texts.{first_read, first_of_lines};
+ghost use Rattle.gq_setup.specs.Texts.{setup_of_node_text};
 ghost use Rattle.gq_service.specs.Faults.{as_fault};
 ghost use Rattle.gq_service.specs.Forms.{form_of};
-ghost use Rattle.gq_service.specs.Serving.{IsNewFor, IsStarted, IsDurable, MayBeLeft, ServesInput, TellsForm, TellsDamage, TellsAnother, LeavesJournal, journal_found, is_its_journal};
+ghost use Rattle.gq_service.specs.Kinds.{kind};
+ghost use Rattle.gq_service.specs.Serving.{IsStarted, IsDurable, MayBeLeft, ServesInput, TellsForm, TellsDamage, TellsAnother, TellsNoOther, LeavesJournal, journal_found, is_its_journal};
 
 use crate::console::Console;
 use crate::fault::NodeFault;
 use crate::forms::form_of;
 use crate::mismatch::mismatch_of;
-use crate::new_node::new_node;
+use crate::served::{Maker, Served};
 use crate::telling::Telling;
 use crate::this_node::ThisNode;
+use gq_chunks::longest_of;
 use gq_keeper::{Disk, Output, Plan, Started, first_plan, renew, serve, start};
-use gq_machine::NodeMachine;
 use gq_memory::OutOfMemory;
-use gq_wire::longest_line;
 use std::alloc::Global;
 use std::io::Read;
 
 // Writes the first journal. Answers the number of the next batch.
-fn begin<D: Disk>(
+fn begin<M: Served, D: Disk>(
     alloc: Global,
     node: &ThisNode,
-    machine: &NodeMachine,
+    machine: &M,
     disk: &mut D,
 ) -> Result<u64, NodeFault>
-    requires { MachineIsOf (whole_lines node.now.plan.text.items) machine.now }
+    requires { M.is_of (whole_lines node.now.plan.text.items) machine.now }
     ensures sealed { IfOk result (λ next. AllSealed (D.seen disk.new) (D.synced disk.new) next) }
-    ensures restarts { OnOk result (Restarts MachineRecalls machine_reads MachineIsBlank MachineRests (whole_lines node.now.plan.text.items) machine.now (D.synced disk.new)) }
+    ensures restarts { OnOk result (Restarts M.recalls M.readable M.blank M.rests (whole_lines node.now.plan.text.items) machine.now (D.synced disk.new)) }
     ensures form { IfErr result (λ fault. (journal : List ℕ) → TellsForm journal fault) }
     ensures damaged { IfErr result (λ fault. (journal : List ℕ) → TellsDamage journal fault) }
     ensures crash { Elapses (D.instant disk.old) (D.instant disk.new) (D.left_since disk.old) (D.left_since disk.new)
-        (λ left. Leaves (D.synced disk.old) (D.seen disk.old) left ⊎ Restarts MachineRecalls machine_reads MachineIsBlank MachineRests (whole_lines node.now.plan.text.items) machine.now left) }
+        (λ left. Leaves (D.synced disk.old) (D.seen disk.old) left ⊎ Restarts M.recalls M.readable M.blank M.rests (whole_lines node.now.plan.text.items) machine.now left) }
 {
     Ok(renew(alloc, machine, node.plan.text(), disk)?)
 }
 
 // Reads the journal that is there. Answers the number of the next batch.
-fn go_on<D: Disk, C: Console>(
+fn go_on<M: Served, D: Disk, C: Console>(
     alloc: Global,
     node: &ThisNode,
     journal: &[u8],
     console: &C,
-    machine: &mut NodeMachine,
+    machine: &mut M,
     disk: &mut D,
 ) -> Result<u64, NodeFault>
     requires read { journal.now ≡ D.seen disk.old }
     requires synced { D.synced disk.old ≡ D.seen disk.old }
-    requires new { IsNewFor node.now.plan.setup node.now.number (first_of_lines (first_plan (batches_of (D.seen disk.old)))) (tables_of machine.old) }
-    requires of_plan { MachineIsOf (whole_lines node.now.plan.text.items) machine.old }
+    requires new { M.is_new node.now.plan.setup node.now.number (setup_of_node_text (lines_text (first_plan (batches_of (D.seen disk.old))))) machine.old }
+    requires blank { M.blank (first_plan (batches_of (D.seen disk.old))) machine.old machine.old }
+    requires of_plan { M.is_of (whole_lines node.now.plan.text.items) machine.old }
     ensures sealed { IfOk result (λ next. AllSealed (D.seen disk.new) (D.synced disk.new) next) }
-    ensures restarts { OnOk result (Restarts MachineRecalls machine_reads MachineIsBlank MachineRests (whole_lines node.now.plan.text.items) machine.new (D.synced disk.new)) }
-    ensures of_plan { OnOk result (MachineIsOf (whole_lines node.now.plan.text.items) machine.new) }
-    ensures recalled { OnOk result (RecallsAll MachineRecalls machine.old (facts_read (D.seen disk.old)) machine.new) }
+    ensures restarts { OnOk result (Restarts M.recalls M.readable M.blank M.rests (whole_lines node.now.plan.text.items) machine.new (D.synced disk.new)) }
+    ensures of_plan { OnOk result (M.is_of (whole_lines node.now.plan.text.items) machine.new) }
+    ensures recalled { OnOk result (RecallsAll M.recalls machine.old (facts_read (D.seen disk.old)) machine.new) }
     ensures its { OnOk result (is_its_journal node.now.plan.setup node.now.number (D.seen disk.old) ≡ true) }
     ensures whole { OnOk result (has_right_batch (behind (D.seen disk.old)) ≡ false) }
     ensures form { IfErr result (λ fault. (journal : List ℕ) → TellsForm journal fault) }
     ensures damaged { IfErr result (TellsDamage (D.seen disk.old)) }
-    ensures another { IfErr result (TellsAnother node.now.plan.setup node.now.number (D.seen disk.old)) }
+    ensures another { IfErr result (TellsAnother (kind M.steps M.recalls M.readable M.blank M.rests M.is_new) node.now.plan.setup node.now.number (D.seen disk.old)) }
     ensures same { IfErr result (LeavesJournal (D.seen disk.new ≡ D.seen disk.old)) }
     ensures crash { Elapses (D.instant disk.old) (D.instant disk.new) (D.left_since disk.old) (D.left_since disk.new)
         (ReadsAs (whole_lines node.now.plan.text.items) (D.seen disk.old)) }
@@ -98,32 +97,33 @@ fn tell_ready<C: Console>(console: &C, node: &ThisNode, facts: u64, lacked: usiz
 }
 
 // Begins a journal, or goes on from the one that is there. Answers the number of the next batch.
-fn begin_or_go_on<D: Disk, C: Console>(
+fn begin_or_go_on<M: Served, D: Disk, C: Console>(
     alloc: Global,
     node: &ThisNode,
     is_new: bool,
     journal: &[u8],
     console: &C,
-    machine: &mut NodeMachine,
+    machine: &mut M,
     disk: &mut D,
 ) -> Result<u64, NodeFault>
     requires read { is_new ≡ false → journal.now ≡ D.seen disk.old }
     requires synced { is_new ≡ false → D.synced disk.old ≡ D.seen disk.old }
-    requires begun { is_new ≡ true → IsNewFor node.now.plan.setup node.now.number (first_read (Ok node.now.plan.setup)) (tables_of machine.old) }
-    requires found { is_new ≡ false → IsNewFor node.now.plan.setup node.now.number (first_of_lines (first_plan (batches_of (D.seen disk.old)))) (tables_of machine.old) }
-    requires of_plan { MachineIsOf (whole_lines node.now.plan.text.items) machine.old }
+    requires begun { is_new ≡ true → M.is_new node.now.plan.setup node.now.number (Ok node.now.plan.setup) machine.old }
+    requires found { is_new ≡ false → M.is_new node.now.plan.setup node.now.number (setup_of_node_text (lines_text (first_plan (batches_of (D.seen disk.old))))) machine.old }
+    requires blank { is_new ≡ false → M.blank (first_plan (batches_of (D.seen disk.old))) machine.old machine.old }
+    requires of_plan { M.is_of (whole_lines node.now.plan.text.items) machine.old }
     ensures sealed { IfOk result (λ next. AllSealed (D.seen disk.new) (D.synced disk.new) next) }
-    ensures restarts { OnOk result (Restarts MachineRecalls machine_reads MachineIsBlank MachineRests (whole_lines node.now.plan.text.items) machine.new (D.synced disk.new)) }
-    ensures of_plan { OnOk result (MachineIsOf (whole_lines node.now.plan.text.items) machine.new) }
-    ensures started { OnOk result (IsStarted node.now.plan.setup node.now.number (journal_found is_new (D.seen disk.old)) machine.new) }
+    ensures restarts { OnOk result (Restarts M.recalls M.readable M.blank M.rests (whole_lines node.now.plan.text.items) machine.new (D.synced disk.new)) }
+    ensures of_plan { OnOk result (M.is_of (whole_lines node.now.plan.text.items) machine.new) }
+    ensures started { OnOk result (IsStarted (kind M.steps M.recalls M.readable M.blank M.rests M.is_new) node.now.plan.setup node.now.number (journal_found is_new (D.seen disk.old)) machine.new) }
     ensures its { is_new ≡ false → OnOk result (is_its_journal node.now.plan.setup node.now.number (D.seen disk.old) ≡ true) }
     ensures whole { is_new ≡ false → OnOk result (has_right_batch (behind (D.seen disk.old)) ≡ false) }
     ensures form { IfErr result (λ fault. (journal : List ℕ) → TellsForm journal fault) }
     ensures damaged { IfErr result (TellsDamage (D.seen disk.old)) }
-    ensures another { is_new ≡ false → IfErr result (TellsAnother node.now.plan.setup node.now.number (D.seen disk.old)) }
+    ensures another { is_new ≡ false → IfErr result (TellsAnother (kind M.steps M.recalls M.readable M.blank M.rests M.is_new) node.now.plan.setup node.now.number (D.seen disk.old)) }
     ensures same { is_new ≡ false → IfErr result (LeavesJournal (D.seen disk.new ≡ D.seen disk.old)) }
     ensures crash { Elapses (D.instant disk.old) (D.instant disk.new) (D.left_since disk.old) (D.left_since disk.new)
-        (MayBeLeft node.now.plan.setup node.now.number is_new (D.synced disk.old) (D.seen disk.old)) }
+        (MayBeLeft (kind M.steps M.recalls M.readable M.blank M.rests M.is_new) node.now.plan.setup node.now.number is_new (D.synced disk.old) (D.seen disk.old)) }
 {
     if is_new {
         begin(alloc, node, machine, disk)
@@ -143,7 +143,7 @@ fn journal_text<D: Disk>(alloc: Global, is_new: bool, disk: &mut D) -> Result<Ve
     ensures crash { Elapses (D.instant disk.old) (D.instant disk.new) (D.left_since disk.old) (D.left_since disk.new)
         (λ left. (is_new ≡ false) × LeavesSyncing (D.synced disk.old) (D.seen disk.old) left) }
     ensures damaged { IfErr result (λ fault. (journal : List ℕ) → TellsDamage journal fault) }
-    ensures another { IfErr result (λ fault. (setup : Setup) (number : ℕ) (journal : List ℕ) → TellsAnother setup number journal fault) }
+    ensures another { IfErr result TellsNoOther }
 {
     if is_new {
         return Ok(Vec::new(alloc));
@@ -173,39 +173,40 @@ fn first_text<'x>(
 
 // Starts the machine, which was never started, and takes the lines of the input. The journal's text is let go of in between: it is as
 // long as all that was kept.
-fn serve_machine<D: Disk, I: Read, O: Output, C: Console>(
+fn serve_machine<M: Served, D: Disk, I: Read, O: Output, C: Console>(
     alloc: Global,
     node: &ThisNode,
     is_new: bool,
     journal: Vec<u8>,
     console: &C,
-    machine: &mut NodeMachine,
+    machine: &mut M,
     disk: &mut D,
     input: &mut I,
     out: &mut O,
 ) -> Result<(), NodeFault>
     requires read { is_new ≡ false → journal.items ≡ D.seen disk.old }
     requires synced { is_new ≡ false → D.synced disk.old ≡ D.seen disk.old }
-    requires begun { is_new ≡ true → IsNewFor node.now.plan.setup node.now.number (first_read (Ok node.now.plan.setup)) (tables_of machine.old) }
-    requires found { is_new ≡ false → IsNewFor node.now.plan.setup node.now.number (first_of_lines (first_plan (batches_of (D.seen disk.old)))) (tables_of machine.old) }
-    requires of_plan { MachineIsOf (whole_lines node.now.plan.text.items) machine.old }
-    requires durable { (synced shown : List ℕ) → IsDurable node.now.number (I.remaining input.old) (O.shown out.old ++ first_text) synced shown → O.allows synced shown }
-    ensures served { OnOk result (ServesInput node.now.plan.setup node.now.number (journal_found is_new (D.seen disk.old)) (I.remaining input.old) (O.shown out.old ++ first_text) (D.synced disk.new) (O.shown out.new)) }
+    requires begun { is_new ≡ true → M.is_new node.now.plan.setup node.now.number (Ok node.now.plan.setup) machine.old }
+    requires found { is_new ≡ false → M.is_new node.now.plan.setup node.now.number (setup_of_node_text (lines_text (first_plan (batches_of (D.seen disk.old))))) machine.old }
+    requires blank { is_new ≡ false → M.blank (first_plan (batches_of (D.seen disk.old))) machine.old machine.old }
+    requires of_plan { M.is_of (whole_lines node.now.plan.text.items) machine.old }
+    requires durable { (synced shown : List ℕ) → IsDurable (kind M.steps M.recalls M.readable M.blank M.rests M.is_new) node.now.number (I.remaining input.old) (O.shown out.old ++ first_text) synced shown → O.allows synced shown }
+    ensures served { OnOk result (ServesInput (kind M.steps M.recalls M.readable M.blank M.rests M.is_new) node.now.plan.setup node.now.number (journal_found is_new (D.seen disk.old)) (I.remaining input.old) (O.shown out.old ++ first_text) (D.synced disk.new) (O.shown out.new)) }
     ensures its { is_new ≡ false → OnOk result (is_its_journal node.now.plan.setup node.now.number (D.seen disk.old) ≡ true) }
     ensures whole { is_new ≡ false → OnOk result (has_right_batch (behind (D.seen disk.old)) ≡ false) }
     ensures form { IfErr result (λ fault. (journal : List ℕ) → TellsForm journal fault) }
     ensures damaged { IfErr result (TellsDamage (D.seen disk.old)) }
-    ensures another { is_new ≡ false → IfErr result (TellsAnother node.now.plan.setup node.now.number (D.seen disk.old)) }
+    ensures another { is_new ≡ false → IfErr result (TellsAnother (kind M.steps M.recalls M.readable M.blank M.rests M.is_new) node.now.plan.setup node.now.number (D.seen disk.old)) }
     ensures crash { Elapses (D.instant disk.old) (D.instant disk.new) (D.left_since disk.old) (D.left_since disk.new)
-        (MayBeLeft node.now.plan.setup node.now.number is_new (D.synced disk.old) (D.seen disk.old)) }
+        (MayBeLeft (kind M.steps M.recalls M.readable M.blank M.rests M.is_new) node.now.plan.setup node.now.number is_new (D.synced disk.old) (D.seen disk.old)) }
 {
     let read = journal.as_slice();
     let number = begin_or_go_on(alloc, node, is_new, read, console, machine, disk)?;
     drop(journal);
-    let lacked = machine.lacked();
-    tell_ready(console, node, machine.facts, lacked);
+    let lacked = machine.registers().lacked();
+    tell_ready(console, node, machine.facts(), lacked);
     let mut telling = Telling::new(console, node.number, lacked > 0);
-    let longest = longest_line(node.plan.setup().plan());
+    let longest = longest_of(node.plan.setup());
     serve(
         alloc,
         longest,
@@ -228,32 +229,32 @@ fn serve_machine<D: Disk, I: Read, O: Output, C: Console>(
 /// comes only where the journal is not its own, and what it tells of the last plan is so; `Strange` only where a line of the journal
 /// says no fact that fits in this node. At any time, also amid the start and while the journal is written anew, a crash leaves what
 /// a start reads as the journal that was found, or as this node behind some of its steps (`any_time`).
-pub fn serve_node<D: Disk, I: Read, O: Output, C: Console>(
+pub fn serve_node<M: Served + Drop, K: Maker<M> + Drop, D: Disk, I: Read, O: Output, C: Console>(
     alloc: Global,
     node: &ThisNode,
     is_new: bool,
     console: &C,
+    maker: K,
     disk: &mut D,
     input: &mut I,
     out: &mut O,
 ) -> Result<(), NodeFault>
-    requires durable { (synced shown : List ℕ) → IsDurable node.now.number (I.remaining input.old) (O.shown out.old ++ first_text) synced shown → O.allows synced shown }
-    ensures served { OnOk result (ServesInput node.now.plan.setup node.now.number (journal_found is_new (D.seen disk.old)) (I.remaining input.old) (O.shown out.old ++ first_text) (D.synced disk.new) (O.shown out.new)) }
+    requires durable { (synced shown : List ℕ) → IsDurable (kind M.steps M.recalls M.readable M.blank M.rests M.is_new) node.now.number (I.remaining input.old) (O.shown out.old ++ first_text) synced shown → O.allows synced shown }
+    ensures served { OnOk result (ServesInput (kind M.steps M.recalls M.readable M.blank M.rests M.is_new) node.now.plan.setup node.now.number (journal_found is_new (D.seen disk.old)) (I.remaining input.old) (O.shown out.old ++ first_text) (D.synced disk.new) (O.shown out.new)) }
     ensures its { is_new ≡ false → OnOk result (is_its_journal node.now.plan.setup node.now.number (D.seen disk.old) ≡ true) }
     ensures whole { is_new ≡ false → OnOk result (has_right_batch (behind (D.seen disk.old)) ≡ false) }
     ensures form { IfErr result (TellsForm (D.seen disk.old)) }
     ensures kept { is_new ≡ false → IsSome (form_of (D.seen disk.old)) → D.seen disk.new ≡ D.seen disk.old }
     ensures damaged { IfErr result (TellsDamage (D.seen disk.old)) }
-    ensures another { is_new ≡ false → IfErr result (TellsAnother node.now.plan.setup node.now.number (D.seen disk.old)) }
-    ensures any_time { (left : List ℕ) → D.left_since disk.new (D.instant disk.old) left → MayBeLeft node.now.plan.setup node.now.number is_new (D.synced disk.old) (D.seen disk.old) left }
+    ensures another { is_new ≡ false → IfErr result (TellsAnother (kind M.steps M.recalls M.readable M.blank M.rests M.is_new) node.now.plan.setup node.now.number (D.seen disk.old)) }
+    ensures any_time { (left : List ℕ) → D.left_since disk.new (D.instant disk.old) left → MayBeLeft (kind M.steps M.recalls M.readable M.blank M.rests M.is_new) node.now.plan.setup node.now.number is_new (D.synced disk.old) (D.seen disk.old) left }
 {
     let journal = match journal_text(alloc, is_new, disk) {
         Ok(journal) => journal,
         Err(fault) => return Err(fault),
     };
     let first = first_text(alloc, node, is_new, journal.as_slice())?;
-    let blank = new_node(alloc, node, first)?;
-    let mut machine = NodeMachine::new(alloc, blank);
+    let mut machine = maker.make(alloc, node, journal.as_slice(), first)?;
     serve_machine(
         alloc,
         node,

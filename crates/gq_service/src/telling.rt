@@ -1,6 +1,7 @@
 //! Who tells what an operator wants to know of a node while it takes lines.
 
 use crate::console::Console;
+use crate::served::Served;
 use gq_grid::MOST_SERVERS;
 use gq_keeper::Watch;
 use gq_machine::NodeMachine;
@@ -50,8 +51,9 @@ impl<'x, C: Console> Telling<'x, C> {
     }
 }
 
-impl<C: Console> Watch<NodeMachine> for Telling<'_, C> {
-    fn took(&mut self, machine: &NodeMachine) {
+impl<C: Console, M: Served> Watch<M> for Telling<'_, C> {
+    fn took(&mut self, machine: &M) {
+        let machine = machine.registers();
         if self.lacks && !machine.lacks_some() {
             self.lacks = false;
             self.console.has_all(self.number);

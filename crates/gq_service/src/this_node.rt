@@ -1,11 +1,11 @@
 //! Which node a process is.
 
-ghost use Rattle.std.specs.Prelude.{◌≡◌, true, [], Ok, IfOk, IfErr};
+ghost use Rattle.std.specs.Prelude.{◌≡◌, true, Ok, IfOk, IfErr};
 ghost use Rattle.gq_keeper.specs.Plans.{IsPlan};
 ghost use Rattle.gq_setup.specs.Setups.{has_node};
 ghost use Rattle.gq_setup.specs.Texts.{node_text, setup_of_node_text, OpensFor};
 ghost use Rattle.gq_journal.specs.Batches.{whole_lines};
-ghost use Rattle.gq_service.specs.Serving.{TellsChunks, TellsNoServer, TellsNoText};
+ghost use Rattle.gq_service.specs.Serving.{TellsNoServer, TellsNoText};
 
 use crate::fault::NodeFault;
 use gq_grid::MOST_SERVERS;
@@ -18,7 +18,6 @@ pub struct ThisNode {
     pub number: u16,
     pub plan: NodePlan,
     ghost of_plan: { has_node plan.setup number ≡ true },
-    ghost no_chunks: { plan.setup.rooms ≡ [] },
     ghost text: { plan.text.items ≡ node_text number plan.setup },
     ghost back: { setup_of_node_text plan.text.items ≡ Ok plan.setup },
     ghost volumes: { OpensFor (whole_lines plan.text.items) plan.setup },
@@ -30,7 +29,6 @@ fn node_of(setup: &Setup, number: u32) -> Result<u16, NodeFault>
     ensures same { IfOk result (λ node. node ≡ number) }
     ensures of_plan { IfOk result (λ node. has_node setup.now node ≡ true) }
     ensures fault { IfErr result (TellsNoServer setup.now number) }
-    ensures chunks { IfErr result (TellsChunks setup.now number) }
     ensures text { IfErr result (TellsNoText setup.now number) }
 {
     if !setup.has_node(number) {
@@ -40,21 +38,16 @@ fn node_of(setup: &Setup, number: u32) -> Result<u16, NodeFault>
 }
 
 impl ThisNode {
-    /// The node of this number, with what it starts with. `NoServer` comes exactly where the plan has no such node. `Chunks` comes of a node
-    /// of the plan, exactly where that gives some tenant room for chunks; and `PlanText` only where the plan's text may not stand in a journal.
+    /// The node of this number, with what it starts with. `NoServer` comes exactly where the plan has no such node, and `PlanText`
+    /// only where the plan's text may not stand in a journal.
     pub fn new(alloc: Global, number: u32, setup: Setup) -> Result<ThisNode, NodeFault>
         ensures number { IfOk result (λ node. node.number ≡ number) }
         ensures setup { IfOk result (λ node. node.plan.setup ≡ setup) }
         ensures of_plan { IfOk result (λ node. has_node setup number ≡ true) }
-        ensures no_chunks { IfOk result (λ node. setup.rooms ≡ []) }
         ensures no_server { IfErr result (TellsNoServer setup number) }
-        ensures chunks { IfErr result (TellsChunks setup number) }
         ensures plan_text { IfErr result (TellsNoText setup number) }
     {
         let node = node_of(&setup, number)?;
-        if setup.has_chunks() {
-            return Err(NodeFault::Chunks);
-        }
         match NodePlan::new(alloc, node, setup)? {
             Some(plan) => Ok(ThisNode { number: node, plan }),
             None => Err(NodeFault::PlanText),

@@ -9,7 +9,8 @@ use gq_cli::carry_out;
 use gq_keeper::Stream;
 use gq_plan::{ToldFault, answer_plan};
 use gq_script::{Notice, Watched};
-use gq_service::{Durable, Standard, Told, run_node};
+use gq_service::{Durable, Standard, Told, WithChunks, run_node};
+use gq_shelf::FileShelf;
 use gq_words::{CommandLine, NodeRequest, PlanRequest, Request, Usage, read_words};
 use std::alloc::Global;
 use std::fmt::Display;
@@ -78,8 +79,9 @@ fn answered<R: Input + Print + Eprint + Threads + Wait + Sync>(
 fn serves(rt: &HostRuntime, alloc: Global, asked: &NodeRequest<'_>) -> ExitCode {
     let console = Standard::new(rt.stdin(), rt.stdout(), rt.stderr(), asked.journal);
     let mut input = rt.stdin();
-    let mut out: Stream<_, Durable> = Stream::new(io::writer(rt));
-    match run_node(rt, alloc, asked, &console, &mut input, &mut out) {
+    let chunks = WithChunks::new(rt, asked.journal);
+    let mut out: Stream<_, Durable<FileShelf<&HostRuntime>>> = Stream::new(io::writer(rt));
+    match run_node(rt, alloc, asked, &console, chunks, &mut input, &mut out) {
         Ok(()) => ExitCode::SUCCESS,
         Err(fault) => {
             let status = fault.status();

@@ -3,21 +3,19 @@ use Rattle.std.proofs.Common.{◌≡◌, ◌∙◌, ◌++◌, ℕ, List, ap, sub
 use Rattle.gq_journal.specs.Batches.{whole_lines}
 use Rattle.gq_keeper.specs.Durable.{Durable}
 use Rattle.gq_keeper.specs.Lines.{short_lines}
-use Rattle.gq_machine.specs.declared.machine.NodeMachine.{NodeMachine}
-use Rattle.gq_machine.specs.Machines.{MachineSteps, MachineRecalls, machine_reads, MachineIsBlank, MachineRests}
-use Rattle.gq_setup.specs.Setups.{Setup}
 use Rattle.gq_setup.specs.Texts.{node_text}
-use Rattle.gq_wire.specs.Incoming.{longest_line}
 use Rattle.gq_wire.specs.Texts.{first_text}
+use Rattle.gq_chunks.specs.Longest.{longest_of}
+use Rattle.gq_service.specs.Kinds.{kind}
 use Rattle.gq_service.specs.Serving.{journal_found}
 use Rattle.gq_service.proofs.Crashes.{elapses_serving}
 use Rattle.gq_service.proofs.serving.serve_machine.Goals as goal
 
 pub serve-requires-clause-may : goal.serve-requires-clause-may
 serve-requires-clause-may g c = λ last taken synced shown begins d.
-    let first : NodeMachine = c.begin_or_go_on.new.machine in
+    let first = c.begin_or_go_on.new.machine in
     let text : c.text.result.now ≡ node_text c.args.node.now.number c.args.node.now.plan.setup = c.text.ensures ∙ c.args.node.now.text in
-    let longest : c.longest_line-longest.result ≡ longest_line c.args.node.now.plan.setup.plan = c.longest_line-longest.ensures.value ∙ ap longest_line (c.plan.ensures ∙ ap (λ (s : Setup). s.plan) c.setup.ensures) in
+    let longest : c.longest_of-longest.result ≡ longest_of c.args.node.now.plan.setup = c.longest_of-longest.ensures ∙ ap longest_of c.setup.ensures in
     c.requires.durable synced shown (record {
       setup = c.args.node.now.plan.setup;
       journal = journal_found c.args.is_new (g.D.Log.seen c.args.disk.now);
@@ -27,16 +25,16 @@ serve-requires-clause-may g c = λ last taken synced shown begins d.
         first = first;
         last = last;
         started = c.in_ok-number.ensures.started;
-        durable = subst (λ n. Durable MachineSteps MachineRecalls machine_reads MachineIsBlank MachineRests first last (whole_lines (node_text c.args.node.now.number c.args.node.now.plan.setup)) (short_lines n taken) (g.O.Output.shown c.args.out.now ++ first_text) synced shown) longest
-            (subst (λ (t : List ℕ). Durable MachineSteps MachineRecalls machine_reads MachineIsBlank MachineRests first last (whole_lines t) (short_lines c.longest_line-longest.result taken) (g.O.Output.shown c.args.out.now ++ first_text) synced shown) text d);
+        durable = subst (λ n. Durable g.M.Machine.steps g.M.Machine.recalls g.M.Machine.readable g.M.Lasting.blank g.M.Lasting.rests first last (whole_lines (node_text c.args.node.now.number c.args.node.now.plan.setup)) (short_lines n taken) (g.O.Output.shown c.args.out.now ++ first_text) synced shown) longest
+            (subst (λ (t : List ℕ). Durable g.M.Machine.steps g.M.Machine.recalls g.M.Machine.readable g.M.Lasting.blank g.M.Lasting.rests first last (whole_lines t) (short_lines c.longest_of-longest.result taken) (g.O.Output.shown c.args.out.now ++ first_text) synced shown) text d);
       };
     })
 
 pub returns-clause-served : goal.returns-clause-served
 returns-clause-served g c =
-    let first : NodeMachine = c.begin_or_go_on.new.machine in
+    let first = c.begin_or_go_on.new.machine in
     let text : c.text.result.now ≡ node_text c.args.node.now.number c.args.node.now.plan.setup = c.text.ensures ∙ c.args.node.now.text in
-    let longest : c.longest_line-longest.result ≡ longest_line c.args.node.now.plan.setup.plan = c.longest_line-longest.ensures.value ∙ ap longest_line (c.plan.ensures ∙ ap (λ (s : Setup). s.plan) c.setup.ensures) in
+    let longest : c.longest_of-longest.result ≡ longest_of c.args.node.now.plan.setup = c.longest_of-longest.ensures ∙ ap longest_of c.setup.ensures in
     let d = c.in_ok-serve.ensures.durable in
     record {
       bytes = d.0;
@@ -45,17 +43,17 @@ returns-clause-served g c =
         first = first;
         last = c.serve.new.machine;
         started = c.in_ok-number.ensures.started;
-        durable = subst (λ n. Durable MachineSteps MachineRecalls machine_reads MachineIsBlank MachineRests first c.serve.new.machine (whole_lines (node_text c.args.node.now.number c.args.node.now.plan.setup)) (short_lines n d.0) (g.O.Output.shown c.args.out.now ++ first_text) (g.D.Log.synced c.serve.new.disk) (g.O.Output.shown c.serve.new.out)) longest
-            (subst (λ (t : List ℕ). Durable MachineSteps MachineRecalls machine_reads MachineIsBlank MachineRests first c.serve.new.machine (whole_lines t) (short_lines c.longest_line-longest.result d.0) (g.O.Output.shown c.args.out.now ++ first_text) (g.D.Log.synced c.serve.new.disk) (g.O.Output.shown c.serve.new.out)) text d.2);
+        durable = subst (λ n. Durable g.M.Machine.steps g.M.Machine.recalls g.M.Machine.readable g.M.Lasting.blank g.M.Lasting.rests first c.serve.new.machine (whole_lines (node_text c.args.node.now.number c.args.node.now.plan.setup)) (short_lines n d.0) (g.O.Output.shown c.args.out.now ++ first_text) (g.D.Log.synced c.serve.new.disk) (g.O.Output.shown c.serve.new.out)) longest
+            (subst (λ (t : List ℕ). Durable g.M.Machine.steps g.M.Machine.recalls g.M.Machine.readable g.M.Lasting.blank g.M.Lasting.rests first c.serve.new.machine (whole_lines t) (short_lines c.longest_of-longest.result d.0) (g.O.Output.shown c.args.out.now ++ first_text) (g.D.Log.synced c.serve.new.disk) (g.O.Output.shown c.serve.new.out)) text d.2);
       };
     }
 
 pub returns-in_err-serve-clause-crash : goal.returns-in_err-serve-clause-crash
 returns-in_err-serve-clause-crash g c =
     let text : c.text.result.now ≡ node_text c.args.node.now.number c.args.node.now.plan.setup = c.text.ensures ∙ c.args.node.now.text in
-    elapses_serving c.args.node.now.plan.setup c.args.node.now.number c.args.is_new _ _ _ _ _ _ (g.D.Log.synced c.args.disk.now) (g.D.Log.seen c.args.disk.now) c.begin_or_go_on.new.machine c.text.result.now c.in_ok-number.ensures.started text c.begin_or_go_on.ensures.crash c.serve.ensures.crash
+    elapses_serving (kind g.M.Machine.steps g.M.Machine.recalls g.M.Machine.readable g.M.Lasting.blank g.M.Lasting.rests g.M.Served.is_new) c.args.node.now.plan.setup c.args.node.now.number c.args.is_new _ _ _ _ _ _ (g.D.Log.synced c.args.disk.now) (g.D.Log.seen c.args.disk.now) c.begin_or_go_on.new.machine c.text.result.now c.in_ok-number.ensures.started text c.begin_or_go_on.ensures.crash c.serve.ensures.crash
 
 pub returns-clause-crash : goal.returns-clause-crash
 returns-clause-crash g c =
     let text : c.text.result.now ≡ node_text c.args.node.now.number c.args.node.now.plan.setup = c.text.ensures ∙ c.args.node.now.text in
-    elapses_serving c.args.node.now.plan.setup c.args.node.now.number c.args.is_new _ _ _ _ _ _ (g.D.Log.synced c.args.disk.now) (g.D.Log.seen c.args.disk.now) c.begin_or_go_on.new.machine c.text.result.now c.in_ok-number.ensures.started text c.begin_or_go_on.ensures.crash c.serve.ensures.crash
+    elapses_serving (kind g.M.Machine.steps g.M.Machine.recalls g.M.Machine.readable g.M.Lasting.blank g.M.Lasting.rests g.M.Served.is_new) c.args.node.now.plan.setup c.args.node.now.number c.args.is_new _ _ _ _ _ _ (g.D.Log.synced c.args.disk.now) (g.D.Log.seen c.args.disk.now) c.begin_or_go_on.new.machine c.text.result.now c.in_ok-number.ensures.started text c.begin_or_go_on.ensures.crash c.serve.ensures.crash

@@ -12,7 +12,6 @@ invariant_of-result c =
     let setup : c.in-Some.plan.setup ≡ c.args.setup = some_of c.in_ok-plan.field-0 c.in-Some.plan _ c.in-Some.is c.in_ok-plan.ensures.setup in
     record {
       of_plan = subst (λ (s : Setup). has_node s c.in_ok-node.node ≡ true) (sym setup) c.in_ok-node.ensures.of_plan;
-      no_chunks = ap (λ (s : Setup). s.rooms) setup ∙ c.has_chunks.ensures.none c.if-has_chunks.false;
       text = some_of c.in_ok-plan.field-0 c.in-Some.plan _ c.in-Some.is c.in_ok-plan.ensures.text ∙ ap (node_text c.in_ok-node.node) (sym setup);
       back = some_of c.in_ok-plan.field-0 c.in-Some.plan _ c.in-Some.is c.in_ok-plan.ensures.back ∙ ap (λ (s : Setup). Ok s) (sym setup);
       volumes = subst (OpensFor (whole_lines c.in-Some.plan.text.items)) (sym setup) (some_of c.in_ok-plan.field-0 c.in-Some.plan _ c.in-Some.is c.in_ok-plan.ensures.volumes);
@@ -21,6 +20,3 @@ invariant_of-result c =
 
 pub returns-in-Some-clause-of_plan : goal.returns-in-Some-clause-of_plan
 returns-in-Some-clause-of_plan c = subst (λ n. has_node c.args.setup n ≡ true) c.in_ok-node.ensures.same c.in_ok-node.ensures.of_plan
-
-pub returns-then-has_chunks-clause-chunks : goal.returns-then-has_chunks-clause-chunks
-returns-then-has_chunks-clause-chunks c = (c.has_chunks.ensures.some c.if-has_chunks.true, subst (λ n. has_node c.args.setup n ≡ true) c.in_ok-node.ensures.same c.in_ok-node.ensures.of_plan)

@@ -1,0 +1,1 @@
+-- The setup that was read.

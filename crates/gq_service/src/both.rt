@@ -1,0 +1,118 @@
+//! A node that keeps registers and chunks.
+
+ghost use Rattle.std.specs.Prelude.{IfOk};
+ghost use Rattle.gq_chunks.specs.Machines.{IsNewFor};
+ghost use Rattle.gq_setup.specs.Texts.{setup_of_node_text};
+ghost use Rattle.gq_service.specs.Both.{chunks_of, setup_read};
+
+use crate::fault::NodeFault;
+use crate::registers::new_registers;
+use crate::served::{Maker, Served};
+use crate::shelving::{find_shelf, had_chunks};
+use crate::this_node::ThisNode;
+use gq_chunks::{ChunkMachine, is_chunk_fact, taker_of};
+use gq_machine::NodeMachine;
+use gq_memory::OutOfMemory;
+use gq_pair::{Pair, Parts, Taker};
+use gq_setup::read_node_plan;
+use gq_shelf::{FileShelf, Shelf};
+use std::alloc::Global;
+use std::fs::File;
+use std::marker::PhantomData;
+use std::rt::Files;
+
+/// Lines and facts of registers and of chunks are told apart by their verbs.
+#[derive(Drop)]
+pub struct ByVerb;
+
+impl<S: Shelf + Drop> Parts<NodeMachine, ChunkMachine<S>> for ByVerb {
+    ghost use Rattle.gq_chunks.specs.Takers.{line_taker, tells_chunk};
+    ghost use Rattle.gq_service.specs.Both.{chunks_of};
+    ghost use Rattle.gq_service.specs.Verbs.{first_facts, second_facts, first_reads, second_reads};
+
+    ghost takes = { line_taker };
+
+    ghost is_second = { tells_chunk };
+
+    fn taker_of(line: &[u8]) -> Taker {
+        taker_of(line)
+    }
+
+    fn is_second_fact(line: &[u8]) -> bool {
+        is_chunk_fact(line)
+    }
+
+    ghost first_facts = { first_facts };
+
+    ghost second_facts = { λ old line facts told new step. second_facts (chunks_of S.noted old) line facts told (chunks_of S.noted new) step };
+
+    ghost first_reads = { first_reads };
+
+    ghost second_reads = { λ m line reads. second_reads (chunks_of S.noted m) line reads };
+}
+
+/// Registers, and chunks over a shelf.
+pub type Both<S> = Pair<NodeMachine, ChunkMachine<S>, ByVerb>;
+
+impl<S: Shelf + Drop> Served for Pair<NodeMachine, ChunkMachine<S>, ByVerb> {
+    ghost use Rattle.gq_service.specs.Both.{BothAreNewFor, chunks_of};
+
+    ghost is_new = { BothAreNewFor (chunks_of S.noted) };
+
+    fn facts(&self) -> u64 {
+        self.first.facts.saturating_add(self.second.facts())
+    }
+
+    fn registers(&self) -> &NodeMachine {
+        &self.first
+    }
+}
+
+// The chunks of the node, never started, over a shelf. The plan with which its journal begins has this text.
+fn new_chunks<S: Shelf + Drop>(
+    alloc: Global,
+    node: &ThisNode,
+    first: &[u8],
+    shelf: S,
+) -> Result<ChunkMachine<S>, OutOfMemory>
+    ensures { IfOk result (λ m. IsNewFor node.now.plan.setup (setup_read (setup_of_node_text first.now)) node.now.number (chunks_of S.noted m)) }
+{
+    let before = read_node_plan(alloc, first)?;
+    ChunkMachine::new(alloc, node.plan.setup(), &before, node.number, shelf)
+}
+
+/// Makes the machine of a node that keeps chunks as well, on the shelf beside the journal of this path.
+#[derive(Drop)]
+pub struct WithChunks<'x, R: Files<File = File> + Drop> {
+    rt: R,
+    path: &'x str,
+}
+
+impl<'x, R: Files<File = File> + Drop> WithChunks<'x, R> {
+    /// On the shelf beside the journal of this path. Nothing is opened yet.
+    pub fn new(rt: R, path: &'x str) -> WithChunks<'x, R> {
+        WithChunks { rt, path }
+    }
+}
+
+impl<R: Files<File = File> + Drop> Maker<Pair<NodeMachine, ChunkMachine<FileShelf<R>>, ByVerb>>
+    for WithChunks<'_, R> {
+    fn make(
+        self,
+        alloc: Global,
+        node: &ThisNode,
+        journal: &[u8],
+        first: &[u8],
+    ) -> Result<Pair<NodeMachine, ChunkMachine<FileShelf<R>>, ByVerb>, NodeFault> {
+        let WithChunks { rt, path } = self;
+        let registers = new_registers(alloc, node, first)?;
+        let had_chunks = had_chunks(alloc, journal)?;
+        let shelf = find_shelf(alloc, rt, path, had_chunks)?;
+        let chunks = new_chunks(alloc, node, first, shelf)?;
+        Ok(Pair {
+            first: registers,
+            second: chunks,
+            parts: PhantomData,
+        })
+    }
+}

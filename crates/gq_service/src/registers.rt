@@ -1,0 +1,55 @@
+//! A node that keeps registers alone.
+
+ghost use Rattle.std.specs.Prelude.{IfOk};
+ghost use Rattle.gq_machine.specs.Machines.{tables_of};
+ghost use Rattle.gq_setup.specs.Texts.{setup_of_node_text, first_read};
+ghost use Rattle.gq_service.specs.Serving.{IsNewFor};
+
+use crate::fault::NodeFault;
+use crate::new_node::new_node;
+use crate::served::{Maker, Served};
+use crate::this_node::ThisNode;
+use gq_machine::NodeMachine;
+use gq_memory::OutOfMemory;
+use std::alloc::Global;
+
+impl Served for NodeMachine {
+    ghost is_new = { λ setup number read m. IsNewFor setup number (first_read read) (tables_of m) };
+
+    fn facts(&self) -> u64 {
+        self.facts
+    }
+
+    fn registers(&self) -> &NodeMachine {
+        self
+    }
+}
+
+/// The registers of the node, never started. The plan with which its journal begins has this text.
+pub(crate) fn new_registers(
+    alloc: Global,
+    node: &ThisNode,
+    first: &[u8],
+) -> Result<NodeMachine, OutOfMemory>
+    ensures { IfOk result (λ m. IsNewFor node.now.plan.setup node.now.number (first_read (setup_of_node_text first.now)) (tables_of m)) }
+{
+    let blank = new_node(alloc, node, first)?;
+    Ok(NodeMachine::new(alloc, blank))
+}
+
+/// Makes the machine of a node that keeps registers alone.
+#[derive(Drop)]
+pub struct RegistersAlone;
+
+impl Maker<NodeMachine> for RegistersAlone {
+    fn make(
+        self,
+        alloc: Global,
+        node: &ThisNode,
+        _journal: &[u8],
+        first: &[u8],
+    ) -> Result<NodeMachine, NodeFault> {
+        let machine = new_registers(alloc, node, first)?;
+        Ok(machine)
+    }
+}

@@ -1,0 +1,44 @@
+//! The machine that a node's process runs.
+
+ghost use Rattle.std.specs.Prelude.{◌≡◌, ℕ, List, IfOk, IfErr};
+ghost use Rattle.gq_journal.specs.Batches.{Line, whole_lines, lines_text};
+ghost use Rattle.gq_setup.specs.Setups.{Setup, SetupReading};
+ghost use Rattle.gq_setup.specs.Texts.{setup_of_node_text};
+ghost use Rattle.gq_service.specs.Serving.{TellsForm, TellsDamage, TellsNoOther};
+
+use crate::fault::NodeFault;
+use crate::this_node::ThisNode;
+use gq_keeper::Lasting;
+use gq_machine::NodeMachine;
+use std::alloc::Global;
+
+/// A machine that a node's process runs.
+pub trait Served: Lasting {
+    /// It is that of the node of this number of the setup, never started. The plan with which its journal begins was read so.
+    ghost is_new: { Setup → ℕ → SetupReading Setup → Self → Type 0 };
+
+    /// How many facts it read.
+    fn facts(&self) -> u64;
+
+    /// Its registers.
+    fn registers(&self) -> &NodeMachine;
+}
+
+/// What makes the machine with which a start begins.
+pub trait Maker<M: Served> {
+    /// The machine of the node, never started. The journal that is found is this one, none where one is to be begun, and begins with the plan
+    /// of that text, or is to begin with it.
+    fn make(
+        self,
+        alloc: Global,
+        node: &ThisNode,
+        journal: &[u8],
+        first: &[u8],
+    ) -> Result<M, NodeFault>
+        ensures new { IfOk result (λ m. M.is_new node.now.plan.setup node.now.number (setup_of_node_text first.now) m) }
+        ensures blank { IfOk result (λ m. (lines : List Line) → lines_text lines ≡ first.now → M.blank lines m m) }
+        ensures of_plan { IfOk result (λ m. M.is_of (whole_lines node.now.plan.text.items) m) }
+        ensures form { IfErr result (λ fault. (journal : List ℕ) → TellsForm journal fault) }
+        ensures damaged { IfErr result (λ fault. (journal : List ℕ) → TellsDamage journal fault) }
+        ensures another { IfErr result TellsNoOther };
+}
