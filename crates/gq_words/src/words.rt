@@ -239,10 +239,11 @@ goes to the home of its session, under the number that its operation is to have:
 A request may be sent again until it is answered, and takes effect once. `N N tick` has node N ask other servers where an
 operation waits. docs/FORMATS.md has all forms.
 
-The plan is that of `gridfs run`. Behind `go` it has lines `NAME open FILES BLOCKS`, which open the volumes at each start, and
-`replace PLACE`, one for each node that was lost, and no others. What must not be forgotten is in the journal, and on disk, before
-anything that rests on it is written. `--new` begins the journal, at the grid's first start or that of a new node. A node whose
-journal is lost can't come back: a new one, whose number is greater by 64, takes its place, and others give it the files.
+The plan is that of `gridfs run`. After `go` it has lines `NAME open FILES BLOCKS`, which open the volumes at each start,
+`NAME chunks KIB`, which give room for chunks, `replace PLACE`, one for each node that was lost, and no others. What must not be
+forgotten is in the journal, and on disk, before anything that rests on it is written. `--new` begins the journal, at the grid's
+first start or that of a new node. `--anew` has it written anew: what was replaced stands in it no more. A node whose journal is
+lost can't come back: a new one, whose number is greater by 64, takes its place, and others give it the files.
 
     gridfs node 0 --plan plan --journal node0.journal --new < lines
 
@@ -250,8 +251,8 @@ On standard error the node says when it is ready. It ends with status 0 at the e
 file or a stream is at fault, 3 where memory is wanting, 4 where the journal is damaged.";
 
 const PLAN: &str = "\
-FILE is a plan as a node takes it: that of `gridfs run`, and behind `go` only lines `NAME open FILES BLOCKS`, also with `times N`, and
-`replace PLACE`. What it says is written in lines of words NAME=VALUE. The first word of a line tells what the line is of:
+FILE is a plan as a node takes it: that of `gridfs run`, and after `go` only lines `NAME open FILES BLOCKS`, also with `times N`,
+`NAME chunks KIB` and `replace PLACE`. What it says is written in lines of words NAME=VALUE. The first word of a line tells what the line is of:
 
     rows=       the grid: rows, columns, nodes, room (the blocks of each server), tenants, losses; line, the most bytes of a line
                 that nodes take; answer, those of the answer `plan`; memory, the bytes that a node takes as it starts; peak, the most
@@ -259,7 +260,8 @@ FILE is a plan as a node takes it: that of `gridfs run`, and behind `go` only li
     place=      a place of the grid, and the node that stands there
     replace=    the place of a node that was lost; the lines are in order
     tenant=     a tenant: its share in blocks, how many of them no volume takes (free), its sessions, steps, the most blocks of a file
-                (most), how many volumes it may open (volumes), and how many volumes are open, with how many files
+                (most), how many volumes it may open (volumes), how many volumes are open, with how many files; and how many KiB of
+                chunks it has room for at each server, where it has some (chunks)
     session=    a session, its tenant, and the place of its home
     open=       volumes of this tenant that are alike and follow one another: files, blocks of a file, and how many they are (times)
 
