@@ -114,8 +114,8 @@ class Faults:
         if seen != wanted:
             self.wrong.append(f"{name}: {seen}, not {wanted}")
 
-    def node(self, given=b"", number=0, plan="plan", journal="journal", is_new=False, **more):
-        return ended(words_of(self.program, number, plan, journal, is_new), given, cwd=self.folder, **more)
+    def node(self, given=b"", number=0, plan="plan", journal="journal", is_new=False, is_anew=False, **more):
+        return ended(words_of(self.program, number, plan, journal, is_new) + ["--anew"] * is_anew, given, cwd=self.folder, **more)
 
     def refused(self, name, status, told, **more):
         """A start that is refused writes nothing, and leaves the journal as it was."""
@@ -164,6 +164,23 @@ class Faults:
         for name, other in NO_FORMS.items():
             put(self.at("journal"), other)
             self.refused(name, 1, b"gridfs: journal: no journal of a node\n")
+        put(self.at("journal"), text)
+
+    def anew(self):
+        """A journal that is written anew at a start: what was replaced stands in it no more, and another start reads the same."""
+        text = get(self.at("journal"))
+        facts = [b"began ann 1 1024\n", b"kept ann 0 0 1 1 =replaced\n", b"kept ann 0 1 1 1 =stays\n", b"kept ann 0 0 2 1 -\n"]
+        put(self.at("journal"), text + b"".join(sealed(number, fact) for number, fact in enumerate(facts, 2)))
+        before = get(self.at("journal"))
+        self.held("a start that is not told so", (self.node(), get(self.at("journal"))), ((0, READY % 4, FIRST), before))
+        self.held("a start by --anew", self.node(is_anew=True), (0, READY % 4, FIRST))
+        found, ends = batches(get(self.at("journal")))
+        needed = sorted(facts[0:1] + facts[2:])
+        self.held("the journal behind it", (found[0], sorted(found[1].splitlines(True)), ends[1:]), (batches(text)[0][0], needed, [len(get(self.at("journal")))]))
+        self.held("no JOURNAL.new behind it", os.path.exists(self.at("journal.new")), False)
+        self.held("a start behind it", self.node(), (0, READY % len(needed), FIRST))
+        self.held("a first start by --anew", (self.node(journal="anew", is_new=True, is_anew=True), get(self.at("anew"))), ((0, READY % 0, FIRST), text))
+        self.refused("another number, by --anew", 1, of_node(0), number=1, is_anew=True)
         put(self.at("journal"), text)
 
     def plans(self):
@@ -269,6 +286,7 @@ def tell_faults(program, folder):
     faults.first_start()
     faults.journals()
     faults.chunks()
+    faults.anew()
     faults.forms()
     faults.plans()
     faults.plans_that_go_on()

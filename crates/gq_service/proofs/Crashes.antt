@@ -39,6 +39,12 @@ left_serving k setup number is_new first text synced seen left started same r = 
 left_whole : (plan : List Line) (seen left : List ℕ) → Leaves seen seen left → ReadsAs plan seen left
 left_whole plan seen left l = subst (λ (t : List ℕ). ReadsAs plan seen t) (sym (leaves_all seen left l)) (record { facts = refl; begins = refl; first = refl; last = inl refl; mends = refl })
 
+-- so is one that is written anew, until the new one is there
+pub left_anew : {M : Type 0} (k : Kind M) (machine : M) (plan : List Line) (synced seen left : List ℕ) → seen ≡ synced → Restarts k.recalls k.readable k.blank k.rests plan machine synced →
+    Leaves synced seen left ⊎ Restarts k.recalls k.readable k.blank k.rests plan machine left → Restarts k.recalls k.readable k.blank k.rests plan machine left
+left_anew k machine plan synced seen left all restarts l =
+    ⊎_elim (λ old. subst (λ (t : List ℕ). Restarts k.recalls k.readable k.blank k.rests plan machine t) (sym (leaves_all synced left (subst (λ (t : List ℕ). Leaves synced t left) all old))) restarts) (λ r. r) l
+
 left_reading : {M : Type 0} (k : Kind M) (setup : Setup) (number : ℕ) (is_new : Bool) (synced seen left : List ℕ) → (is_new ≡ false) × LeavesSyncing synced seen left → MayBeLeft k setup number is_new synced seen left
 left_reading k setup number is_new synced seen left l = ⊎_elim (λ old. inl old) (λ whole. inr (inl (l.0, left_whole (whole_lines (node_text number setup)) seen left whole))) l.1
 
@@ -70,6 +76,12 @@ pub elapses_serving : {M : Type 0} (k : Kind M) (setup : Setup) (number : ℕ) (
     Elapses a b since_a since_b (MayBeLeft k setup number is_new synced seen) → Elapses b c since_b since_c (RestartsAsOne k.steps k.recalls k.readable k.blank k.rests (whole_lines text) first) → Elapses a c since_a since_c (MayBeLeft k setup number is_new synced seen)
 elapses_serving k setup number is_new a b c since_a since_b since_c synced seen first text started is begun served =
     elapses_then a b c since_a since_b since_c _ _ (MayBeLeft k setup number is_new synced seen) begun served (λ left l. l) (λ left r. left_serving k setup number is_new first text synced seen left started is r)
+
+pub elapses_anew : {M : Type 0} (k : Kind M) (setup : Setup) (number : ℕ) (is_new : Bool) (a b c : ℕ) (since_a since_b since_c : ℕ → List ℕ → Type 0) (synced seen : List ℕ) (first : M) (text : List ℕ) →
+    IsStarted k setup number (journal_found is_new seen) first → text ≡ node_text number setup →
+    Elapses a b since_a since_b (MayBeLeft k setup number is_new synced seen) → Elapses b c since_b since_c (Restarts k.recalls k.readable k.blank k.rests (whole_lines text) first) → Elapses a c since_a since_c (MayBeLeft k setup number is_new synced seen)
+elapses_anew k setup number is_new a b c since_a since_b since_c synced seen first text started is begun anew =
+    elapses_serving k setup number is_new a b c since_a since_b since_c synced seen first text started is begun (elapses_only b c since_b since_c _ (RestartsAsOne k.steps k.recalls k.readable k.blank k.rests (whole_lines text) first) anew (λ left r. (first, [], refl, r)))
 
 -- ---- at any time
 

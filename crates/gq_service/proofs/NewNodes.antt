@@ -1,6 +1,6 @@
 -- A node that was never started, with volumes that are opened one after another.
 use Rattle.std.proofs.Common.{◌≡◌, ◌≢◌, ◌∙◌, ℕ, zero, suc, ◌+◌, ◌<◌, ◌≤◌, List, [], ◌∷◌, ◌++◌, length, take, Bool, true, false, refl, sym, ap, subst, arith, inl, inr, get_or, append_assoc, append-nil, None}
-use Rattle.std.specs.Prelude.{◌==◌, map, slice_set, Result, Ok, Err, IsErr, OnOk, MatchOption, Option, Some, IfSome}
+use Rattle.std.specs.Prelude.{◌==◌, map, slice_set, Result, Ok, Err, IsErr, OnOk, IfErr, MatchOption, Option, Some, IfSome}
 use Rattle.std.proofs.lemmas.Bool.{cases_Bool, cases_eq, and_parts, eq-eqb, ne_eqb, eqb-true}
 use Rattle.std.proofs.lemmas.List.{take_more, take_all, length-set, get_or-map, get_or-set_same, get_or-set_other}
 use Rattle.std.proofs.lemmas.Option.{unwrap_or-slice_get}
@@ -25,7 +25,7 @@ use Rattle.gq_setup.specs.Texts.{first_read, first_of_lines, node_text, setup_of
 use Rattle.gq_service.specs.Kinds.{Kind}
 use Rattle.gq_service.specs.declared.fault.NodeFault.{NodeFault}
 use Rattle.gq_service.specs.declared.fault.NodeFault.TheVariants.{Memory, Read, Write, PlanRead, Plan, PlanText, NoServer, InUse, NoJournal, Journal, NoShelf, Shelf, ShelfRead, ShelfWrite, JournalRead, JournalWrite, Form, Damaged, Another, Strange}
-use Rattle.gq_service.specs.Serving.{IsOwnText, TellsAnother, TellsNoOther, volumes_in, first_of_read, begun_with, is_its_journal, IsOpen, IsNewFor}
+use Rattle.gq_service.specs.Serving.{IsOwnText, TellsAnother, TellsNoOther, LeavesJournal, volumes_in, first_of_read, begun_with, is_its_journal, IsOpen, IsNewFor}
 
 -- ---- what tenants have
 
@@ -255,6 +255,10 @@ pub always : {T E : Type 0} (r : Result T E) {P : Type 0} → P → OnOk r P
 always (Ok x) p = p
 always (Err e) p = tt
 
+pub err_only : {T E : Type 0} (r : Result T E) (P Q : E → Type 0) → ((e : E) → P e → Q e) → IfErr r P → IfErr r Q
+err_only (Ok x) P Q only told = tt
+err_only (Err e) P Q only told = only e told
+
 pub some_of : {A : Type 0} (o : Option A) (x : A) (P : A → Type 0) → o ≡ Some x → IfSome o P → P x
 some_of o x P is holds = subst (λ m. IfSome m P) is holds
 
@@ -288,3 +292,26 @@ tells_no_other k setup number journal JournalRead told = tt
 tells_no_other k setup number journal JournalWrite told = tt
 tells_no_other k setup number journal (Form x) told = tt
 tells_no_other k setup number journal (Damaged x) told = tt
+
+-- a fault after which nothing is said of the journal
+pub leaves_any : (same : Type 0) (fault : NodeFault) → LeavesJournal ⊥ fault → LeavesJournal same fault
+leaves_any same (Another why) leaves = absurd leaves
+leaves_any same Strange leaves = absurd leaves
+leaves_any same Memory leaves = tt
+leaves_any same Read leaves = tt
+leaves_any same Write leaves = tt
+leaves_any same PlanRead leaves = tt
+leaves_any same (Plan x) leaves = tt
+leaves_any same PlanText leaves = tt
+leaves_any same (NoServer x) leaves = tt
+leaves_any same InUse leaves = tt
+leaves_any same NoJournal leaves = tt
+leaves_any same Journal leaves = tt
+leaves_any same NoShelf leaves = tt
+leaves_any same Shelf leaves = tt
+leaves_any same ShelfRead leaves = tt
+leaves_any same ShelfWrite leaves = tt
+leaves_any same JournalRead leaves = tt
+leaves_any same JournalWrite leaves = tt
+leaves_any same (Form x) leaves = absurd leaves
+leaves_any same (Damaged x) leaves = absurd leaves

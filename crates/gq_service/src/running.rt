@@ -53,6 +53,7 @@ fn run_with<
         alloc,
         node,
         asked.is_new,
+        asked.is_anew,
         console,
         maker,
         &mut disk,

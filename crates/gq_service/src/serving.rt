@@ -5,7 +5,7 @@ ghost use Rattle.gq_journal.specs.Batches.{whole_lines, lines_text, batches_of, 
 ghost use Rattle.gq_keeper.specs.Crashes.{Elapses, Leaves, LeavesSyncing};
 ghost use Rattle.gq_keeper.specs.Plans.{first_plan};
 ghost use Rattle.gq_wire.specs.Texts.{first_text};
-ghost use Rattle.gq_keeper.specs.Durable.{AllSealed};
+ghost use Rattle.gq_keeper.specs.Durable.{AllSealed, IsAnew};
 ghost use Rattle.gq_keeper.specs.Restarting.{ReadsAs, Restarts};
 ghost use Rattle.gq_keeper.specs.Starting.{RecallsAll, behind, facts_read};
 ghost use Rattle.gq_setup.specs.Texts.{setup_of_node_text};
@@ -43,6 +43,30 @@ fn begin<M: Served, D: Disk>(
         (λ left. Leaves (D.synced disk.old) (D.seen disk.old) left ⊎ Restarts M.recalls M.readable M.blank M.rests (whole_lines node.now.plan.text.items) machine.now left) }
 {
     Ok(renew(alloc, machine, node.plan.text(), disk)?)
+}
+
+// Writes the journal anew: the plan, and what a start needs. Answers the number of the next batch.
+fn write_anew<M: Served, D: Disk>(
+    alloc: Global,
+    node: &ThisNode,
+    machine: &M,
+    disk: &mut D,
+) -> Result<u64, NodeFault>
+    requires of_plan { M.is_of (whole_lines node.now.plan.text.items) machine.now }
+    requires all { D.seen disk.old ≡ D.synced disk.old }
+    requires restarts { Restarts M.recalls M.readable M.blank M.rests (whole_lines node.now.plan.text.items) machine.now (D.synced disk.old) }
+    ensures sealed { IfOk result (λ next. AllSealed (D.seen disk.new) (D.synced disk.new) next) }
+    ensures restarts { OnOk result (Restarts M.recalls M.readable M.blank M.rests (whole_lines node.now.plan.text.items) machine.now (D.synced disk.new)) }
+    ensures anew { IfOk result (λ next. IsAnew M.recalls M.readable M.blank M.rests machine.now node.now.plan.text.items (D.synced disk.new) next) }
+    ensures form { IfErr result (λ fault. (journal : List ℕ) → TellsForm journal fault) }
+    ensures damaged { IfErr result (λ fault. (journal : List ℕ) → TellsDamage journal fault) }
+    ensures another { IfErr result TellsNoOther }
+    ensures same { IfErr result (LeavesJournal ⊥) }
+    ensures crash { Elapses (D.instant disk.old) (D.instant disk.new) (D.left_since disk.old) (D.left_since disk.new)
+        (Restarts M.recalls M.readable M.blank M.rests (whole_lines node.now.plan.text.items) machine.now) }
+{
+    let next = renew(alloc, machine, node.plan.text(), disk)?;
+    Ok(next)
 }
 
 // Reads the journal that is there. Answers the number of the next batch.
@@ -132,6 +156,44 @@ fn begin_or_go_on<M: Served, D: Disk, C: Console>(
     }
 }
 
+// The same, and then writes the journal anew where that is asked for.
+fn begin_or_write_anew<M: Served, D: Disk, C: Console>(
+    alloc: Global,
+    node: &ThisNode,
+    is_new: bool,
+    is_anew: bool,
+    journal: &[u8],
+    console: &C,
+    machine: &mut M,
+    disk: &mut D,
+) -> Result<u64, NodeFault>
+    requires read { is_new ≡ false → journal.now ≡ D.seen disk.old }
+    requires synced { is_new ≡ false → D.synced disk.old ≡ D.seen disk.old }
+    requires begun { is_new ≡ true → M.is_new node.now.plan.setup node.now.number (Ok node.now.plan.setup) machine.old }
+    requires found { is_new ≡ false → M.is_new node.now.plan.setup node.now.number (setup_of_node_text (lines_text (first_plan (batches_of (D.seen disk.old))))) machine.old }
+    requires blank { is_new ≡ false → M.blank (first_plan (batches_of (D.seen disk.old))) machine.old machine.old }
+    requires of_plan { M.is_of (whole_lines node.now.plan.text.items) machine.old }
+    ensures sealed { IfOk result (λ next. AllSealed (D.seen disk.new) (D.synced disk.new) next) }
+    ensures restarts { OnOk result (Restarts M.recalls M.readable M.blank M.rests (whole_lines node.now.plan.text.items) machine.new (D.synced disk.new)) }
+    ensures of_plan { OnOk result (M.is_of (whole_lines node.now.plan.text.items) machine.new) }
+    ensures started { OnOk result (IsStarted (kind M.steps M.recalls M.readable M.blank M.rests M.is_new) node.now.plan.setup node.now.number (journal_found is_new (D.seen disk.old)) machine.new) }
+    ensures anew { is_anew ≡ true → IfOk result (λ next. IsAnew M.recalls M.readable M.blank M.rests machine.new node.now.plan.text.items (D.synced disk.new) next) }
+    ensures its { is_new ≡ false → OnOk result (is_its_journal node.now.plan.setup node.now.number (D.seen disk.old) ≡ true) }
+    ensures whole { is_new ≡ false → OnOk result (has_right_batch (behind (D.seen disk.old)) ≡ false) }
+    ensures form { IfErr result (λ fault. (journal : List ℕ) → TellsForm journal fault) }
+    ensures damaged { IfErr result (TellsDamage (D.seen disk.old)) }
+    ensures another { is_new ≡ false → IfErr result (TellsAnother (kind M.steps M.recalls M.readable M.blank M.rests M.is_new) node.now.plan.setup node.now.number (D.seen disk.old)) }
+    ensures same { is_new ≡ false → IfErr result (LeavesJournal (D.seen disk.new ≡ D.seen disk.old)) }
+    ensures crash { Elapses (D.instant disk.old) (D.instant disk.new) (D.left_since disk.old) (D.left_since disk.new)
+        (MayBeLeft (kind M.steps M.recalls M.readable M.blank M.rests M.is_new) node.now.plan.setup node.now.number is_new (D.synced disk.old) (D.seen disk.old)) }
+{
+    let number = begin_or_go_on(alloc, node, is_new, journal, console, machine, disk)?;
+    if is_anew {
+        return write_anew(alloc, node, machine, disk);
+    }
+    Ok(number)
+}
+
 // The journal that is there, once it is made sure of, or none where one is to be begun. One of another form is refused.
 fn journal_text<D: Disk>(alloc: Global, is_new: bool, disk: &mut D) -> Result<Vec<u8>, NodeFault>
     ensures found { is_new ≡ false → IfOk result (λ text. text.items ≡ D.seen disk.old) }
@@ -177,6 +239,7 @@ fn serve_machine<M: Served, D: Disk, I: Read, O: Output, C: Console>(
     alloc: Global,
     node: &ThisNode,
     is_new: bool,
+    is_anew: bool,
     journal: Vec<u8>,
     console: &C,
     machine: &mut M,
@@ -201,7 +264,7 @@ fn serve_machine<M: Served, D: Disk, I: Read, O: Output, C: Console>(
         (MayBeLeft (kind M.steps M.recalls M.readable M.blank M.rests M.is_new) node.now.plan.setup node.now.number is_new (D.synced disk.old) (D.seen disk.old)) }
 {
     let read = journal.as_slice();
-    let number = begin_or_go_on(alloc, node, is_new, read, console, machine, disk)?;
+    let number = begin_or_write_anew(alloc, node, is_new, is_anew, read, console, machine, disk)?;
     drop(journal);
     let lacked = machine.registers().lacked();
     tell_ready(console, node, machine.facts(), lacked);
@@ -233,6 +296,7 @@ pub fn serve_node<M: Served + Drop, K: Maker<M> + Drop, D: Disk, I: Read, O: Out
     alloc: Global,
     node: &ThisNode,
     is_new: bool,
+    is_anew: bool,
     console: &C,
     maker: K,
     disk: &mut D,
@@ -259,6 +323,7 @@ pub fn serve_node<M: Served + Drop, K: Maker<M> + Drop, D: Disk, I: Read, O: Out
         alloc,
         node,
         is_new,
+        is_anew,
         journal,
         console,
         &mut machine,

@@ -13,7 +13,7 @@ use Rattle.gq_service.proofs.serving.serve_machine.Goals as goal
 
 pub serve-requires-clause-may : goal.serve-requires-clause-may
 serve-requires-clause-may g c = λ last taken synced shown begins d.
-    let first = c.begin_or_go_on.new.machine in
+    let first = c.begin_or_write_anew.new.machine in
     let text : c.text.result.now ≡ node_text c.args.node.now.number c.args.node.now.plan.setup = c.text.ensures ∙ c.args.node.now.text in
     let longest : c.longest_of-longest.result ≡ longest_of c.args.node.now.plan.setup = c.longest_of-longest.ensures ∙ ap longest_of c.setup.ensures in
     c.requires.durable synced shown (record {
@@ -32,7 +32,7 @@ serve-requires-clause-may g c = λ last taken synced shown begins d.
 
 pub returns-clause-served : goal.returns-clause-served
 returns-clause-served g c =
-    let first = c.begin_or_go_on.new.machine in
+    let first = c.begin_or_write_anew.new.machine in
     let text : c.text.result.now ≡ node_text c.args.node.now.number c.args.node.now.plan.setup = c.text.ensures ∙ c.args.node.now.text in
     let longest : c.longest_of-longest.result ≡ longest_of c.args.node.now.plan.setup = c.longest_of-longest.ensures ∙ ap longest_of c.setup.ensures in
     let d = c.in_ok-serve.ensures.durable in
@@ -51,9 +51,9 @@ returns-clause-served g c =
 pub returns-in_err-serve-clause-crash : goal.returns-in_err-serve-clause-crash
 returns-in_err-serve-clause-crash g c =
     let text : c.text.result.now ≡ node_text c.args.node.now.number c.args.node.now.plan.setup = c.text.ensures ∙ c.args.node.now.text in
-    elapses_serving (kind g.M.Machine.steps g.M.Machine.recalls g.M.Machine.readable g.M.Lasting.blank g.M.Lasting.rests g.M.Served.is_new) c.args.node.now.plan.setup c.args.node.now.number c.args.is_new _ _ _ _ _ _ (g.D.Log.synced c.args.disk.now) (g.D.Log.seen c.args.disk.now) c.begin_or_go_on.new.machine c.text.result.now c.in_ok-number.ensures.started text c.begin_or_go_on.ensures.crash c.serve.ensures.crash
+    elapses_serving (kind g.M.Machine.steps g.M.Machine.recalls g.M.Machine.readable g.M.Lasting.blank g.M.Lasting.rests g.M.Served.is_new) c.args.node.now.plan.setup c.args.node.now.number c.args.is_new _ _ _ _ _ _ (g.D.Log.synced c.args.disk.now) (g.D.Log.seen c.args.disk.now) c.begin_or_write_anew.new.machine c.text.result.now c.in_ok-number.ensures.started text c.begin_or_write_anew.ensures.crash c.serve.ensures.crash
 
 pub returns-clause-crash : goal.returns-clause-crash
 returns-clause-crash g c =
     let text : c.text.result.now ≡ node_text c.args.node.now.number c.args.node.now.plan.setup = c.text.ensures ∙ c.args.node.now.text in
-    elapses_serving (kind g.M.Machine.steps g.M.Machine.recalls g.M.Machine.readable g.M.Lasting.blank g.M.Lasting.rests g.M.Served.is_new) c.args.node.now.plan.setup c.args.node.now.number c.args.is_new _ _ _ _ _ _ (g.D.Log.synced c.args.disk.now) (g.D.Log.seen c.args.disk.now) c.begin_or_go_on.new.machine c.text.result.now c.in_ok-number.ensures.started text c.begin_or_go_on.ensures.crash c.serve.ensures.crash
+    elapses_serving (kind g.M.Machine.steps g.M.Machine.recalls g.M.Machine.readable g.M.Lasting.blank g.M.Lasting.rests g.M.Served.is_new) c.args.node.now.plan.setup c.args.node.now.number c.args.is_new _ _ _ _ _ _ (g.D.Log.synced c.args.disk.now) (g.D.Log.seen c.args.disk.now) c.begin_or_write_anew.new.machine c.text.result.now c.in_ok-number.ensures.started text c.begin_or_write_anew.ensures.crash c.serve.ensures.crash
