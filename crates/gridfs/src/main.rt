@@ -9,13 +9,15 @@ use gq_cli::carry_out;
 use gq_keeper::Stream;
 use gq_plan::{ToldFault, answer_plan};
 use gq_script::{Notice, Watched};
-use gq_service::{Durable, Standard, Told, WithChunks, run_node};
+use gq_service::{Console, Durable, Standard, Told, WithChunks, run_node};
 use gq_shelf::FileShelf;
 use gq_words::{CommandLine, NodeRequest, PlanRequest, Request, Usage, read_words};
 use std::alloc::Global;
 use std::fmt::Display;
-use std::io::IsTerminal;
+use std::fs::File;
+use std::io::{IsTerminal, Read};
 use std::process::ExitCode;
+use std::rt::Files;
 use std::sync::Wait;
 use std::thread::Threads;
 use std::{env, io};
@@ -75,13 +77,23 @@ fn answered<R: Input + Print + Eprint + Threads + Wait + Sync>(
     }
 }
 
-// Is the node that was asked for, on the standard streams, to the end of standard input.
-fn serves(rt: &HostRuntime, alloc: Global, asked: &NodeRequest<'_>) -> ExitCode {
-    let console = Standard::new(rt.stdin(), rt.stdout(), rt.stderr(), asked.journal);
-    let mut input = rt.stdin();
-    let chunks = WithChunks::new(rt, asked.journal);
-    let mut out: Stream<_, Durable<FileShelf<&HostRuntime>>> = Stream::new(io::writer(rt));
-    match run_node(rt, alloc, asked, &console, chunks, &mut input, &mut out) {
+// Is the node that was asked for, on its files, to the end of the input. `files` are those in which its chunks are.
+fn serves_on<
+    S: Files<File = File> + Drop,
+    R: Files<File = File> + Print + Eprint + Drop,
+    C: Console,
+    I: Read,
+>(
+    files: S,
+    rt: &R,
+    alloc: Global,
+    asked: &NodeRequest<'_>,
+    console: &C,
+    input: &mut I,
+) -> ExitCode {
+    let chunks = WithChunks::new(files, asked.journal);
+    let mut out: Stream<_, Durable<FileShelf<S>>> = Stream::new(io::writer(rt));
+    match run_node(rt, alloc, asked, console, chunks, input, &mut out) {
         Ok(()) => ExitCode::SUCCESS,
         Err(fault) => {
             let status = fault.status();
@@ -95,6 +107,13 @@ fn serves(rt: &HostRuntime, alloc: Global, asked: &NodeRequest<'_>) -> ExitCode 
             )
         }
     }
+}
+
+// The same on the standard streams.
+fn serves(rt: &HostRuntime, alloc: Global, asked: &NodeRequest<'_>) -> ExitCode {
+    let console = Standard::new(rt.stdin(), rt.stdout(), rt.stderr(), asked.journal);
+    let mut input = rt.stdin();
+    serves_on(rt, rt, alloc, asked, &console, &mut input)
 }
 
 // Tells what the plan says that is asked for, or whether it may follow another.

@@ -4,7 +4,7 @@ use Rattle.gq_chunks.specs.Machines.{Chunks}
 use Rattle.gq_keeper.specs.Notes.{Instant, seen_in}
 use Rattle.gq_service.specs.Promises.{IsDurableBySome, IsDurableEither}
 use Rattle.gq_wire.specs.Texts.{first_text}
-use Rattle.gridfs.proofs.serves.Goals as goal
+use Rattle.gridfs.proofs.serves_on.Goals as goal
 
 -- of the node of this number, and of some input, where nothing was shown before
 by_some : {C : Type 0} (has : C → Chunks) (number : ℕ) {input : Option (List ℕ)} {before : List Instant} {synced shown : List ℕ} → before ≡ [] →
@@ -13,6 +13,6 @@ by_some has number {input} {before} {synced} {shown} none durable =
     (number, input, subst (λ (instants : List Instant). IsDurableEither has number input (seen_in instants ++ first_text) synced shown) none durable)
 
 pub run_node-requires : goal.run_node-requires
-run_node-requires c = record {
+run_node-requires g c = record {
   durable = λ synced shown durable. by_some _ c.args.asked.now.number c.new-out.ensures durable;
 }
