@@ -14,7 +14,7 @@ use std::alloc::Global;
 pub const BLOCK_MEMORY: u64 = 80;
 
 /// The same for each file that is open.
-pub const FILE_MEMORY: u64 = 56;
+pub const FILE_MEMORY: u64 = 32;
 
 /// The bytes of memory that a node takes at most for each block, also while it starts from the longest journal or writes it anew.
 pub const PEAK_BLOCK_MEMORY: u64 = 384;

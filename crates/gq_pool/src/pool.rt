@@ -1,5 +1,5 @@
 //! A pool of blocks, and a chain of them that holds a content.
-ghost use Rattle.std.specs.Prelude.{◌≡◌, ℕ, ◌+◌, ◌*◌, ◌^◌, ◌<◌, ◌≤◌, ◌↔◌, List, length, IfOk, IfErr, OnOk, OnErr, IsErr};
+ghost use Rattle.std.specs.Prelude.{◌≡◌, ℕ, ◌+◌, ◌*◌, ◌^◌, ◌<◌, ◌≤◌, ◌↔◌, List, [], length, IfOk, IfErr, OnOk, OnErr, IsErr};
 ghost use Rattle.gq_pool.specs.Blocks.{blocks_for, content_of};
 
 use crate::BLOCK_BYTES;
@@ -23,12 +23,15 @@ pub struct Short {
 pub struct Pool {
     alloc: Global,
     free: Stack,
+    count: usize,
 }
 
 impl Model for Pool {
     ghost Value = { ℕ };
 
-    ghost view = { λ p. length p.free };
+    ghost view = { λ p. p.count };
+
+    ghost invariant = { λ p. length p.free ≡ p.count };
 }
 
 /// A content in blocks of its own, which contracts see as the content's bytes.
@@ -48,6 +51,16 @@ impl Model for Chain {
 }
 
 impl Chain {
+    /// The chain of no bytes. It takes no block.
+    pub fn empty() -> Chain
+        ensures { result ≡ [] }
+    {
+        Chain {
+            blocks: Stack::new(),
+            len: 0,
+        }
+    }
+
     /// The number of bytes of the content.
     pub fn len(&self) -> usize
         ensures { result ≡ length self.now }
@@ -60,7 +73,7 @@ impl Chain {
     pub fn blocks(&self) -> usize
         ensures { result ≡ blocks_for (length self.now) }
     {
-        self.blocks.count()
+        self.len.div_ceil(BLOCK_BYTES)
     }
 
     /// Writes the content into `out`, which has as many bytes: just the bytes that the chain was filled with.
@@ -80,24 +93,28 @@ impl Pool {
         ensures { IfOk result (λ pool. pool ≡ n) }
     {
         let mut free = Stack::new();
-        for _ in 0..n {
+        for count in 0..n {
             match Block::new(alloc) {
                 Ok(block) => free.push(block),
                 Err(error) => {
-                    let pool = Pool { alloc, free };
+                    let pool = Pool { alloc, free, count };
                     pool.close();
                     return Err(error);
                 }
             }
         }
-        Ok(Pool { alloc, free })
+        Ok(Pool {
+            alloc,
+            free,
+            count: n,
+        })
     }
 
     /// The number of free blocks.
     pub fn free(&self) -> usize
         ensures { result ≡ self.now }
     {
-        self.free.count()
+        self.count
     }
 
     /// A chain of these bytes, in blocks that were free: `free` falls by one for each [`BLOCK_BYTES`] bytes, and by one
@@ -113,9 +130,8 @@ impl Pool {
     {
         let len = bytes.len();
         let need = len.div_ceil(BLOCK_BYTES);
-        let free = self.free.count();
-        if free < need {
-            return Err(Short { free });
+        if self.count < need {
+            return Err(Short { free: self.count });
         }
         let mut blocks = Stack::new();
         let mut i = need;
@@ -127,6 +143,7 @@ impl Pool {
             block.write(&bytes[start..end]);
             blocks.push(block);
         }
+        self.count -= need;
         Ok(Chain { blocks, len })
     }
 
@@ -137,8 +154,11 @@ impl Pool {
         ensures copied { result ≡ chain.now }
         ensures taken { self.new + blocks_for (length chain.now) ≡ self.old }
     {
+        let count = chain.blocks();
+        let blocks = chain.blocks.copy(count, &mut self.free, self.alloc);
+        self.count -= count;
         Chain {
-            blocks: chain.blocks.copy(&mut self.free, self.alloc),
+            blocks,
             len: chain.len,
         }
     }
@@ -148,18 +168,24 @@ impl Pool {
         requires { self.old + blocks_for (length chain) < 2 ^ 64 }
         ensures { self.new ≡ self.old + blocks_for (length chain) }
     {
+        let count = chain.blocks();
         let Chain { mut blocks, len: _ } = chain;
-        while blocks.count() > 0 {
+        for _ in 0..count {
             let block = blocks.pop(self.alloc);
             self.free.push(block);
         }
         blocks.close();
+        self.count += count;
     }
 
     /// Gives all free blocks back to memory.
     pub fn close(self) {
-        let Pool { alloc, mut free } = self;
-        while free.count() > 0 {
+        let Pool {
+            alloc,
+            mut free,
+            count,
+        } = self;
+        for _ in 0..count {
             let block = free.pop(alloc);
             block.free();
         }

@@ -1,5 +1,5 @@
 //! A block, and a list of blocks with the pointer to its first.
-ghost use Rattle.std.specs.Prelude.{◌≡◌, ℕ, ◌+◌, ◌*◌, ◌^◌, ◌<◌, ◌≤◌, List, [], ◌∷◌, length, map, take, IfOk};
+ghost use Rattle.std.specs.Prelude.{◌≡◌, ℕ, ◌+◌, ◌*◌, ◌<◌, ◌≤◌, List, [], ◌∷◌, length, map, take, IfOk};
 ghost use Rattle.gq_pool.specs.Linked.{first_place};
 ghost use Rattle.gq_pool.specs.Blocks.{content_of};
 
@@ -22,11 +22,11 @@ impl Model for Block {
     ghost view = { λ b. b.node.value.bytes };
 }
 
-/// A list of blocks, the last that was pushed first; contracts see the bytes of each. It is emptied and then closed.
+/// A list of blocks, the last that was pushed first; contracts see the bytes of each. It is as large as a pointer, so who holds
+/// one knows how many blocks it has. It is emptied and then closed.
 pub struct Stack {
     head: Link,
     nodes: Nodes,
-    count: usize,
 }
 
 impl Model for Stack {
@@ -34,7 +34,7 @@ impl Model for Stack {
 
     ghost view = { λ s. map (λ n. n.1) s.nodes.nodes };
 
-    ghost invariant = { λ s. (s.head.ptr ≡ first_place s.nodes.nodes) × (s.count ≡ length s.nodes.nodes) };
+    ghost invariant = { λ s. s.head.ptr ≡ first_place s.nodes.nodes };
 }
 
 impl Block {
@@ -82,26 +82,16 @@ impl Stack {
                 ptr: ptr::null_mut(),
             },
             nodes: Nodes::new(),
-            count: 0,
         }
-    }
-
-    // The number of blocks.
-    pub(crate) fn count(&self) -> usize
-        ensures { result ≡ length self.now }
-    {
-        self.count
     }
 
     // Puts the block before the others.
     pub(crate) fn push(&mut self, block: Block)
-        requires { length self.old + 1 < 2 ^ 64 }
         ensures { self.new ≡ block ∷ self.old }
     {
         let Block { mut node } = block;
         node.next = self.head.ptr;
         self.head = self.nodes.push(node);
-        self.count += 1;
     }
 
     // Takes the first block.
@@ -111,7 +101,6 @@ impl Stack {
     {
         let node = self.nodes.pop(self.head, alloc);
         self.head = Link { ptr: node.next };
-        self.count -= 1;
         Block { node }
     }
 
@@ -134,16 +123,17 @@ impl Stack {
         }
     }
 
-    // A list of the same bytes, in blocks that are taken off `free`. The blocks come on a list with the last first, and from
-    // there in order.
-    pub(crate) fn copy(&self, free: &mut Stack, alloc: Global) -> Stack
-        requires { length self.now ≤ length free.old }
+    // A list of the same bytes, which are those of `count` blocks, in blocks that are taken off `free`. The blocks come on a list
+    // with the last first, and from there in order.
+    pub(crate) fn copy(&self, count: usize, free: &mut Stack, alloc: Global) -> Stack
+        requires count { count ≡ length self.now }
+        requires room { length self.now ≤ length free.old }
         ensures copied { result ≡ self.now }
         ensures taken { length free.new + length self.now ≡ length free.old }
     {
         let mut turned = Stack::new();
         let mut place = self.head;
-        for i in 0..self.count {
+        for i in 0..count {
             let node = self.nodes.read(place, i);
             let mut block = free.pop(alloc);
             block.set(&node.bytes);
@@ -151,7 +141,7 @@ impl Stack {
             place = Link { ptr: node.next };
         }
         let mut blocks = Stack::new();
-        while turned.count() > 0 {
+        for _ in 0..count {
             blocks.push(turned.pop(alloc));
         }
         turned.close();
@@ -162,11 +152,7 @@ impl Stack {
     pub(crate) fn close(self)
         requires { self ≡ [] }
     {
-        let Stack {
-            head: _,
-            nodes,
-            count: _,
-        } = self;
+        let Stack { head: _, nodes } = self;
         nodes.close();
     }
 }

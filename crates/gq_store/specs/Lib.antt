@@ -1,4 +1,3 @@
-pub mod Content
 pub mod Copies
 pub mod Balance
 pub mod Serving

@@ -1,48 +1,59 @@
 //! A file's copy, its content in a chain of blocks.
-ghost use Rattle.std.specs.Prelude.{◌≡◌, ℕ, ◌+◌, ◌^◌, ◌<◌, ◌≤◌, length, Option};
+ghost use Rattle.std.specs.Prelude.{◌≡◌, ◌+◌, ◌^◌, ◌<◌, ◌≤◌, length};
 ghost use Rattle.gq_pool.specs.Blocks.{blocks_for};
-ghost use Rattle.gq_store.specs.Content.{content};
 
 use gq_pool::{Chain, Pool};
 use gq_tag::Tag;
 use std::marker::Model;
 use std::mem;
 
-/// A file's copy. An empty content has no chain. The hint is a number that was left with the file, which no contract sees.
+/// A file's copy, in 32 bytes. So the tag's number and session are fields: a [`Tag`] has the length of two words, and the hint
+/// would want a third. The hint is a number that was left with the file, which no contract sees.
 pub(crate) struct Entry {
-    tag: Tag,
-    chain: Option<Chain>,
+    number: u64,
+    chain: Chain,
     hint: u32,
+    session: u8,
 }
 
 impl Model for Entry {
     ghost use Rattle.gq_tag.specs.declared.StoredCopy.{StoredCopy};
-    ghost use Rattle.gq_store.specs.Content.{content};
 
     ghost Value = { StoredCopy };
 
-    ghost view = { λ e. record { tag = e.tag; bytes = content e.chain } };
+    ghost view = { λ e. record { tag = record { number = e.number; session = e.session }; bytes = e.chain } };
 }
 
 impl Entry {
     ghost use Rattle.gq_tag.specs.Tag.{first_copy};
     ghost use Rattle.gq_store.specs.Copies.{taken};
 
+    // A copy with no hint.
+    fn new(tag: Tag, chain: Chain) -> Entry
+        ensures { result ≡ record { tag = tag; bytes = chain } }
+    {
+        Entry {
+            number: tag.number,
+            chain,
+            hint: 0,
+            session: tag.session,
+        }
+    }
+
     // The first copy.
     pub(crate) fn first() -> Entry
         ensures { result ≡ first_copy }
     {
-        Entry {
-            tag: Tag::first(),
-            chain: None,
-            hint: 0,
-        }
+        Entry::new(Tag::first(), Chain::empty())
     }
 
     pub(crate) fn tag(&self) -> Tag
         ensures { result ≡ self.now.tag }
     {
-        self.tag
+        Tag {
+            number: self.number,
+            session: self.session,
+        }
     }
 
     #[inline]
@@ -60,20 +71,14 @@ impl Entry {
     pub(crate) fn len(&self) -> usize
         ensures { result ≡ length self.now.bytes }
     {
-        match &self.chain {
-            None => 0,
-            Some(chain) => chain.len(),
-        }
+        self.chain.len()
     }
 
     pub(crate) fn read(&self, out: &mut [u8])
         requires { length out.old ≡ length self.now.bytes }
         ensures { out.new ≡ self.now.bytes }
     {
-        match &self.chain {
-            None => {}
-            Some(chain) => chain.read(out),
-        }
+        self.chain.read(out);
     }
 
     // Gives the blocks of the old content back and takes those of the new one.
@@ -84,11 +89,9 @@ impl Entry {
         ensures copy { self.new ≡ record { tag = tag; bytes = bytes.now } }
         ensures free { pool.new + taken self.new ≡ pool.old + taken self.old }
     {
-        let old = self.chain.take();
-        let new = refill(pool, old, bytes);
-        let none = mem::replace(&mut self.chain, new);
-        drain(pool, none);
-        self.tag = tag;
+        refill(pool, &mut self.chain, bytes);
+        self.number = tag.number;
+        self.session = tag.session;
     }
 
     // Puts the first copy, with no hint, in this one's place, and gives the blocks back.
@@ -108,26 +111,9 @@ impl Entry {
         ensures copy { self.new ≡ peer.now }
         ensures free { pool.new + taken peer.now ≡ pool.old + taken self.old }
     {
-        let new = peer.copied(pool);
+        let new = Entry::new(peer.tag(), pool.copy(&peer.chain));
         let old = mem::replace(self, new);
         old.spend(pool);
-    }
-
-    // An equal copy in blocks of its own, with no hint.
-    fn copied(&self, pool: &mut Pool) -> Entry
-        requires { taken self.now ≤ pool.old }
-        ensures copy { result ≡ self.now }
-        ensures free { pool.new + taken self.now ≡ pool.old }
-    {
-        let chain = match &self.chain {
-            None => None,
-            Some(chain) => Some(pool.copy(chain)),
-        };
-        Entry {
-            tag: self.tag,
-            chain,
-            hint: 0,
-        }
     }
 
     // Gives the blocks back.
@@ -136,37 +122,29 @@ impl Entry {
         ensures { pool.new ≡ pool.old + taken self }
     {
         let Entry {
-            tag: _,
+            number: _,
             chain,
             hint: _,
+            session: _,
         } = self;
-        drain(pool, chain);
+        pool.drain(chain);
     }
 }
 
-fn drain(pool: &mut Pool, chain: Option<Chain>)
-    requires { pool.old + blocks_for (length (content chain)) < 2 ^ 64 }
-    ensures { pool.new ≡ pool.old + blocks_for (length (content chain)) }
+// Gives the blocks of the chain's content back, and fills it anew.
+fn refill(pool: &mut Pool, chain: &mut Chain, bytes: &[u8])
+    requires fits { pool.old + blocks_for (length chain.old) < 2 ^ 64 }
+    requires room { blocks_for (length bytes.now) ≤ pool.old + blocks_for (length chain.old) }
+    ensures content { chain.new ≡ bytes.now }
+    ensures free { pool.new + blocks_for (length bytes.now) ≡ pool.old + blocks_for (length chain.old) }
 {
-    match chain {
-        None => {}
-        Some(chain) => pool.drain(chain),
-    }
-}
-
-// Drains the old chain and fills one anew.
-fn refill(pool: &mut Pool, old: Option<Chain>, bytes: &[u8]) -> Option<Chain>
-    requires fits { pool.old + blocks_for (length (content old)) < 2 ^ 64 }
-    requires room { blocks_for (length bytes.now) ≤ pool.old + blocks_for (length (content old)) }
-    ensures content { content result ≡ bytes.now }
-    ensures free { pool.new + blocks_for (length bytes.now) ≡ pool.old + blocks_for (length (content old)) }
-{
-    drain(pool, old);
-    if bytes.is_empty() {
-        return None;
-    }
+    let old = mem::replace(chain, Chain::empty());
+    pool.drain(old);
     match pool.fill(bytes) {
-        Ok(chain) => Some(chain),
+        Ok(new) => {
+            let none = mem::replace(chain, new);
+            pool.drain(none);
+        }
         Err(_) => unreachable!(),
     }
 }

@@ -9,6 +9,7 @@ invariant-loop-i l =
     (l.i ≤ l.need)
     × (length l.blocks + l.i ≡ l.need)
     × (length l.self-inside.free + length l.blocks ≡ length l.initial.self-inside.free)
+    × (l.self-inside.count ≡ l.initial.self-inside.count)
     × (content_of (l.len - l.i * BLOCK_BYTES) l.blocks ≡ drop (l.i * BLOCK_BYTES) l.bytes)
 
 abbrev pub decreases-loop-i : goal.decreases-loop-i

@@ -11,10 +11,7 @@ invariant-loop-i l =
     × (length l.free + l.i ≡ length l.initial.free)
     × (turned_onto l.turned (bytes_of (drop l.i l.self-inside.nodes.nodes)) ≡ bytes_of l.self-inside.nodes.nodes)
 
-abbrev pub invariant-loop-alloc : goal.invariant-loop-alloc
-invariant-loop-alloc l =
-    (length l.turned + length l.blocks ≡ length l.initial.turned + length l.initial.blocks)
+abbrev pub invariant-loop : goal.invariant-loop
+invariant-loop l =
+    (length l.turned + l.counter ≡ length l.initial.turned)
     × (turned_onto l.turned l.blocks ≡ turned_onto l.initial.turned l.initial.blocks)
-
-abbrev pub decreases-loop-alloc : goal.decreases-loop-alloc
-decreases-loop-alloc l = length l.turned
