@@ -7,6 +7,7 @@ pub mod Crashing
 pub mod Restarts
 pub mod Durability
 pub mod Finding
+pub mod LeavingOut
 pub mod Kept
 pub mod Readings
 pub mod Mended

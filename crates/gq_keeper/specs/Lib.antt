@@ -2,6 +2,7 @@ pub mod Lines
 pub mod Runs
 pub mod Plans
 pub mod Starting
+pub mod LeavingOut
 pub mod Started
 pub mod Crashes
 pub mod Restarting

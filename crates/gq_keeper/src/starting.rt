@@ -1,18 +1,21 @@
-//! A start: the journal is read, and its wrong end is cut off.
+//! A start: the journal is read, and its wrong end is cut off, or it is written anew without some of its facts.
 
 ghost use Rattle.std.specs.Prelude.{◌≡◌, ◌⊎◌, ◌+◌, ◌≤◌, ◌++◌, ◌∷◌, ◌&&◌, ℕ, List, [], true, false, length, take, drop, IfOk, IfErr, OnOk, MatchOption, if◌then◌else◌};
 ghost use Rattle.std.specs.List.{list_all};
 ghost use Rattle.gq_journal.specs.Batches.{whole_lines, lines_text, batches_of, has_right_batch};
 ghost use Rattle.gq_keeper.specs.Plans.{IsPlan, is_plan, facts_in, first_plan, last_plan, begins_with_plan, goes_on_from, is_of, new_plan};
 ghost use Rattle.gq_keeper.specs.Crashes.{Leaves, LeavesSyncing, Elapses};
-ghost use Rattle.gq_keeper.specs.Durable.{AllSealed, kept_text, number_after};
+ghost use Rattle.gq_keeper.specs.Durable.{AllSealed, IsAnew, kept_text, number_after};
 ghost use Rattle.gq_keeper.specs.Starting.{facts_read, RecallsAll, RefusesLines, EndsAt, behind, IsDamaged};
+ghost use Rattle.gq_keeper.specs.LeavingOut.{RecallsBut, readable_but, facts_but};
 ghost use Rattle.gq_keeper.specs.Started.{ForReady, ForDamage, ForAnother, ForStrange};
 ghost use Rattle.gq_keeper.specs.Restarting.{Restarts, ReadsAs};
 
 use crate::keeping::keep;
+use crate::leaving_out::{Nothing, recall_unless};
 use crate::plan::{goes_on_from, is_plan};
-use crate::{Disk, Fault, Lasting, Log, Machine, Plan, Unread};
+use crate::renewing::renew;
+use crate::{Disk, Fault, Lasting, LeavesOut, Log, Machine, Plan, Unread};
 use gq_journal::{first_batch, first_whole_line, has_right_batch};
 use gq_memory::{OutOfMemory, slice_copied};
 use std::alloc::Global;
@@ -89,43 +92,57 @@ fn find(alloc: Global, text: &[u8]) -> Result<Found<'_>, OutOfMemory>
     })
 }
 
-// Reads the lines of a batch of facts; those of a plan are passed over.
-fn recall_lines<M: Machine>(machine: &mut M, text: &[u8]) -> Result<(), Unread>
-    ensures recalled { OnOk result (RecallsAll M.recalls machine.old (if is_plan (whole_lines text.now) then [] else whole_lines text.now) machine.new) }
-    ensures refused { IfErr result (RefusesLines (list_all (M.readable machine.old) (if is_plan (whole_lines text.now) then [] else whole_lines text.now))) }
+// Reads the lines of a batch of facts, but for those that are left out; those of a plan are passed over.
+fn recall_lines<M: Machine, F: LeavesOut>(
+    machine: &mut M,
+    left_out: &F,
+    text: &[u8],
+) -> Result<(), Unread>
+    ensures recalled { OnOk result (RecallsAll (RecallsBut (F.leaves_out left_out.now) M.recalls) machine.old (if is_plan (whole_lines text.now) then [] else whole_lines text.now) machine.new) }
+    ensures refused { IfErr result (RefusesLines (list_all (readable_but (F.leaves_out left_out.now) M.readable machine.old) (if is_plan (whole_lines text.now) then [] else whole_lines text.now))) }
 {
     if is_plan(text) {
         return Ok(());
     }
     let mut rest = text;
     while let Some((line, after)) = first_whole_line(rest) {
-        machine.recall(line)?;
+        recall_unless(machine, left_out, line)?;
         rest = after;
     }
     Ok(())
 }
 
-// Reads the facts of a journal.
-fn recall_batches<M: Machine>(alloc: Global, machine: &mut M, text: &[u8]) -> Result<(), Unread>
-    ensures recalled { OnOk result (RecallsAll M.recalls machine.old (facts_read text.now) machine.new) }
-    ensures refused { IfErr result (RefusesLines (list_all (M.readable machine.old) (facts_read text.now))) }
+// Reads the facts of a journal, but for those that are left out.
+fn recall_batches<M: Machine, F: LeavesOut>(
+    alloc: Global,
+    machine: &mut M,
+    left_out: &F,
+    text: &[u8],
+) -> Result<(), Unread>
+    ensures recalled { OnOk result (RecallsAll (RecallsBut (F.leaves_out left_out.now) M.recalls) machine.old (facts_read text.now) machine.new) }
+    ensures refused { IfErr result (RefusesLines (list_all (readable_but (F.leaves_out left_out.now) M.readable machine.old) (facts_read text.now))) }
 {
     let mut rest = text;
     let mut number = 1u64;
     while let Some((body, after)) = first_batch(alloc, rest, number)? {
-        recall_lines(machine, body)?;
+        recall_lines(machine, left_out, body)?;
         rest = after;
         number += 1;
     }
     Ok(())
 }
 
-// Reads the facts of a journal. Answers whether the machine reads all.
-fn reads_facts<M: Machine>(alloc: Global, machine: &mut M, text: &[u8]) -> Result<bool, OutOfMemory>
-    ensures recalled { IfOk result (λ reads. reads ≡ true → RecallsAll M.recalls machine.old (facts_read text.now) machine.new) }
-    ensures strange { IfOk result (λ reads. reads ≡ false → list_all (M.readable machine.old) (facts_read text.now) ≡ false) }
+// Reads the facts of a journal, but for those that are left out. Answers whether the machine reads all.
+fn reads_facts<M: Machine, F: LeavesOut>(
+    alloc: Global,
+    machine: &mut M,
+    left_out: &F,
+    text: &[u8],
+) -> Result<bool, OutOfMemory>
+    ensures recalled { IfOk result (λ reads. reads ≡ true → RecallsAll (RecallsBut (F.leaves_out left_out.now) M.recalls) machine.old (facts_read text.now) machine.new) }
+    ensures strange { IfOk result (λ reads. reads ≡ false → list_all (readable_but (F.leaves_out left_out.now) M.readable machine.old) (facts_read text.now) ≡ false) }
 {
-    match recall_batches(alloc, machine, text) {
+    match recall_batches(alloc, machine, left_out, text) {
         Ok(()) => Ok(true),
         Err(Unread::Strange) => Ok(false),
         Err(Unread::Memory(refused)) => Err(refused),
@@ -191,12 +208,70 @@ pub fn start<M: Lasting, D: Disk, P: Plan>(
     if !is_of(plan, found.begins, found.last)? {
         return Ok(Started::Another);
     }
-    if !reads_facts(alloc, machine, journal)? {
+    if !reads_facts(alloc, machine, &Nothing, journal)? {
         return Ok(Started::Strange);
     }
     let cut = mend(disk, journal, found.at)?;
     let number = append_plan(alloc, disk, plan.text(), found.last, found.number)?;
     Ok(Started::Ready(Recovered { number, cut }))
+}
+
+/// The same without some of the facts: the machine is made of the others, and the journal is written anew, of the plan and of what a start
+/// needs of that machine, so that none that was left out is in it. Its wrong end is gone with it. Damage, another plan and strange
+/// lines are told as by [`start`], but that no line is strange that is left out; the journal stays as it was then. Whenever it is killed, the
+/// journal is the old one, or the new one whole.
+///
+/// The machine is one that was never started; it need not begin with the plan that `first_plan` finds.
+pub fn start_without<M: Lasting, D: Disk, P: Plan, F: LeavesOut>(
+    alloc: Global,
+    machine: &mut M,
+    disk: &mut D,
+    plan: &P,
+    journal: &[u8],
+    left_out: &F,
+) -> Result<Started, Fault>
+    requires read { journal.now ≡ D.seen disk.old }
+    requires plan { IsPlan (P.text plan.now) }
+    requires of_plan { M.is_of (whole_lines (P.text plan.now)) machine.old }
+    ensures sealed { IfOk result (λ found. ForReady found (λ reading. AllSealed (D.seen disk.new) (D.synced disk.new) reading.number)) }
+    ensures restarts { IfOk result (λ found. ForReady found (λ reading. Restarts M.recalls M.readable M.blank M.rests (whole_lines (P.text plan.now)) machine.new (D.synced disk.new))) }
+    ensures anew { IfOk result (λ found. ForReady found (λ reading. IsAnew M.recalls M.readable M.blank M.rests machine.new (P.text plan.now) (D.synced disk.new) reading.number)) }
+    ensures recalled { IfOk result (λ found. ForReady found (λ reading. RecallsAll M.recalls machine.old (facts_but (F.leaves_out left_out.now) (D.seen disk.old)) machine.new)) }
+    ensures of_plan { IfOk result (λ found. ForReady found (λ reading. M.is_of (whole_lines (P.text plan.now)) machine.new)) }
+    ensures goes_on { IfOk result (λ found. ForReady found (λ reading. is_of (P.goes_on plan.now) (P.text plan.now) (batches_of (D.seen disk.old)) ≡ true)) }
+    ensures cut { IfOk result (λ found. ForReady found (λ reading. MatchOption reading.cut (behind (D.seen disk.old) ≡ []) (λ at. behind (D.seen disk.old) ≡ drop at (D.seen disk.old)))) }
+    ensures none { IfOk result (λ found. ForReady found (λ reading. has_right_batch (behind (D.seen disk.old)) ≡ false)) }
+    ensures damaged { IfOk result (λ found. ForDamage found (λ at. IsDamaged (D.seen disk.old) at × (D.seen disk.new ≡ D.seen disk.old))) }
+    ensures another { IfOk result (λ found. ForAnother found ((is_of (P.goes_on plan.now) (P.text plan.now) (batches_of (D.seen disk.old)) ≡ false) × (D.seen disk.new ≡ D.seen disk.old))) }
+    ensures strange { IfOk result (λ found. ForStrange found ((list_all (M.readable machine.old) (facts_but (F.leaves_out left_out.now) (D.seen disk.old)) ≡ false) × (D.seen disk.new ≡ D.seen disk.old))) }
+    ensures crash { Elapses (D.instant disk.old) (D.instant disk.new) (D.left_since disk.old) (D.left_since disk.new)
+        (λ left. Leaves (D.synced disk.old) (D.seen disk.old) left ⊎ (RecallsAll M.recalls machine.old (facts_but (F.leaves_out left_out.now) (D.seen disk.old)) machine.new × (is_of (P.goes_on plan.now) (P.text plan.now) (batches_of (D.seen disk.old)) ≡ true) × Restarts M.recalls M.readable M.blank M.rests (whole_lines (P.text plan.now)) machine.new left)) }
+{
+    let found = find(alloc, journal)?;
+    let is_damaged = has_right_behind(alloc, journal, found.at)?;
+    if is_damaged {
+        return Ok(Started::Damaged(found.at));
+    }
+    if !is_of(plan, found.begins, found.last)? {
+        return Ok(Started::Another);
+    }
+    if !reads_facts(alloc, machine, left_out, journal)? {
+        return Ok(Started::Strange);
+    }
+    let number = renew(alloc, machine, plan.text(), disk)?;
+    let cut = wrong_end(journal, found.at);
+    Ok(Started::Ready(Recovered { number, cut }))
+}
+
+// Where the right batches end, if something is behind them.
+fn wrong_end(text: &[u8], at: usize) -> Option<usize>
+    requires { at ≤ length text.now }
+    ensures { MatchOption result (drop at text.now ≡ []) (λ place. place ≡ at) }
+{
+    if at == text.len() {
+        return None;
+    }
+    Some(at)
 }
 
 // Whether there is a right batch somewhere behind the place.

@@ -1,5 +1,7 @@
 pub mod LineByLine
 pub mod Losing
+pub mod Going
+pub mod Remaining
 pub mod Rooms
 pub mod WholeLines
 pub mod Comparing

@@ -8,7 +8,7 @@ use Rattle.gq_desk.specs.Volumes.{Account, OpenFault, new_account}
 use Rattle.gq_text.specs.Lines.{lines_of}
 use Rattle.gq_setup.specs.declared.openings.Opening.{Opening}
 use Rattle.gq_setup.specs.declared.openings.SetupFault.{SetupFault}
-use Rattle.gq_setup.specs.declared.openings.SetupFault.TheVariants.{Plan, Live, OpenSize, OpenVolumes, OpenShare, Chunks, Replace, Memory}
+use Rattle.gq_setup.specs.declared.openings.SetupFault.TheVariants.{Plan, Live, OpenSize, OpenVolumes, OpenShare, Chunks, Replace, Gone, Memory}
 use Rattle.gq_setup.specs.Setups.{Setup, SetupReading, accounts_of, after_opening, after_openings, opening_fault, holdings, CanOpen, with_opening, opened, after_opens, after_opens_many, after_line, then_told, after_lines}
 use Rattle.gq_setup.specs.Faults.{IsFirstFault}
 
@@ -60,6 +60,7 @@ fault_first (OpenVolumes n) told next is = ap (λ r. then_told r next) is
 fault_first (OpenShare n free) told next is = ap (λ r. then_told r next) is
 fault_first (Chunks n) told next is = ap (λ r. then_told r next) is
 fault_first (Replace n) told next is = ap (λ r. then_told r next) is
+fault_first (Gone n) told next is = ap (λ r. then_told r next) is
 fault_first (Memory refused) told next is = tt
 
 opened_plan : (n : ℕ) (setup next : Setup) (o : Opening) (fault : Option OpenFault) → opened n setup o fault ≡ Ok next → next.plan ≡ setup.plan

@@ -31,8 +31,8 @@ use Rattle.gq_text.proofs.PlanIs.{plan_is, small_grid}
 use Rattle.gq_text.proofs.ScriptBack.{plan_back}
 use Rattle.gq_setup.specs.declared.openings.Opening.{Opening}
 use Rattle.gq_setup.specs.declared.openings.ChunkRoom.{ChunkRoom}
-use Rattle.gq_setup.specs.Setups.{Setup, NotHad, NotLost, accounts_of, after_opening, holdings, opening_fault, CanOpen, can_have, CanHave, can_lose, CanLose, line_opens, event_opens, many_told, room_from, room_told, loss_word, with_opening, with_room, with_loss, after_opens, after_opening_line, after_has, after_room_line, after_loses, after_told, after_line, then_told, after_lines, plan_alone, first_behind, behind_plan, setup_of}
-use Rattle.gq_setup.specs.Texts.{opening_event, room_line, loss_line, setup_text, node_text, setup_of_node_text}
+use Rattle.gq_setup.specs.Setups.{Setup, NotHad, NotLost, NotGone, accounts_of, after_opening, holdings, opening_fault, CanOpen, can_have, CanHave, can_lose, CanLose, can_go, CanGo, line_opens, event_opens, many_told, room_from, room_told, word_behind, loss_word, gone_word, with_opening, with_room, with_loss, with_gone, after_opens, after_opening_line, after_has, after_room_line, after_loses, after_goes, after_gone_line, after_told, after_line, then_told, after_lines, plan_alone, first_behind, behind_plan, setup_of}
+use Rattle.gq_setup.specs.Texts.{opening_event, room_line, loss_line, gone_line, setup_text, node_text, setup_of_node_text}
 use Rattle.gq_setup.proofs.LineByLine.{after_openings-length, accounts-length, one_opened, opens_is}
 use Rattle.gq_setup.proofs.WholeLines.{events_whole, behind_line}
 
@@ -62,11 +62,11 @@ two_words plan a b = by (bytes_eq a (codes "server")) (place_named plan a)
 opens_none : (o : Opening) (read : Option Opening) → read ≡ None → read ≡ Some o → ⊥
 opens_none o read none some = cc
 
-no_loss : (plan : CheckedPlan) (words : List Word) (o : Opening) → event_opens (event_of_words plan words) ≡ Some o → loss_word words ≡ None
-no_loss plan [] o is = refl
-no_loss plan (a ∷ []) o is = refl
-no_loss plan (a ∷ b ∷ []) o is = absurd (opens_none o (event_opens (event_of_words plan (a ∷ b ∷ []))) (two_words plan a b) is)
-no_loss plan (a ∷ b ∷ c ∷ words) o is = refl
+no_word : (verb : Word) (plan : CheckedPlan) (words : List Word) (o : Opening) → event_opens (event_of_words plan words) ≡ Some o → word_behind verb words ≡ None
+no_word verb plan [] o is = refl
+no_word verb plan (a ∷ []) o is = refl
+no_word verb plan (a ∷ b ∷ []) o is = absurd (opens_none o (event_opens (event_of_words plan (a ∷ b ∷ []))) (two_words plan a b) is)
+no_word verb plan (a ∷ b ∷ c ∷ words) o is = refl
 
 -- ---- a line that opens a volume gives no room for chunks
 
@@ -132,7 +132,8 @@ not_many plan (a ∷ b ∷ c ∷ d ∷ e ∷ f ∷ g ∷ words) o is = refl
 opens_line : (n : ℕ) (setup : Setup) (line : List ℕ) (o : Opening) → event_of setup.plan line ≡ opening_event o → opening_fault (holdings setup) o ≡ None → after_line n setup line ≡ Ok (with_opening setup o)
 opens_line n setup line o event sound =
     let opens : event_opens (event_of setup.plan line) ≡ Some o = ap event_opens event in
-    ap (after_told n setup line) (no_loss setup.plan (words_of line) o opens) ∙ ap (after_room_line n setup line) (no_room setup.plan (words_of line) o opens) ∙ ap (after_opening_line n setup line) (not_many setup.plan (words_of line) o opens) ∙ ap (after_opens n setup) opens ∙ opens_is n setup (holdings setup) o refl sound
+    ap (after_told n setup line) (no_word (codes "replace") setup.plan (words_of line) o opens) ∙ ap (after_gone_line n setup line) (no_word (codes "gone") setup.plan (words_of line) o opens)
+    ∙ ap (after_room_line n setup line) (no_room setup.plan (words_of line) o opens) ∙ ap (after_opening_line n setup line) (not_many setup.plan (words_of line) o opens) ∙ ap (after_opens n setup) opens ∙ opens_is n setup (holdings setup) o refl sound
 
 first_same : (a b : Event) (more others : List Event) → a ∷ more ≡ b ∷ others → (a ≡ b) × (more ≡ others)
 first_same a b more others same = (cc, cc)
@@ -195,6 +196,7 @@ had_line n setup room is low can =
     let line : List ℕ = name ++ spaced (codes "chunks" ∷ decimal room.kib ∷ []) in
     let words = words_back name (codes "chunks" ∷ decimal room.kib ∷ []) is.plain (room_plain room low) in
     ap (λ ws. after_told n setup line (loss_word ws)) words
+    ∙ ap (λ ws. after_gone_line n setup line (gone_word ws)) words
     ∙ ap (λ ws. after_room_line n setup line (room_told setup.plan ws)) words
     ∙ ap (after_has n setup) (room_read setup.plan room is low)
     ∙ ap (λ b. cond b (Ok (with_room setup room)) (Err (n, NotHad))) can
@@ -234,40 +236,76 @@ lost_line n setup place low can =
     ∙ ap (after_loses n setup) (numbers_read_back place low)
     ∙ ap (λ b. cond b (Ok (with_loss setup place)) (Err (n, NotLost))) can
 
-losses_back : (n : ℕ) (setup : Setup) (lost : List ℕ) → setup.plan.grid.rows * setup.plan.grid.cols ≤ 64 → CanLose setup.plan setup.lost lost →
-    after_lines n setup (lines_of (flat_map loss_line lost)) ≡ Ok (record setup { lost = setup.lost ++ lost })
-losses_back n setup [] small can = ap (λ ls. Ok (record setup { lost = ls })) (sym (append-nil setup.lost))
-losses_back n setup (place ∷ lost) small can =
+-- what is told behind lines of these losses
+record TellsLosses (n : ℕ) (setup : Setup) (lost : List ℕ) (rest : List ℕ) : Type 0 where
+  number : ℕ
+  told : after_lines n setup (lines_of (flat_map loss_line lost ++ rest)) ≡ after_lines number (record setup { lost = setup.lost ++ lost }) (lines_of rest)
+
+losses_back : (n : ℕ) (setup : Setup) (lost : List ℕ) (rest : List ℕ) → setup.plan.grid.rows * setup.plan.grid.cols ≤ 64 → CanLose setup.plan setup.lost lost → TellsLosses n setup lost rest
+losses_back n setup [] rest small can = record { number = n; told = ap (λ ls. after_lines n (record setup { lost = ls }) (lines_of rest)) (sym (append-nil setup.lost)) }
+losses_back n setup (place ∷ lost) rest small can =
     let low : place < 2 ^ 32 = low_place setup.plan setup.lost place small can.0 in
     let plain : are_plain (decimal place ∷ []) ≡ true = rw (decimal_plain place low) refl in
     let more : List ℕ = flat_map loss_line lost in
-    ap (after_lines n setup) (line_back (codes "replace") (decimal place ∷ []) more refl plain)
-    ∙ ap (λ r. then_told r (λ x. after_lines (n + 1) x (lines_of more))) (lost_line n setup place low can.0)
-    ∙ losses_back (n + 1) (with_loss setup place) lost small can.1
-    ∙ ap (λ ls. Ok (record setup { lost = ls })) (append_assoc setup.lost (place ∷ []) lost)
+    let later = losses_back (n + 1) (with_loss setup place) lost rest small can.1 in
+    record {
+      number = later.number;
+      told = ap (λ text. after_lines n setup (lines_of text)) (append_assoc (loss_line place) more rest)
+          ∙ ap (after_lines n setup) (line_back (codes "replace") (decimal place ∷ []) (more ++ rest) refl plain)
+          ∙ ap (λ r. then_told r (λ x. after_lines (n + 1) x (lines_of (more ++ rest)))) (lost_line n setup place low can.0)
+          ∙ later.told
+          ∙ ap (λ ls. after_lines later.number (record setup { lost = ls }) (lines_of rest)) (append_assoc setup.lost (place ∷ []) lost);
+    }
+
+-- ---- tenants that are gone
+
+plain_name : (plan : CheckedPlan) (gone : List Word) (name : Word) → can_go plan gone name ≡ true → are_plain (name ∷ []) ≡ true
+plain_name plan gone name can =
+    let is : is_name name ≡ true = (and_parts (is_name name) _ can).0 in
+    rw (name_plain name is) refl
+
+goes_line : (n : ℕ) (setup : Setup) (name : Word) → can_go setup.plan setup.gone name ≡ true → after_line n setup (codes "gone" ++ spaced (name ∷ [])) ≡ Ok (with_gone setup name)
+goes_line n setup name can =
+    let line : List ℕ = codes "gone" ++ spaced (name ∷ []) in
+    let words = words_back (codes "gone") (name ∷ []) refl (plain_name setup.plan setup.gone name can) in
+    ap (λ ws. after_told n setup line (loss_word ws)) words
+    ∙ ap (λ ws. after_gone_line n setup line (gone_word ws)) words
+    ∙ ap (λ b. cond b (Ok (with_gone setup name)) (Err (n, NotGone))) can
+
+gone_back : (n : ℕ) (setup : Setup) (gone : List Word) → CanGo setup.plan setup.gone gone → after_lines n setup (lines_of (flat_map gone_line gone)) ≡ Ok (record setup { gone = setup.gone ++ gone })
+gone_back n setup [] can = ap (λ ns. Ok (record setup { gone = ns })) (sym (append-nil setup.gone))
+gone_back n setup (name ∷ gone) can =
+    let more : List ℕ = flat_map gone_line gone in
+    ap (after_lines n setup) (line_back (codes "gone") (name ∷ []) more refl (plain_name setup.plan setup.gone name can.0))
+    ∙ ap (λ r. then_told r (λ x. after_lines (n + 1) x (lines_of more))) (goes_line n setup name can.0)
+    ∙ gone_back (n + 1) (with_gone setup name) gone can.1
+    ∙ ap (λ ns. Ok (record setup { gone = ns })) (append_assoc setup.gone (name ∷ []) gone)
 
 -- ---- the whole text
 
-pub text_tells : (plan : CheckedPlan) (openings : List Opening) (rooms : List ChunkRoom) (lost : List ℕ) (events : List Event) → events ≡ map opening_event openings → CanOpen (accounts_of plan) openings → CanHave plan [] rooms → CanLose plan [] lost →
+pub text_tells : (plan : CheckedPlan) (openings : List Opening) (rooms : List ChunkRoom) (lost : List ℕ) (gone : List Word) (events : List Event) → events ≡ map opening_event openings → CanOpen (accounts_of plan) openings → CanHave plan [] rooms → CanLose plan [] lost → CanGo plan [] gone →
     IsScriptOf (script_text plan events) plan events →
-    setup_of (setup_text (record { plan = plan; openings = openings; rooms = rooms; lost = lost })) ≡ Ok (record { plan = plan; openings = openings; rooms = rooms; lost = lost })
-text_tells plan openings rooms lost events is can have may s =
+    setup_of (setup_text (record { plan = plan; openings = openings; rooms = rooms; lost = lost; gone = gone })) ≡ Ok (record { plan = plan; openings = openings; rooms = rooms; lost = lost; gone = gone })
+text_tells plan openings rooms lost gone events is can have may go s =
     let sound : IsPlan plan = plan_is (lines_of (script_text plan events)) s.lines plan s.read in
     let script : List ℕ = flat_map (event_line plan) events in
-    let losses : List ℕ = flat_map loss_line lost in
+    let goers : List ℕ = flat_map gone_line gone in
+    let losses : List ℕ = flat_map loss_line lost ++ goers in
     let behind : List ℕ = flat_map (room_line plan) rooms ++ losses in
     let both : (plan, s.lines) ≡ (plan, lines_of script) = ok_same (sym s.read ∙ plan_back plan sound script) in
     let lines : s.lines ≡ lines_of script = ap (λ (x : CheckedPlan × List (List ℕ)). x.1) both in
     let told : map (event_of plan) (lines_of script) ≡ map opening_event openings = ap (map (event_of plan)) (sym lines) ∙ s.tell ∙ is in
     let back = openings_back (first_behind plan) (plan_alone plan) openings (lines_of script) (lines_of behind) told can in
-    let had = rooms_back back.number (record { plan = plan; openings = openings; rooms = []; lost = [] }) rooms losses sound have in
+    let had = rooms_back back.number (record { plan = plan; openings = openings; rooms = []; lost = []; gone = [] }) rooms losses sound have in
+    let bereft = losses_back had.number (record { plan = plan; openings = openings; rooms = rooms; lost = []; gone = [] }) lost goers (small_grid plan sound) may in
     ap (λ es. setup_of (script_text plan es ++ behind)) (sym is)
     ∙ ap setup_of (append_assoc (plan_text plan) script behind)
     ∙ ap behind_plan (plan_back plan sound (script ++ behind))
     ∙ ap (after_lines (first_behind plan) (plan_alone plan)) (events_whole plan events behind)
     ∙ back.told
     ∙ had.told
-    ∙ losses_back had.number (record { plan = plan; openings = openings; rooms = rooms; lost = [] }) lost (small_grid plan sound) may
+    ∙ bereft.told
+    ∙ gone_back bereft.number (record { plan = plan; openings = openings; rooms = rooms; lost = lost; gone = [] }) gone go
 
 in_from : (plan : CheckedPlan) (accounts : List Account) (openings : List Opening) → CanOpen accounts openings → length accounts ≡ length plan.rows → (k : ℕ) (d : Event) → k < length (map opening_event openings) → IsIn plan (get_or (map opening_event openings) k d)
 in_from plan accounts [] can same k d less = absurd (omega arith)

@@ -1,11 +1,12 @@
 -- Rooms for chunks that tenants may have, one behind another, and that none gets less.
 use Rattle.std.proofs.Common.{◌≡◌, ℕ, ◌<◌, ◌≤◌, ◌^◌, ◌⊎◌, inl, inr, List, [], ◌∷◌, ◌++◌, length, get_or, zero, suc, Bool, true, false, cond, refl, sym, subst, arith, append_assoc, append-nil}
-use Rattle.std.specs.Prelude.{◌==◌, nat_le}
+use Rattle.std.specs.Prelude.{◌==◌, ◌||◌, nat_le}
 use Rattle.std.specs.List.{All}
 use Rattle.std.proofs.lemmas.Bool.{and_parts, eqb-true, leb-true}
 use Rattle.gq_desk.specs.CheckedPlan.{CheckedPlan}
+use Rattle.gq_text.specs.Words.{Word}
 use Rattle.gq_setup.specs.declared.openings.ChunkRoom.{ChunkRoom}
-use Rattle.gq_setup.specs.Setups.{kib_of, can_have, CanHave}
+use Rattle.gq_setup.specs.Setups.{kib_of, can_have, CanHave, is_gone_at}
 use Rattle.gq_setup.specs.GoingOn.{rooms_kept, rooms_go_on}
 
 -- behind what may be had another may be
@@ -26,21 +27,26 @@ all_there plan rooms can = there_from plan [] rooms can
 
 -- ---- no less than before
 
--- a tenant has none by these, or keeps what it had
-none_or_kept : (olds news rooms : List ChunkRoom) (t : ℕ) → rooms_kept olds news rooms ≡ true → (kib_of rooms t ≡ 0) ⊎ (nat_le (kib_of olds t) (kib_of news t) ≡ true)
-none_or_kept olds news [] t kept = inl refl
-none_or_kept olds news (room ∷ rooms) t kept =
-    let parts = and_parts (nat_le (kib_of olds room.tenant) (kib_of news room.tenant)) (rooms_kept olds news rooms) kept in
-    by (room.tenant == t) refl parts.0 (none_or_kept olds news rooms t parts.1)
+-- a tenant that is not gone has none by these, or keeps what it had
+none_or_kept : (gone : List Word) (plan : CheckedPlan) (olds news rooms : List ChunkRoom) (t : ℕ) → is_gone_at gone plan t ≡ false → rooms_kept gone plan olds news rooms ≡ true → (kib_of rooms t ≡ 0) ⊎ (nat_le (kib_of olds t) (kib_of news t) ≡ true)
+none_or_kept gone plan olds news [] t stays kept = inl refl
+none_or_kept gone plan olds news (room ∷ rooms) t stays kept =
+    let parts = and_parts (is_gone_at gone plan room.tenant || nat_le (kib_of olds room.tenant) (kib_of news room.tenant)) (rooms_kept gone plan olds news rooms) kept in
+    by (room.tenant == t) refl parts.0 (none_or_kept gone plan olds news rooms t stays parts.1)
   where
-    by : (b : Bool) → (room.tenant == t) ≡ b → nat_le (kib_of olds room.tenant) (kib_of news room.tenant) ≡ true →
+    its : room.tenant ≡ t → (is_gone_at gone plan room.tenant || nat_le (kib_of olds room.tenant) (kib_of news room.tenant)) ≡ true → nat_le (kib_of olds t) (kib_of news t) ≡ true
+    its is kept =
+        subst (λ b. (b || nat_le (kib_of olds t) (kib_of news t)) ≡ true) stays
+        (subst (λ p. (is_gone_at gone plan p || nat_le (kib_of olds p) (kib_of news p)) ≡ true) is kept)
+
+    by : (b : Bool) → (room.tenant == t) ≡ b → (is_gone_at gone plan room.tenant || nat_le (kib_of olds room.tenant) (kib_of news room.tenant)) ≡ true →
         (kib_of rooms t ≡ 0) ⊎ (nat_le (kib_of olds t) (kib_of news t) ≡ true) →
         (cond b room.kib (kib_of rooms t) ≡ 0) ⊎ (nat_le (kib_of olds t) (kib_of news t) ≡ true)
-    by true its kept later = inr (subst (λ p. nat_le (kib_of olds p) (kib_of news p) ≡ true) (eqb-true room.tenant t its) kept)
-    by false its kept later = later
+    by true same kept later = inr (its (eqb-true room.tenant t same) kept)
+    by false other kept later = later
 
-pub rooms_grow : (olds news : List ChunkRoom) (t : ℕ) → rooms_go_on olds news ≡ true → kib_of olds t ≤ kib_of news t
-rooms_grow olds news t kept = elim (none_or_kept olds news olds t kept) [
+pub rooms_grow : (gone : List Word) (plan : CheckedPlan) (olds news : List ChunkRoom) (t : ℕ) → rooms_go_on gone plan olds news ≡ true → is_gone_at gone plan t ≡ false → kib_of olds t ≤ kib_of news t
+rooms_grow gone plan olds news t kept stays = elim (none_or_kept gone plan olds news olds t stays kept) [
   | inl none ↦ omega (arith, none)
   | inr more ↦ leb-true (kib_of olds t) (kib_of news t) more
 ]

@@ -1,7 +1,10 @@
--- What a node starts with: a plan, the volumes that are opened at each start, what tenants may have of chunks, and which nodes were lost.
-use Rattle.std.specs.Prelude.{◌≡◌, ℕ, ◌+◌, ◌*◌, ◌<◌, ◌^◌, List, [], ◌∷◌, ◌++◌, length, map, slice_set, Option, Some, None, Result, Ok, Err, Bool, true, ◌&&◌, ◌==◌, nat_lt, codes, zero, suc, if◌then◌else◌}
+-- What a node starts with: a plan, the volumes that are opened at each start, what tenants may have of chunks, which nodes were lost, and which
+-- tenants are gone.
+use Rattle.std.specs.Prelude.{◌≡◌, ℕ, ◌+◌, ◌*◌, ◌<◌, ◌^◌, List, [], ◌∷◌, ◌++◌, length, map, slice_set, Option, Some, None, Result, Ok, Err, Bool, true, ◌&&◌, ◌==◌, not, is_none, nat_lt, codes, zero, suc, if◌then◌else◌}
+use Rattle.std.specs.List.{list_any}
 use Rattle.std.specs.Str.{bytes_eq}
-use Rattle.gq_desk.specs.CheckedPlan.{CheckedPlan}
+use Rattle.gq_desk.specs.CheckedPlan.{CheckedPlan, row_at}
+use Rattle.gq_desk.specs.Names.{is_name}
 use Rattle.gq_desk.specs.Volumes.{Account, open_fault, OpenFault, with_volume, account_at, new_account}
 use Rattle.gq_desk.specs.declared.volumes.VolumeRow.{VolumeRow}
 use Rattle.gq_model.specs.declared.events.Event.{Event}
@@ -18,14 +21,16 @@ use Rattle.gq_node.specs.declared.lost.TheConstants.{MOST_TIMES}
 use Rattle.gq_node.specs.Sites.{plan_in}
 use Rattle.gq_setup.specs.declared.openings.Opening.{Opening}
 use Rattle.gq_setup.specs.declared.openings.ChunkRoom.{ChunkRoom}
-use Rattle.gq_setup.specs.declared.openings.TheConstants.{MOST_LOSSES}
+use Rattle.gq_setup.specs.declared.openings.TheConstants.{MOST_LOSSES, MOST_GONE}
 
--- a plan, the volumes that are opened, the room that tenants have for chunks, and the places whose nodes were lost, each in order
+-- a plan, the volumes that are opened, the room that tenants have for chunks, the places whose nodes were lost, and the names of tenants that are
+-- gone, each in order
 pub record Setup : Type 0 where
   pub plan : CheckedPlan
   pub openings : List Opening
   pub rooms : List ChunkRoom
   pub lost : List ℕ
+  pub gone : List Word
 
 -- ---- volumes
 
@@ -91,16 +96,37 @@ CanLose plan before (place ∷ lost) = (can_lose plan before place ≡ true) × 
 abbrev pub has_node : Setup → (node : ℕ) → Bool
 has_node setup node = nat_lt (place_of node) (setup.plan.grid.rows * setup.plan.grid.cols) && node_at (plan_in setup.lost) (place_of node) == node
 
+-- ---- tenants that are gone
+
+-- whether a tenant of this name is one of those that are gone
+abbrev pub is_gone : (gone : List Word) → (name : Word) → Bool
+is_gone gone name = list_any (bytes_eq name) gone
+
+-- whether the tenant at place t of the plan is
+abbrev pub is_gone_at : (gone : List Word) → CheckedPlan → (t : ℕ) → Bool
+is_gone_at gone plan t = is_gone gone (row_at plan t).name
+
+-- whether a tenant of this name may be gone, where these are: it is a name, no tenant of the plan has it, it was not told before, and not too
+-- many were
+abbrev pub can_go : CheckedPlan → (gone : List Word) → (name : Word) → Bool
+can_go plan gone name = is_name name && (is_none (place_named plan name) && (not (is_gone gone name) && nat_lt (length gone) MOST_GONE))
+
+-- each may be gone, where those before it are
+abbrev pub CanGo : CheckedPlan → (before gone : List Word) → Type 0
+CanGo plan before [] = Unit {0}
+CanGo plan before (name ∷ gone) = (can_go plan before name ≡ true) × CanGo plan (before ++ name ∷ []) gone
+
 -- ---- as a text says it
 
 -- why a line is at fault: it is no line of a plan, it says nothing of what may be said behind one, the volume can't be opened, the tenant can't
--- have that room for chunks, or the node can't be lost
+-- have that room for chunks, the node can't be lost, or the tenant can't be gone
 pub data Why : Type 0 where
   InPlan : TextFault → Why
   NoOpening : Why
   NotOpened : OpenFault → Why
   NotHad : Why
   NotLost : Why
+  NotGone : Why
 
 -- what lines tell, or the number of the first line at fault and why
 abbrev pub SetupReading : Type 0 → Type 0
@@ -135,12 +161,19 @@ abbrev pub room_told : CheckedPlan → List Word → Option (Option ChunkRoom)
 room_told plan (name ∷ verb ∷ kib ∷ []) = if bytes_eq verb (codes "chunks") then Some (room_from (place_named plan name) kib) else None
 room_told plan _ = None
 
--- the word that tells the place of a loss: the one behind `replace`, in a line of these two words
-abbrev pub loss_word : List Word → Option Word
-loss_word (verb ∷ word ∷ []) = if bytes_eq verb (codes "replace") then Some word else None
-loss_word _ = None
+-- the word behind this verb, in a line of these two words
+abbrev pub word_behind : (verb : Word) → List Word → Option Word
+word_behind verb (first ∷ word ∷ []) = if bytes_eq first verb then Some word else None
+word_behind verb _ = None
 
--- the setup with one volume more, with room for chunks of one tenant more, and with one loss more
+-- the word that tells the place of a loss, and the one that tells the name of a tenant that is gone
+abbrev pub loss_word : List Word → Option Word
+loss_word words = word_behind (codes "replace") words
+
+abbrev pub gone_word : List Word → Option Word
+gone_word words = word_behind (codes "gone") words
+
+-- the setup with one volume more, with room for chunks of one tenant more, with one loss more, and with one tenant more that is gone
 abbrev pub with_opening : Setup → Opening → Setup
 with_opening setup opening = record setup { openings = setup.openings ++ opening ∷ [] }
 
@@ -149,6 +182,9 @@ with_room setup room = record setup { rooms = setup.rooms ++ room ∷ [] }
 
 abbrev pub with_loss : Setup → (place : ℕ) → Setup
 with_loss setup place = record setup { lost = setup.lost ++ place ∷ [] }
+
+abbrev pub with_gone : Setup → (name : Word) → Setup
+with_gone setup name = record setup { gone = setup.gone ++ name ∷ [] }
 
 -- the same by line n, unless it has a fault
 abbrev pub opened : ℕ → Setup → Opening → Option OpenFault → SetupReading Setup
@@ -162,6 +198,9 @@ after_opens n setup (Some opening) = opened n setup opening (opening_fault (hold
 abbrev pub after_loses : ℕ → Setup → Option ℕ → SetupReading Setup
 after_loses n setup None = Err (n, NotLost)
 after_loses n setup (Some place) = if can_lose setup.plan setup.lost place then Ok (with_loss setup place) else Err (n, NotLost)
+
+abbrev pub after_goes : ℕ → Setup → (name : Word) → SetupReading Setup
+after_goes n setup name = if can_go setup.plan setup.gone name then Ok (with_gone setup name) else Err (n, NotGone)
 
 abbrev pub after_has : ℕ → Setup → Option ChunkRoom → SetupReading Setup
 after_has n setup None = Err (n, NotHad)
@@ -187,10 +226,15 @@ abbrev pub after_room_line : ℕ → Setup → List ℕ → Option (Option Chunk
 after_room_line n setup line (Some room) = after_has n setup room
 after_room_line n setup line None = after_opening_line n setup line (many_told setup.plan (words_of line))
 
+-- or tells that a tenant is gone
+abbrev pub after_gone_line : ℕ → Setup → List ℕ → Option Word → SetupReading Setup
+after_gone_line n setup line (Some word) = after_goes n setup word
+after_gone_line n setup line None = after_room_line n setup line (room_told setup.plan (words_of line))
+
 -- the setup behind line n, a loss where it has such a word; and behind lines of which the first is line n
 abbrev pub after_told : ℕ → Setup → List ℕ → Option Word → SetupReading Setup
 after_told n setup line (Some word) = after_loses n setup (number_of word)
-after_told n setup line None = after_room_line n setup line (room_told setup.plan (words_of line))
+after_told n setup line None = after_gone_line n setup line (gone_word (words_of line))
 
 abbrev pub after_line : ℕ → Setup → List ℕ → SetupReading Setup
 after_line n setup line = after_told n setup line (loss_word (words_of line))
@@ -201,7 +245,7 @@ after_lines n setup (line ∷ lines) = then_told (after_line n setup line) (λ n
 
 -- a plan alone, and the number of the first line behind it
 abbrev pub plan_alone : CheckedPlan → Setup
-plan_alone plan = record { plan = plan; openings = []; rooms = []; lost = [] }
+plan_alone plan = record { plan = plan; openings = []; rooms = []; lost = []; gone = [] }
 
 abbrev pub first_behind : CheckedPlan → ℕ
 first_behind plan = length plan.rows + 4
@@ -211,6 +255,7 @@ abbrev pub behind_plan : Reading (CheckedPlan × List (List ℕ)) → SetupReadi
 behind_plan (Ok read) = after_lines (first_behind read.0) (plan_alone read.0) read.1
 behind_plan (Err fault) = Err (fault.0, InPlan fault.1)
 
--- the setup that a text tells: a plan, and behind `go` lines that open volumes, give room for chunks or tell losses, and nothing else
+-- the setup that a text tells: a plan, and behind `go` lines that open volumes, give room for chunks, tell losses or tell who is gone, and nothing
+-- else
 abbrev pub setup_of : List ℕ → SetupReading Setup
 setup_of text = behind_plan (plan_of (lines_of text))

@@ -6,6 +6,7 @@ use Rattle.gq_desk.specs.Volumes.{account_at}
 use Rattle.gq_model.specs.declared.events.Event.{Event}
 use Rattle.gq_model.specs.declared.events.Event.TheVariants.{Tenant}
 use Rattle.gq_model.specs.declared.events.Line.TheVariants.{NewVolume}
+use Rattle.gq_text.specs.Words.{Word}
 use Rattle.gq_text.specs.AnswerText.{line_text}
 use Rattle.gq_text.specs.Canonical.{script_text}
 use Rattle.gq_journal.specs.Batches.{Line, lines_text}
@@ -22,13 +23,17 @@ opening_event opening = Tenant opening.tenant (NewVolume opening.files opening.b
 abbrev pub loss_line : (place : ℕ) → List ℕ
 loss_line place = line_text (codes "replace") (decimal place ∷ [])
 
+-- the line of a tenant of this name that is gone
+abbrev pub gone_line : (name : Word) → List ℕ
+gone_line name = line_text (codes "gone") (name ∷ [])
+
 -- the line of a room for chunks, of a tenant of the plan
 abbrev pub room_line : CheckedPlan → ChunkRoom → List ℕ
 room_line plan room = line_text (row_at plan room.tenant).name (codes "chunks" ∷ decimal room.kib ∷ [])
 
--- the lines of rooms for chunks and of losses
+-- the lines of rooms for chunks, of losses, and of tenants that are gone
 abbrev pub behind_text : Setup → List ℕ
-behind_text setup = flat_map (room_line setup.plan) setup.rooms ++ flat_map loss_line setup.lost
+behind_text setup = flat_map (room_line setup.plan) setup.rooms ++ (flat_map loss_line setup.lost ++ flat_map gone_line setup.gone)
 
 -- the canonical script of a plan and what it opens, and behind it these
 abbrev pub setup_text : Setup → List ℕ

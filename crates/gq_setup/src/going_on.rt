@@ -1,11 +1,14 @@
 //! What of an older setup a newer one does not keep.
 
-ghost use Rattle.std.specs.Prelude.{◌≡◌, ◌≤◌, ◌<◌, false, true, length, is_none, IfNone, IfSome};
-ghost use Rattle.gq_setup.specs.GoingOn.{come_first, losses_go_on, same_place, row_goes_on, rooms_go_on, same_servers, same_volume, account_goes_on};
-ghost use Rattle.gq_setup.specs.NotKept.{is_kept_at, TellsServers, TellsRoom, TellsRow, TellsRowAt, TellsLoss, TellsVolume};
+ghost use Rattle.std.specs.Prelude.{◌≡◌, ◌≤◌, ◌<◌, ◌||◌, ◌==◌, ℕ, List, nat_le, false, true, length, is_none, IfNone, IfSome};
+ghost use Rattle.std.specs.List.{All};
+ghost use Rattle.gq_setup.specs.GoingOn.{come_first, losses_go_on, gone_go_on, same_place, same_name, same_tenant, row_goes_on, rooms_go_on, same_servers, same_volume, account_goes_on, accounts_left, volumes_left};
+ghost use Rattle.gq_setup.specs.Setups.{is_gone, is_gone_at, kib_of};
+ghost use Rattle.gq_setup.specs.declared.going_on.NotKept.TheVariants.{Sessions};
+ghost use Rattle.gq_setup.specs.NotKept.{is_kept_at, TellsServers, TellsGone, TellsRoom, TellsRow, TellsRowAt, TellsLoss, TellsVolume};
 
-use crate::openings::{ChunkRoom, kib_of};
-use gq_desk::{Desk, Plan, TenantRow, VolumeRow};
+use crate::openings::{ChunkRoom, is_gone, kib_of};
+use gq_desk::{Desk, Name, Plan, TenantRow, VolumeRow};
 use std::fmt;
 use std::fmt::{Display, Formatter, Write};
 
@@ -26,7 +29,12 @@ pub enum NotKept {
         index: usize,
         place: u8,
     },
-    /// The tenant of this place: it has another name, or is gone.
+    /// The line of this index that tells who is gone: it told this name.
+    Gone {
+        index: usize,
+        name: Name,
+    },
+    /// The tenant of this place: it has another name, or none, and no line tells that it is gone.
     Tenant {
         place: usize,
     },
@@ -76,6 +84,12 @@ impl Display for NotKept {
                     "the line `replace` number {number} was `replace {place}`"
                 )
             }
+            NotKept::Gone { index, name } => {
+                let number = index.saturating_add(1);
+                write!(f, "the line `gone` number {number} was `gone ")?;
+                write_name(f, name)?;
+                f.write_str("`")
+            }
             NotKept::Tenant { place } => {
                 let line = line_of(*place);
                 write!(f, "line {line}: another tenant stood here")
@@ -117,6 +131,14 @@ impl Display for NotKept {
     }
 }
 
+// Writes the letters of a name.
+fn write_name<W: Write>(f: &mut Formatter<W>, name: &Name) -> fmt::Result {
+    for letter in name.as_bytes() {
+        f.write_char(char::from(*letter))?;
+    }
+    Ok(())
+}
+
 // What the servers of two plans differ in, or in which of them they have fewer blocks.
 pub(crate) fn servers_not_kept(old: &Plan, new: &Plan) -> Option<NotKept>
     ensures kept { is_none result ≡ same_servers old.now new.now }
@@ -137,19 +159,30 @@ pub(crate) fn servers_not_kept(old: &Plan, new: &Plan) -> Option<NotKept>
     None
 }
 
-// What of its row the tenant at this place does not keep.
-fn row_not_kept(place: usize, old: &TenantRow, new: &TenantRow) -> Option<NotKept>
-    ensures kept { is_none result ≡ row_goes_on old.now new.now }
-    ensures told { IfSome result (TellsRow place old.now new.now) }
+// What of its sessions the place does not keep.
+fn sessions_not_kept(place: usize, old: &TenantRow, new: &TenantRow) -> Option<NotKept>
+    ensures kept { is_none result ≡ (old.now.sessions == new.now.sessions) }
+    ensures told { IfSome result (λ what. (what ≡ Sessions place old.now.sessions) × ((old.now.sessions == new.now.sessions) ≡ false)) }
 {
-    if old.name.as_bytes() != new.name.as_bytes() {
-        return Some(NotKept::Tenant { place });
-    }
     if old.sessions != new.sessions {
         return Some(NotKept::Sessions {
             place,
             before: old.sessions,
         });
+    }
+    None
+}
+
+// What of its row the tenant at this place does not keep, which is not gone.
+fn tenant_not_kept(place: usize, old: &TenantRow, new: &TenantRow) -> Option<NotKept>
+    ensures kept { is_none result ≡ same_tenant old.now new.now }
+    ensures told { (gone : List (List ℕ)) → is_gone gone old.now.name ≡ false → IfSome result (TellsRow gone place old.now new.now) }
+{
+    if old.name.as_bytes() != new.name.as_bytes() {
+        return Some(NotKept::Tenant { place });
+    }
+    if let Some(what) = sessions_not_kept(place, old, new) {
+        return Some(what);
     }
     if new.share < old.share {
         return Some(NotKept::Share {
@@ -160,17 +193,46 @@ fn row_not_kept(place: usize, old: &TenantRow, new: &TenantRow) -> Option<NotKep
     None
 }
 
-// The first of the old rows that is not kept, and what of it.
-pub(crate) fn rows_not_kept(olds: &[TenantRow], news: &[TenantRow]) -> Option<NotKept>
-    ensures kept { is_none result ≡ come_first row_goes_on olds.now news.now }
-    ensures told { IfSome result (TellsRowAt olds.now news.now) }
+// What of its row the tenant at this place does not keep, where these are gone.
+fn row_not_kept(gone: &[Name], place: usize, old: &TenantRow, new: &TenantRow) -> Option<NotKept>
+    ensures kept { is_none result ≡ row_goes_on gone.now old.now new.now }
+    ensures told { IfSome result (TellsRow gone.now place old.now new.now) }
+{
+    if is_gone(gone, old.name.as_bytes()) {
+        sessions_not_kept(place, old, new)
+    } else {
+        tenant_not_kept(place, old, new)
+    }
+}
+
+// The first of the old rows that is not kept, and what of it, where these are gone.
+pub(crate) fn rows_not_kept(
+    gone: &[Name],
+    olds: &[TenantRow],
+    news: &[TenantRow],
+) -> Option<NotKept>
+    ensures kept { is_none result ≡ come_first (row_goes_on gone.now) olds.now news.now }
+    ensures told { IfSome result (TellsRowAt gone.now olds.now news.now) }
 {
     for (place, old) in olds.iter().enumerate() {
         if place >= news.len() {
             return Some(NotKept::Tenant { place });
         }
-        if let Some(what) = row_not_kept(place, old, &news[place]) {
+        if let Some(what) = row_not_kept(gone, place, old, &news[place]) {
             return Some(what);
+        }
+    }
+    None
+}
+
+// The first of those who were gone that is not told at its place.
+pub(crate) fn gone_not_kept(olds: &[Name], news: &[Name]) -> Option<NotKept>
+    ensures kept { is_none result ≡ gone_go_on olds.now news.now }
+    ensures told { IfSome result (TellsGone olds.now news.now) }
+{
+    for (index, old) in olds.iter().enumerate() {
+        if index >= news.len() || !news[index].is(old.as_bytes()) {
+            return Some(NotKept::Gone { index, name: *old });
         }
     }
     None
@@ -213,17 +275,45 @@ fn volume_not_kept(olds: &[VolumeRow], news: &[VolumeRow]) -> Option<usize>
     None
 }
 
-// The first of the old volumes that is not kept, of so many first tenants.
-pub(crate) fn accounts_not_kept(old: &Desk, new: &Desk, olds: usize) -> Option<NotKept>
-    requires olds { olds ≡ length old.now }
-    requires news { olds ≤ length new.now }
-    requires few { olds ≤ 64 }
-    ensures kept { is_none result ≡ come_first account_goes_on old.now new.now }
-    ensures told { IfSome result (TellsVolume old.now new.now) }
+// The index of the first of the old volumes of this tenant that is not kept, where these are gone.
+fn account_not_kept(
+    gone: &[Name],
+    row: &TenantRow,
+    olds: &[VolumeRow],
+    news: &[VolumeRow],
+) -> Option<usize>
+    ensures kept { is_none result ≡ come_first same_volume (volumes_left gone.now row.now olds.now) news.now }
+    ensures within { IfSome result (λ index. index < length olds.now) }
+    ensures stays { IfSome result (λ index. volumes_left gone.now row.now olds.now ≡ olds.now) }
+    ensures told { IfSome result (λ index. is_kept_at same_volume olds.now news.now index ≡ false) }
 {
-    for tenant in 0..olds {
+    if is_gone(gone, row.name.as_bytes()) {
+        return None;
+    }
+    volume_not_kept(olds, news)
+}
+
+// The first of the old volumes that is not kept, of the tenants of these rows, where these are gone.
+pub(crate) fn accounts_not_kept(
+    gone: &[Name],
+    rows: &[TenantRow],
+    old: &Desk,
+    new: &Desk,
+) -> Option<NotKept>
+    requires olds { length rows.now ≡ length old.now }
+    requires news { length rows.now ≤ length new.now }
+    requires few { length rows.now ≤ 64 }
+    ensures kept { is_none result ≡ come_first account_goes_on (accounts_left gone.now rows.now old.now) new.now }
+    ensures told { IfSome result (TellsVolume (accounts_left gone.now rows.now old.now) new.now) }
+{
+    for tenant in 0..rows.len() {
         let volumes = old.volumes(tenant as u8);
-        if let Some(index) = volume_not_kept(volumes, new.volumes(tenant as u8)) {
+        if let Some(index) = account_not_kept(
+            gone,
+            &rows[tenant],
+            volumes,
+            new.volumes(tenant as u8),
+        ) {
             let VolumeRow { files, blocks } = volumes[index];
             return Some(NotKept::Volume {
                 tenant,
@@ -236,18 +326,54 @@ pub(crate) fn accounts_not_kept(old: &Desk, new: &Desk, olds: usize) -> Option<N
     None
 }
 
-// The first of the old rooms for chunks that is not kept.
-pub(crate) fn rooms_not_kept(olds: &[ChunkRoom], news: &[ChunkRoom]) -> Option<NotKept>
-    ensures kept { is_none result ≡ rooms_go_on olds.now news.now }
-    ensures told { IfSome result (TellsRoom olds.now news.now) }
+// Whether the tenant keeps its room for chunks, or had none; where it does not, how many KiB it had.
+fn room_not_kept(olds: &[ChunkRoom], news: &[ChunkRoom], tenant: u8) -> Option<u32>
+    ensures kept { is_none result ≡ nat_le (kib_of olds.now tenant) (kib_of news.now tenant) }
+    ensures told { IfSome result (λ before. (before ≡ kib_of olds.now tenant) × (kib_of news.now tenant < before)) }
+{
+    let before = kib_of(olds, tenant);
+    if kib_of(news, tenant) < before {
+        return Some(before);
+    }
+    None
+}
+
+// What of its room for chunks the tenant of the plan does not keep, where these are gone.
+fn room_of_not_kept(
+    gone: &[Name],
+    plan: &Plan,
+    olds: &[ChunkRoom],
+    news: &[ChunkRoom],
+    tenant: u8,
+) -> Option<NotKept>
+    requires { tenant < length plan.now.rows }
+    ensures kept { is_none result ≡ (is_gone_at gone.now plan.now tenant || nat_le (kib_of olds.now tenant) (kib_of news.now tenant)) }
+    ensures told { IfSome result (TellsRoom gone.now plan.now olds.now news.now) }
+{
+    if is_gone(gone, plan.row(tenant).name.as_bytes()) {
+        return None;
+    }
+    let before = room_not_kept(olds, news, tenant)?;
+    Some(NotKept::Chunks {
+        place: tenant as usize,
+        before,
+    })
+}
+
+// The first of the rooms for chunks of the old plan that is not kept, where these are gone.
+pub(crate) fn rooms_not_kept(
+    gone: &[Name],
+    plan: &Plan,
+    olds: &[ChunkRoom],
+    news: &[ChunkRoom],
+) -> Option<NotKept>
+    requires { All (λ room. room.tenant < length plan.now.rows) olds.now }
+    ensures kept { is_none result ≡ rooms_go_on gone.now plan.now olds.now news.now }
+    ensures told { IfSome result (TellsRoom gone.now plan.now olds.now news.now) }
 {
     for room in olds {
-        let before = kib_of(olds, room.tenant);
-        if kib_of(news, room.tenant) < before {
-            return Some(NotKept::Chunks {
-                place: room.tenant as usize,
-                before,
-            });
+        if let Some(what) = room_of_not_kept(gone, plan, olds, news, room.tenant) {
+            return Some(what);
         }
     }
     None

@@ -1,11 +1,11 @@
-//! What a line behind a plan says: a volume that is opened, what a tenant may have of chunks, or a node that was lost.
+//! What a line behind a plan says: a volume that is opened, what a tenant may have of chunks, a node that was lost, or a tenant that is gone.
 
 ghost use Rattle.std.specs.Prelude.{◌≡◌, ◌<◌, length, None, Some, IfOk, IfSome, MatchOption};
 ghost use Rattle.gq_text.specs.Words.{words_of};
 ghost use Rattle.gq_text.specs.Input.{event_of};
-ghost use Rattle.gq_setup.specs.Setups.{event_opens, many_from, many_told, loss_word, room_from, room_told, kib_of};
+ghost use Rattle.gq_setup.specs.Setups.{event_opens, many_from, many_told, word_behind, room_from, room_told, kib_of, is_gone};
 
-use gq_desk::Plan;
+use gq_desk::{Name, Plan};
 use gq_memory::OutOfMemory;
 use gq_model::{Event, Line};
 use gq_text::{TextFault, first_word, is_end, next_word, number, read_line};
@@ -14,6 +14,9 @@ use thiserror::Error;
 
 /// The most nodes that may be lost, one after another.
 pub const MOST_LOSSES: usize = 255;
+
+/// The most tenants that may be gone.
+pub const MOST_GONE: usize = 1024;
 
 /// A volume that is opened at each start: so many files of so many blocks each.
 #[derive(Clone, Copy, Debug, PartialEq, Eq)]
@@ -38,7 +41,7 @@ pub enum SetupFault {
     /// The line is none of a plan.
     #[error("line {line}: {fault}")]
     Plan { line: u64, fault: TextFault },
-    /// The line, behind the plan, opens no volume, gives no room for chunks and tells no loss.
+    /// The line, behind the plan, opens no volume, gives no room for chunks, and tells no loss and no tenant that is gone.
     #[error("line {0}: live")]
     Live(u64),
     /// The volume of the line can't be opened: its files or their blocks are too few or too many.
@@ -57,6 +60,10 @@ pub enum SetupFault {
     /// there.
     #[error("line {0}: replace")]
     Replace(u64),
+    /// The tenant of the line can't be gone: the plan has a tenant of that name, the word is no name, it was told by a line before, or too
+    /// many were.
+    #[error("line {0}: gone")]
+    Gone(u64),
     /// Want of memory.
     #[error("out of memory")]
     Memory(OutOfMemory),
@@ -185,13 +192,20 @@ pub(crate) fn kib_of(rooms: &[ChunkRoom], tenant: u8) -> u32
     0
 }
 
-// The word that tells the place of a loss, if the line is one.
-pub(crate) fn loss_word(line: &[u8]) -> Option<&[u8]>
-    ensures { MatchOption result (loss_word (words_of line.now) ≡ None) (λ word. loss_word (words_of line.now) ≡ Some word.now) }
+// Whether a tenant of this name is one of these.
+pub(crate) fn is_gone(gone: &[Name], name: &[u8]) -> bool
+    ensures { result ≡ is_gone gone.now name.now }
 {
-    let (verb, rest) = first_word(line);
+    gone.iter().any(|other| other.is(name))
+}
+
+// The word behind this verb, if the line has these two words.
+pub(crate) fn word_behind<'x>(verb: &[u8], line: &'x [u8]) -> Option<&'x [u8]>
+    ensures { MatchOption result (word_behind verb.now (words_of line.now) ≡ None) (λ word. word_behind verb.now (words_of line.now) ≡ Some word.now) }
+{
+    let (first, rest) = first_word(line);
     let (word, rest) = next_word(rest)?;
-    if verb != b"replace".as_slice() || !is_end(rest) {
+    if first != verb || !is_end(rest) {
         return None;
     }
     Some(word)

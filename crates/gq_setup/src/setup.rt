@@ -1,6 +1,6 @@
-//! A plan, the volumes that are opened at each start, and the nodes that were lost.
+//! A plan, the volumes that are opened at each start, the nodes that were lost, and the tenants that are gone.
 
-ghost use Rattle.std.specs.Prelude.{◌≡◌, ◌++◌, ◌∷◌, ◌+◌, ◌<◌, ◌≤◌, ◌^◌, true, length, map, is_none, Ok, Some, [], IfOk, IfErr, IfSome, OnOk, OnErr, ◌*◌, false};
+ghost use Rattle.std.specs.Prelude.{◌≡◌, ◌++◌, ◌∷◌, ◌+◌, ◌<◌, ◌≤◌, ◌^◌, true, length, map, is_none, is_some, Ok, Some, [], IfOk, IfErr, IfSome, OnOk, OnErr, ◌*◌, false};
 ghost use Rattle.std.specs.List.{All, flat_map};
 ghost use Rattle.gq_desk.specs.Volumes.{account_at, free_of};
 ghost use Rattle.gq_desk.specs.declared.limits.TheConstants.{MOST_VOLUMES};
@@ -12,23 +12,26 @@ ghost use Rattle.gq_grid.specs.declared.TheConstants.{MOST_SERVERS};
 ghost use Rattle.gq_replace.specs.Plans.{times};
 ghost use Rattle.gq_node.specs.declared.lost.TheConstants.{MOST_TIMES};
 ghost use Rattle.gq_node.specs.Sites.{plan_in};
-ghost use Rattle.gq_setup.specs.Setups.{setup_of, accounts_of, holdings, CanOpen, CanHave, CanLose, can_have, can_lose, has_node, kib_of, plan_alone, after_has, after_opens, after_opens_many, after_loses, after_line, after_lines};
-ghost use Rattle.gq_setup.specs.declared.openings.TheConstants.{MOST_LOSSES};
+ghost use Rattle.gq_setup.specs.Setups.{setup_of, accounts_of, holdings, CanOpen, CanHave, CanLose, CanGo, can_have, can_lose, can_go, is_gone, has_node, kib_of, plan_alone, after_has, after_opens, after_opens_many, after_loses, after_goes, after_line, after_lines};
+ghost use Rattle.gq_setup.specs.declared.openings.TheConstants.{MOST_LOSSES, MOST_GONE};
 ghost use Rattle.gq_setup.specs.Faults.{IsFirstFault};
-ghost use Rattle.gq_setup.specs.GoingOn.{goes_on, come_first, row_goes_on, account_goes_on};
-ghost use Rattle.gq_setup.specs.NotKept.{TellsVolume, IsNotKept};
-ghost use Rattle.gq_setup.specs.Texts.{opening_event, loss_line, room_line, behind_text, setup_text};
+ghost use Rattle.gq_setup.specs.GoingOn.{goes_on, come_first, row_goes_on, account_goes_on, holdings_left, rooms_go_on};
+ghost use Rattle.gq_setup.specs.Leaving.{without};
+ghost use Rattle.gq_setup.specs.NotKept.{TellsVolume, TellsRoom, IsNotKept};
+ghost use Rattle.gq_setup.specs.Texts.{opening_event, loss_line, gone_line, room_line, behind_text, setup_text};
 
 use crate::going_on::{
-    NotKept, accounts_not_kept, losses_not_kept, rooms_not_kept, rows_not_kept, servers_not_kept,
+    NotKept, accounts_not_kept, gone_not_kept, losses_not_kept, rooms_not_kept, rows_not_kept,
+    servers_not_kept,
 };
+use crate::leaving::{open_all, openings_left, rooms_left};
 use crate::openings::{
-    ChunkRoom, MOST_LOSSES, Opening, SetupFault, kib_of, loss_word, many_told, read_opening,
-    room_told,
+    ChunkRoom, MOST_GONE, MOST_LOSSES, Opening, SetupFault, is_gone, kib_of, many_told,
+    read_opening, room_told, word_behind,
 };
-use gq_desk::{Desk, OpenRefused, Plan, VolumeRow};
+use gq_desk::{Desk, Name, OpenRefused, Plan, VolumeRow};
 use gq_grid::MOST_SERVERS;
-use gq_memory::{GrowCopies, GrowVec, OutOfMemory, RoomInVec};
+use gq_memory::{GrowCopies, GrowVec, OutOfMemory, RoomInVec, slice_copied};
 use gq_model::{Event, Line};
 use gq_node::{Lost, LostRefused, MOST_TIMES};
 use gq_text::{Piece, PlanText, first_line, number, put_words, read_plan, write_script};
@@ -36,7 +39,7 @@ use std::alloc::Global;
 use std::marker::Model;
 
 /// What a node starts with: a plan, the volumes that are opened at each start, each behind those before it, the room that tenants have for
-/// chunks, and the nodes that were lost.
+/// chunks, the nodes that were lost, and the tenants that are gone.
 #[derive(Drop)]
 pub struct Setup {
     plan: Plan,
@@ -45,22 +48,23 @@ pub struct Setup {
     desk: Desk,
     rooms: Vec<ChunkRoom>,
     lost: Lost,
+    gone: Vec<Name>,
 }
 
 impl Model for Setup {
     ghost use Rattle.std.specs.Prelude.{◌≡◌, []};
-    ghost use Rattle.gq_setup.specs.Setups.{Setup as TheSetup, accounts_of, after_openings, CanOpen, CanHave, CanLose};
+    ghost use Rattle.gq_setup.specs.Setups.{Setup as TheSetup, accounts_of, after_openings, CanOpen, CanHave, CanLose, CanGo};
 
     ghost Value = { TheSetup };
 
-    ghost view = { λ s. record { plan = s.plan; openings = s.openings.items; rooms = s.rooms.items; lost = s.lost } };
+    ghost view = { λ s. record { plan = s.plan; openings = s.openings.items; rooms = s.rooms.items; lost = s.lost; gone = s.gone.items } };
 
     ghost invariant = { λ s.
-        (s.desk ≡ after_openings (accounts_of s.plan) s.openings.items) × CanOpen (accounts_of s.plan) s.openings.items × CanHave s.plan [] s.rooms.items × CanLose s.plan [] s.lost };
+        (s.desk ≡ after_openings (accounts_of s.plan) s.openings.items) × CanOpen (accounts_of s.plan) s.openings.items × CanHave s.plan [] s.rooms.items × CanLose s.plan [] s.lost × CanGo s.plan [] s.gone.items };
 }
 
-/// The setup that a text tells: a plan, and behind `go` lines that open volumes, give room for chunks or tell losses, and nothing else. Else the first line at
-/// fault is told; want of memory may come before it is found.
+/// The setup that a text tells: a plan, and behind `go` lines that open volumes, give room for chunks, tell losses or tell which tenants are
+/// gone, and nothing else. Else the first line at fault is told; want of memory may come before it is found.
 pub fn read_setup(alloc: Global, text: &[u8]) -> Result<Setup, SetupFault>
     ensures ok { IfOk result (λ setup. setup_of text.now ≡ Ok setup) }
     ensures fault { IfErr result (λ e. IsFirstFault e (setup_of text.now)) }
@@ -89,6 +93,24 @@ impl Setup {
             desk,
             rooms: Vec::new(alloc),
             lost,
+            gone: Vec::new(alloc),
+        })
+    }
+
+    /// What is left of it without tenants of these names: their volumes are not opened, and they have no room for chunks.
+    pub fn without(&self, alloc: Global, gone: &[Name]) -> Result<Setup, OutOfMemory>
+        ensures { IfOk result (λ setup. setup ≡ without gone.now self.now) }
+    {
+        let openings = openings_left(alloc, gone, &self.plan, self.openings.as_slice())?;
+        let mut desk = Desk::new(alloc, &self.plan)?;
+        open_all(&mut desk, openings.as_slice())?;
+        Ok(Setup {
+            plan: self.plan.copy()?,
+            openings,
+            desk,
+            rooms: rooms_left(alloc, gone, &self.plan, self.rooms.as_slice())?,
+            lost: self.lost.copy(alloc)?,
+            gone: slice_copied(alloc, self.gone.as_slice())?,
         })
     }
 
@@ -179,13 +201,43 @@ impl Setup {
         Ok(())
     }
 
+    // The name that the word tells, if a tenant of it may be gone too.
+    fn name_to_go(&self, word: &[u8]) -> Option<Name>
+        ensures can { is_some result ≡ can_go self.now.plan self.now.gone word.now }
+        ensures name { IfSome result (λ name. name ≡ word.now) }
+    {
+        if self.plan.find_word(word).is_some() || self.is_gone(word) {
+            return None;
+        }
+        if self.gone.len() >= MOST_GONE {
+            return None;
+        }
+        Name::new(word)
+    }
+
+    // The tenant of the name that the word tells is gone too, by line `number`.
+    fn let_go(&mut self, word: &[u8], number: u64) -> Result<(), SetupFault>
+        ensures ok { OnOk result (after_goes number self.old word.now ≡ Ok self.new) }
+        ensures fault { IfErr result (λ e. IsFirstFault e (after_goes number self.old word.now)) }
+    {
+        let Some(name) = self.name_to_go(word) else {
+            return Err(SetupFault::Gone(number));
+        };
+        self.gone.make_room(1)?;
+        self.gone.push_reserved(name);
+        Ok(())
+    }
+
     // Takes what line `number` says.
     fn take_line(&mut self, alloc: Global, line: &[u8], number: u64) -> Result<(), SetupFault>
         ensures ok { OnOk result (after_line number self.old line.now ≡ Ok self.new) }
         ensures fault { IfErr result (λ e. IsFirstFault e (after_line number self.old line.now)) }
     {
-        if let Some(word) = loss_word(line) {
+        if let Some(word) = word_behind(b"replace", line) {
             return self.lose(word, number);
+        }
+        if let Some(word) = word_behind(b"gone", line) {
+            return self.let_go(word, number);
         }
         if let Some(room) = room_told(&self.plan, line) {
             return self.give_room(room, number);
@@ -269,6 +321,21 @@ impl Setup {
         self.lost().places().len() as u16
     }
 
+    /// The names of the tenants that are gone, in order: no tenant of the plan has one.
+    pub fn gone(&self) -> &[Name]
+        ensures gone { result.now ≡ self.now.gone }
+        ensures can { CanGo self.now.plan [] result.now }
+    {
+        self.gone.as_slice()
+    }
+
+    /// Whether a tenant of this name is gone.
+    pub fn is_gone(&self, name: &[u8]) -> bool
+        ensures { result ≡ is_gone self.now.gone name.now }
+    {
+        is_gone(self.gone.as_slice(), name)
+    }
+
     /// Whether it is a node of the plan.
     pub fn has_node(&self, number: u32) -> bool
         ensures { result ≡ has_node self.now number }
@@ -303,13 +370,22 @@ impl Setup {
         self.volume_rows(tenant).len()
     }
 
-    // Appends the lines behind the script, of rooms for chunks and of losses.
+    // Appends the lines behind the script, of rooms for chunks, of losses, and of tenants that are gone.
     fn put_behind(&self, out: &mut Vec<u8>) -> Result<(), OutOfMemory>
         ensures ok { OnOk result (out.new.items ≡ out.old.items ++ behind_text self.now) }
         ensures err { OnErr result (Extends out.old.items out.new.items) }
     {
         put_rooms(out, &self.plan, self.rooms.as_slice())?;
-        put_losses(out, self.lost.places())
+        self.put_end(out)
+    }
+
+    // Appends the lines of losses, and of tenants that are gone.
+    fn put_end(&self, out: &mut Vec<u8>) -> Result<(), OutOfMemory>
+        ensures ok { OnOk result (out.new.items ≡ out.old.items ++ (flat_map loss_line self.now.lost ++ flat_map gone_line self.now.gone)) }
+        ensures err { OnErr result (Extends out.old.items out.new.items) }
+    {
+        put_losses(out, self.lost.places())?;
+        put_gone(out, self.gone.as_slice())
     }
 
     // Appends the lines of the canonical text.
@@ -339,16 +415,29 @@ impl Setup {
 
     // What of the old volumes is not kept.
     fn volumes_not_kept(&self, old: &Setup) -> Option<NotKept>
-        requires { come_first row_goes_on old.now.plan.rows self.now.plan.rows ≡ true }
-        ensures kept { is_none result ≡ come_first account_goes_on (holdings old.now) (holdings self.now) }
-        ensures told { IfSome result (TellsVolume (holdings old.now) (holdings self.now)) }
+        requires { come_first (row_goes_on self.now.gone) old.now.plan.rows self.now.plan.rows ≡ true }
+        ensures kept { is_none result ≡ come_first account_goes_on (holdings_left self.now.gone old.now) (holdings self.now) }
+        ensures told { IfSome result (TellsVolume (holdings_left self.now.gone old.now) (holdings self.now)) }
     {
-        accounts_not_kept(&old.desk, &self.desk, old.plan.tenants())
+        accounts_not_kept(self.gone.as_slice(), old.plan.rows(), &old.desk, &self.desk)
+    }
+
+    // What of the old rooms for chunks is not kept.
+    fn rooms_not_kept(&self, old: &Setup) -> Option<NotKept>
+        ensures kept { is_none result ≡ rooms_go_on self.now.gone old.now.plan old.now.rooms self.now.rooms }
+        ensures told { IfSome result (TellsRoom self.now.gone old.now.plan old.now.rooms self.now.rooms) }
+    {
+        rooms_not_kept(
+            self.gone.as_slice(),
+            &old.plan,
+            old.rooms.as_slice(),
+            self.rooms.as_slice(),
+        )
     }
 
     /// What of the old setup this one does not keep, of the first thing that it does not: the grid, the blocks of a server, the losses in
-    /// order, the tenants in order with their names, sessions and shares, their volumes in order, and their room for chunks. None where this
-    /// one goes on from the old one.
+    /// order, those who were gone in order, the tenants in order with their names, sessions and shares, their volumes in order, and their room
+    /// for chunks. Of a tenant that is gone by this one only the sessions count. None where this one goes on from the old one.
     pub fn not_kept(&self, old: &Setup) -> Option<NotKept>
         ensures none { is_none result ≡ goes_on old.now self.now }
         ensures told { IfSome result (IsNotKept old.now self.now) }
@@ -359,17 +448,21 @@ impl Setup {
         if let Some(what) = losses_not_kept(old.lost.places(), self.lost.places()) {
             return Some(what);
         }
-        if let Some(what) = rows_not_kept(old.plan.rows(), self.plan.rows()) {
+        if let Some(what) = gone_not_kept(old.gone.as_slice(), self.gone.as_slice()) {
+            return Some(what);
+        }
+        if let Some(what) = rows_not_kept(self.gone.as_slice(), old.plan.rows(), self.plan.rows()) {
             return Some(what);
         }
         if let Some(what) = self.volumes_not_kept(old) {
             return Some(what);
         }
-        rooms_not_kept(old.rooms.as_slice(), self.rooms.as_slice())
+        self.rooms_not_kept(old)
     }
 
-    /// Whether a node of the old setup may start with this one: it has the same grid and no fewer blocks of a server, the old losses first,
-    /// and the old tenants first, with as many sessions and no smaller shares, of each its old volumes first, and no less room for chunks.
+    /// Whether a node of the old setup may start with this one: it has the same grid and no fewer blocks of a server, the old losses and those
+    /// who were gone first, and the old tenants first, with as many sessions and no smaller shares, of each its old volumes first, and no less
+    /// room for chunks. At the place of a tenant that is gone there may be another one, with as many sessions.
     pub fn goes_on_from(&self, old: &Setup) -> bool
         ensures { result ≡ goes_on old.now self.now }
     {
@@ -449,6 +542,26 @@ fn put_losses(out: &mut Vec<u8>, places: &[u8]) -> Result<(), OutOfMemory>
 {
     for place in places {
         put_loss(out, *place)?;
+    }
+    Ok(())
+}
+
+// Appends the line of a tenant that is gone.
+fn put_one_gone(out: &mut Vec<u8>, name: &Name) -> Result<(), OutOfMemory>
+    ensures ok { OnOk result (out.new.items ≡ out.old.items ++ gone_line name.now) }
+    ensures err { OnErr result (Extends out.old.items out.new.items) }
+{
+    out.grow_by(b"gone")?;
+    put_words(out, &[Piece::Text(name.as_bytes())])
+}
+
+// Appends the lines of tenants that are gone.
+fn put_gone(out: &mut Vec<u8>, gone: &[Name]) -> Result<(), OutOfMemory>
+    ensures ok { OnOk result (out.new.items ≡ out.old.items ++ flat_map gone_line gone.now) }
+    ensures err { OnErr result (Extends out.old.items out.new.items) }
+{
+    for name in gone {
+        put_one_gone(out, name)?;
     }
     Ok(())
 }

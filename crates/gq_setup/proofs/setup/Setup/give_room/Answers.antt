@@ -14,4 +14,4 @@ invariant_of-self-2 c =
     let can : can_have before room ≡ true = ap (λ (s : Setup). can_have s.rooms room) c.self.view_is ∙ sym c.can_have.ensures.can ∙ c.if-not-can_have.false in
     let there : room.tenant < length c.args.self.now.plan.rows = subst (λ (o : Option ChunkRoom). IfSome o (λ room. room.tenant < length c.args.self.now.plan.rows)) c.in-Some.is c.requires in
     let within : room.tenant < length c.self.inside.plan.rows = subst (λ (s : Setup). room.tenant < length s.plan.rows) (sym c.self.view_is) there in
-    (c.self.invariant.0, c.self.invariant.1, subst (CanHave c.self.inside.plan []) (sym grown) (one_had c.self.inside.plan [] before room c.self.invariant.2 within c.can_have.ensures.low can), c.self.invariant.3)
+    (c.self.invariant.0, c.self.invariant.1, subst (CanHave c.self.inside.plan []) (sym grown) (one_had c.self.inside.plan [] before room c.self.invariant.2 within c.can_have.ensures.low can), c.self.invariant.3, c.self.invariant.4)

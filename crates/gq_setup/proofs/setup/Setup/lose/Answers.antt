@@ -11,7 +11,7 @@ add_loss-requires-clause-few c =
 
 pub invariant_of-self : goal.invariant_of-self
 invariant_of-self c =
-    (c.self.invariant.0, c.self.invariant.1, c.self.invariant.2, subst (CanLose c.self.inside.plan []) (sym c.in_err-add_loss.ensures.same) c.self.invariant.3)
+    (c.self.invariant.0, c.self.invariant.1, c.self.invariant.2, subst (CanLose c.self.inside.plan []) (sym c.in_err-add_loss.ensures.same) c.self.invariant.3, c.self.invariant.4)
 
 pub invariant_of-self-2 : goal.invariant_of-self-2
 invariant_of-self-2 c =
@@ -21,4 +21,5 @@ invariant_of-self-2 c =
       c.self.invariant.1,
       c.self.invariant.2,
       subst (CanLose c.self.inside.plan []) (sym c.in_ok-add_loss.ensures.added) (one_lost c.self.inside.plan [] c.self.inside.lost c.in-Some.place c.self.invariant.3 can),
+      c.self.invariant.4,
     )

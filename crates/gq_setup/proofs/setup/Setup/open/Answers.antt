@@ -18,4 +18,5 @@ invariant_of-self-2 c =
       subst (CanOpen (accounts_of c.self.inside.plan)) (sym grown) (more_can c.self.inside.plan before c.self.inside.desk c.args.opening c.self.invariant.0 c.self.invariant.1 within c.in-Ok.ensures.sound),
       c.self.invariant.2,
       c.self.invariant.3,
+      c.self.invariant.4,
     )

@@ -12,4 +12,4 @@ put_rooms-requires c =
     subst (λ (rooms : List ChunkRoom). All (λ (room : ChunkRoom). room.tenant < length c.self.inside.plan.rows) rooms) (sym c.as_slice.ensures.value) (all_there c.self.inside.plan c.self.inside.rooms.items c.self.invariant.2)
 
 pub returns-clause-err : goal.returns-clause-err
-returns-clause-err c = on_err_weaker c.put_losses.result (extends_more _ _ _ _ c.in_ok-put_rooms.ensures.ok) c.put_losses.ensures.err
+returns-clause-err c = on_err_weaker c.put_end.result (extends_more _ _ _ _ c.in_ok-put_rooms.ensures.ok) c.put_end.ensures.err

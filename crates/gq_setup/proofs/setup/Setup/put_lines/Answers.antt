@@ -14,7 +14,7 @@ write_script-requires c =
 pub returns-clause-back : goal.returns-clause-back
 returns-clause-back c =
     on_ok c.put_behind.result (subst (λ (s : Setup). setup_of (setup_text s) ≡ Ok s) c.self.view_is
-    (text_tells c.self.inside.plan c.self.inside.openings.items c.self.inside.rooms.items c.self.inside.lost c.as_slice-2.result.now (c.as_slice-2.ensures.value ∙ c.in_ok-events.ensures ∙ ap (map opening_event) c.as_slice.ensures.value) c.self.invariant.1 c.self.invariant.2 c.self.invariant.3 c.in_ok-write_script.ensures.back))
+    (text_tells c.self.inside.plan c.self.inside.openings.items c.self.inside.rooms.items c.self.inside.lost c.self.inside.gone.items c.as_slice-2.result.now (c.as_slice-2.ensures.value ∙ c.in_ok-events.ensures ∙ ap (map opening_event) c.as_slice.ensures.value) c.self.invariant.1 c.self.invariant.2 c.self.invariant.3 c.self.invariant.4 c.in_ok-write_script.ensures.back))
 
 pub returns-clause-err : goal.returns-clause-err
 returns-clause-err c = on_err_weaker c.put_behind.result (extends_more _ _ _ _ c.in_ok-write_script.ensures.ok) c.put_behind.ensures.err
