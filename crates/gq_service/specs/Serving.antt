@@ -95,10 +95,9 @@ pub record Serves {M : Type 0} (k : Kind M) (setup : Setup) (number : ℕ) (jour
   pub started : IsStarted k setup number journal first
   pub durable : Durable k.steps k.recalls k.readable k.blank k.rests first last (whole_lines (node_text number setup)) lines base synced shown
 
--- At any write: the same of the node of this number, by some plan and journal, and of the lines of a beginning of the input, of which
+-- At any write: the same of the node of this number, by this plan and some journal, and of the lines of a beginning of the input, of which
 -- this is known. Whatever was shown is told by steps whose facts are synced.
-pub record IsDurable {M : Type 0} (k : Kind M) (number : ℕ) (input : Option (List ℕ)) (base synced shown : List ℕ) : Type 0 where
-  pub setup : Setup
+pub record IsDurable {M : Type 0} (k : Kind M) (setup : Setup) (number : ℕ) (input : Option (List ℕ)) (base synced shown : List ℕ) : Type 0 where
   pub journal : List ℕ
   pub taken : List ℕ
   pub begins : IfSome input (Begins taken)
@@ -114,9 +113,8 @@ pub record ServesInput {M : Type 0} (k : Kind M) (setup : Setup) (number : ℕ) 
 abbrev pub is_its_journal : Setup → (number : ℕ) → List ℕ → Bool
 is_its_journal setup number journal = is_of (λ last. goes_on_from_read (setup_of_node_text last) setup) (node_text number setup) (batches_of journal)
 
--- at the end of the input: the same, by some plan and journal; where none was to be begun, by one that is its own
-pub record ServesSomehow {M : Type 0} (k : Kind M) (number : ℕ) (is_new : Bool) (input : Option (List ℕ)) (base shown : List ℕ) : Type 0 where
-  pub setup : Setup
+-- at the end of the input: the same, by some journal; where none was to be begun, by one that is its own
+pub record ServesSomehow {M : Type 0} (k : Kind M) (setup : Setup) (number : ℕ) (is_new : Bool) (input : Option (List ℕ)) (base shown : List ℕ) : Type 0 where
   pub journal : List ℕ
   pub synced : List ℕ
   pub serves : ServesInput k setup number journal input base synced shown

@@ -4,7 +4,7 @@ ghost use Rattle.std.specs.Prelude.{◌++◌, ℕ, List, OnOk};
 ghost use Rattle.gq_wire.specs.Texts.{first_text};
 ghost use Rattle.gq_service.specs.Both.{chunks_of};
 ghost use Rattle.gq_service.specs.Kinds.{kind};
-ghost use Rattle.gq_service.specs.Promises.{IsDurableEither, ServesEither};
+ghost use Rattle.gq_service.specs.Promises.{IsDurableByPlan, IsDurableByRoom, ServesByPlan, ServesByRoom};
 ghost use Rattle.gq_service.specs.Serving.{IsDurable, ServesSomehow};
 
 use crate::both::ByVerb;
@@ -45,8 +45,8 @@ fn run_with<
     input: &mut I,
     out: &mut O,
 ) -> Result<(), NodeFault>
-    requires durable { (synced shown : List ℕ) → IsDurable (kind M.steps M.recalls M.readable M.blank M.rests M.is_new) node.now.number (I.remaining input.old) (O.shown out.old ++ first_text) synced shown → O.allows synced shown }
-    ensures served { OnOk result (ServesSomehow (kind M.steps M.recalls M.readable M.blank M.rests M.is_new) node.now.number asked.now.is_new (I.remaining input.old) (O.shown out.old ++ first_text) (O.shown out.new)) }
+    requires durable { (synced shown : List ℕ) → IsDurable (kind M.steps M.recalls M.readable M.blank M.rests M.is_new) node.now.plan.setup node.now.number (I.remaining input.old) (O.shown out.old ++ first_text) synced shown → O.allows synced shown }
+    ensures served { OnOk result (ServesSomehow (kind M.steps M.recalls M.readable M.blank M.rests M.is_new) node.now.plan.setup node.now.number asked.now.is_new (I.remaining input.old) (O.shown out.old ++ first_text) (O.shown out.new)) }
 {
     let mut disk = find_journal(alloc, rt, asked.journal, asked.is_new)?;
     serve_node(
@@ -80,8 +80,8 @@ fn run_kind<
     input: &mut I,
     out: &mut O,
 ) -> Result<(), NodeFault>
-    requires durable { (synced shown : List ℕ) → IsDurableEither (chunks_of S.noted) node.now.number (I.remaining input.old) (O.shown out.old ++ first_text) synced shown → O.allows synced shown }
-    ensures served { OnOk result (ServesEither (chunks_of S.noted) node.now.number asked.now.is_new (I.remaining input.old) (O.shown out.old ++ first_text) (O.shown out.new)) }
+    requires durable { (synced shown : List ℕ) → IsDurableByRoom (chunks_of S.noted) node.now.plan.setup node.now.number (I.remaining input.old) (O.shown out.old ++ first_text) synced shown → O.allows synced shown }
+    ensures served { OnOk result (ServesByRoom (chunks_of S.noted) node.now.plan.setup node.now.number asked.now.is_new (I.remaining input.old) (O.shown out.old ++ first_text) (O.shown out.new)) }
 {
     if node.plan.setup().has_chunks() {
         run_with(rt, alloc, asked, node, console, chunks, input, out)
@@ -115,8 +115,8 @@ pub fn run_node<
     input: &mut I,
     out: &mut O,
 ) -> Result<(), NodeFault>
-    requires durable { (synced shown : List ℕ) → IsDurableEither (chunks_of S.noted) asked.now.number (I.remaining input.old) (O.shown out.old ++ first_text) synced shown → O.allows synced shown }
-    ensures served { OnOk result (ServesEither (chunks_of S.noted) asked.now.number asked.now.is_new (I.remaining input.old) (O.shown out.old ++ first_text) (O.shown out.new)) }
+    requires durable { (synced shown : List ℕ) → IsDurableByPlan (chunks_of S.noted) asked.now.number (I.remaining input.old) (O.shown out.old ++ first_text) synced shown → O.allows synced shown }
+    ensures served { OnOk result (ServesByPlan (chunks_of S.noted) asked.now.number asked.now.is_new (I.remaining input.old) (O.shown out.old ++ first_text) (O.shown out.new)) }
 {
     console.check()?;
     let setup = read_plan_file(alloc, rt, asked.plan)?;

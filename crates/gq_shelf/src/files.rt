@@ -1,6 +1,7 @@
 //! A shelf in files: a folder, and a file of it for each segment.
 
-ghost use Rattle.std.specs.Prelude.{◌≡◌, ◌+◌, ◌-◌, ◌<◌, ◌≤◌, ◌^◌, true, false, length, IfOk, OnOk, OnErr};
+ghost use Rattle.std.specs.Prelude.{◌≡◌, ◌+◌, ◌-◌, ◌<◌, ◌≤◌, ◌^◌, true, false, length, IfOk, IfErr, OnOk, OnErr};
+ghost use Rattle.gq_shelf.specs.declared.files.OpenFault.TheVariants.{There};
 ghost use Rattle.gq_shelf.specs.Extents.{Describes, begins, ends, place_of};
 ghost use Rattle.gq_shelf.specs.Notes.{none_noted, after_put, after_refusal, after_sync};
 
@@ -176,6 +177,7 @@ impl<R: Files<File = File> + Drop> FileShelf<R> {
     ) -> Result<FileShelf<R>, OpenFault>
         ensures is_full { IfOk result (λ shelf. shelf.at ≡ 2 ^ 64 - 1) }
         ensures none_noted { IfOk result (λ shelf. shelf.notes.noted ≡ none_noted) }
+        ensures there { IfErr result (λ fault. fault ≡ There → is_new ≡ true) }
     {
         let segment = match greatest_in(alloc, &rt, place.folder.as_str()) {
             Ok(segment) => segment,

@@ -9,10 +9,9 @@ use Rattle.gq_service.proofs.running.run_with.Goals as goal
 
 -- what is served by a journal that is found is so by one that is its own, where one was to be there
 somehow : {M : Type 0} (k : Kind M) {T E : Type 0} (r : Result T E) (setup : Setup) (number : ℕ) (is_new : Bool) (seen : List ℕ) (input : Option (List ℕ)) (base synced shown : List ℕ) →
-    OnOk r (ServesInput k setup number (journal_found is_new seen) input base synced shown) → (is_new ≡ false → OnOk r (is_its_journal setup number seen ≡ true)) → OnOk r (ServesSomehow k number is_new input base shown)
+    OnOk r (ServesInput k setup number (journal_found is_new seen) input base synced shown) → (is_new ≡ false → OnOk r (is_its_journal setup number seen ≡ true)) → OnOk r (ServesSomehow k setup number is_new input base shown)
 somehow k (Err e) setup number is_new seen input base synced shown serves its = tt
 somehow k (Ok x) setup number is_new seen input base synced shown serves its = record {
-  setup = setup;
   journal = journal_found is_new seen;
   synced = synced;
   serves = serves;

@@ -17,7 +17,6 @@ serve-requires-clause-may g c = λ last taken synced shown begins d.
     let text : c.text.result.now ≡ node_text c.args.node.now.number c.args.node.now.plan.setup = c.text.ensures ∙ c.args.node.now.text in
     let longest : c.longest_of-longest.result ≡ longest_of c.args.node.now.plan.setup = c.longest_of-longest.ensures ∙ ap longest_of c.setup.ensures in
     c.requires.durable synced shown (record {
-      setup = c.args.node.now.plan.setup;
       journal = journal_found c.args.is_new (g.D.Log.seen c.args.disk.now);
       taken = taken;
       begins = begins;
