@@ -1,17 +1,17 @@
 -- A start that reads what was written has the same chunks.
 use Rattle.std.proofs.Common.{◌≡◌, ◌≢◌, ◌<◌, ◌≤◌, ◌+◌, ◌-◌, ℕ, List, [], ◌∷◌, ◌++◌, length, get_or, Bool, true, false, Option, Some, None, refl, sym, ap, subst, ◌∙◌, arith, append_assoc, append-nil}
-use Rattle.std.specs.Prelude.{◌==◌, ◌&&◌, nat_lt, nat_le, max, map, slice_get, option_map, IsSome, if◌then◌else◌}
+use Rattle.std.specs.Prelude.{◌==◌, ◌&&◌, ◌||◌, take, nat_lt, nat_le, max, map, slice_get, option_map, IsSome, if◌then◌else◌}
 use Rattle.std.specs.List.{list_all}
-use Rattle.std.proofs.lemmas.Bool.{and_from, and_right, eqb-true, eq-eqb, true≢false, lt-ltb, le-ltb, ltb-true, ltb-false, le-leb}
-use Rattle.std.proofs.lemmas.List.{map-append}
+use Rattle.std.proofs.lemmas.Bool.{and_from, and_right, eqb-true, eq-eqb, true≢false, lt-ltb, le-ltb, ltb-true, ltb-false, le-leb, leb-true}
+use Rattle.std.proofs.lemmas.List.{map-append, take_all}
 use Rattle.std.proofs.lemmas.List.Concat.{flat_map-append}
-use Rattle.std.proofs.lemmas.List.Folds.{list_all-append}
+use Rattle.std.proofs.lemmas.List.Folds.{list_all-append, list_any_at, list_any_more}
 use Rattle.std.proofs.lemmas.Option.{same_Some, slice_get-get_or, slice_get_past, slice_get_within}
 use Rattle.gq_shelf.specs.Places.{long_at}
 use Rattle.gq_shelf.specs.declared.place.Place.{Place}
 use Rattle.gq_ledger.specs.Ledgers.{book_of}
 use Rattle.gq_ledger.specs.Steps.{Book}
-use Rattle.gq_stock.specs.Forgetting.{is_in_any}
+use Rattle.gq_stock.specs.Forgetting.{is_in, is_in_any}
 use Rattle.gq_stock.specs.declared.chunk.Chunk.{Chunk}
 use Rattle.gq_stock.specs.declared.run.Run.{Run}
 use Rattle.gq_stock.specs.declared.session.Session.{Session}
@@ -21,18 +21,19 @@ use Rattle.gq_keeper.specs.Plans.{are_facts}
 use Rattle.gq_keeper.specs.Restarting.{Needs}
 use Rattle.gq_keeper.specs.Starting.{RecallsAll}
 use Rattle.gq_depot.specs.Answers.{In}
-use Rattle.gq_depot.specs.Depots.{Placed, Standing, standing_of, placed_of, book_in, after_fact, bare, IsSame, LeadsTo, reads_fact, StandsIn}
+use Rattle.gq_depot.specs.Depots.{Placed, Standing, standing_of, placed_of, book_in, is_gone, after_fact, bare, IsSame, LeadsTo, reads_fact, StandsIn}
 use Rattle.gq_depot.specs.Tenants.{ApartFrom}
 use Rattle.gq_depot.specs.declared.limits.TheConstants.{MOST_CHUNK}
 use Rattle.gq_depot.specs.declared.depot.Depot.{Depot}
 use Rattle.gq_depot.specs.declared.fact.ChunkFact.{ChunkFact}
+use Rattle.gq_depot.specs.declared.gone.Gone.{Gone}
 use Rattle.gq_depot.specs.declared.fact.ChunkFact.TheVariants.{Put, Forgot, Filled}
 use Rattle.gq_depot.proofs.Standing.{there}
 use Rattle.gq_depot.proofs.Tenants.{after_same, same_on}
 use Rattle.gq_chunks.specs.Facts.{chunk_fact_line, chunk_fact_of_line}
-use Rattle.gq_chunks.specs.Machines.{Chunks, IsSite, FactStands, depot_reads, reads_told, chunk_reads, ChunkRecalls, room_of_lines, lacks_at_first, IsBare, ChunksAreBlank, AllFit, HasRoom, ChunksAreOf, DepotRests, ChunksRest}
+use Rattle.gq_chunks.specs.Machines.{Chunks, IsSite, FactStands, depot_reads, reads_told, chunk_reads, ChunkRecalls, room_of_lines, lacks_at_first, IsBare, ChunksAreBlank, AllFit, GoneFits, HasRoom, ChunksAreOf, DepotRests, ChunksRest}
 use Rattle.gq_chunks.specs.Lasting.{on_chunks, Went, site_on, site_itself, same_itself, across, recall_went, lines_are_facts}
-use Rattle.gq_chunks.specs.Needed.{after_facts, FactsStand, Wrote, empty_book, before_place, below_number, before_number, lacking, first_lacks, written_of, HasSessions, IsLike, Makes, WroteTenants}
+use Rattle.gq_chunks.specs.Needed.{after_facts, FactsStand, Wrote, empty_book, before_place, below_number, before_chunks, with_run, RunFits, before_number, lacking, first_lacks, written_of, HasSessions, IsLike, Makes, WroteTenants}
 
 -- ---- facts one behind another
 
@@ -74,8 +75,8 @@ wrote_as plan t sessions before after a b c one same = record { facts = one.fact
 -- ---- parts of what a tenant has
 
 -- two that differ in the book at one place alone
-one_place : (k : ℕ) (a b : Standing) → ((j : ℕ) → j ≢ k → a.books j ≡ b.books j) → ((m : ℕ) → (a.books k).at m ≡ (b.books k).at m) → (a.books k).floor ≡ (b.books k).floor → a.lacks ≡ b.lacks → IsSame a b
-one_place k a b others at floor lacks = record { at = λ j m. at_by j m (j == k) refl; floor = λ j. floor_by j (j == k) refl; lacks = lacks }
+one_place : (k : ℕ) (a b : Standing) → ((j : ℕ) → j ≢ k → a.books j ≡ b.books j) → ((m : ℕ) → (a.books k).at m ≡ (b.books k).at m) → (a.books k).floor ≡ (b.books k).floor → ((j m : ℕ) → j ≢ k → a.gone j m ≡ b.gone j m) → ((m : ℕ) → a.gone k m ≡ b.gone k m) → a.lacks ≡ b.lacks → IsSame a b
+one_place k a b others at floor others_gone gone lacks = record { at = λ j m. at_by j m (j == k) refl; floor = λ j. floor_by j (j == k) refl; gone = λ j m. gone_by j m (j == k) refl; lacks = lacks }
   where
     other : (j : ℕ) → (j == k) ≡ false → j ≢ k
     other j e same = true≢false (sym (eq-eqb j k same) ∙ e)
@@ -88,19 +89,48 @@ one_place k a b others at floor lacks = record { at = λ j m. at_by j m (j == k)
     floor_by j true e = subst (λ (z : ℕ). (a.books z).floor ≡ (b.books z).floor) (sym (eqb-true j k e)) floor
     floor_by j false e = ap (λ (x : Book Placed). x.floor) (others j (other j e))
 
+    gone_by : (j m : ℕ) (t : Bool) → (j == k) ≡ t → a.gone j m ≡ b.gone j m
+    gone_by j m true e = subst (λ (z : ℕ). a.gone z m ≡ b.gone z m) (sym (eqb-true j k e)) (gone m)
+    gone_by j m false e = others_gone j m (other j e)
+
+unequal : (j k : ℕ) → j ≢ k → (j == k) ≡ false
+unequal j k other = by (j == k) refl
+  where
+    by : (t : Bool) → (j == k) ≡ t → (j == k) ≡ false
+    by true e = absurd (other (eqb-true j k e))
+    by false e = e
+
+-- what was forgotten there, and at each other place
+gone_here : (it : Standing) (lacks : Bool) (k n m : ℕ) → (before_number it lacks k n).gone k m ≡ (lacks && it.gone k m)
+gone_here it lacks k n m = ap (λ (t : Bool). if t then lacks && it.gone k m else (before_place it lacks k).gone k m) (eq-eqb k k refl)
+
+gone_there : (it : Standing) (lacks : Bool) (k n j m : ℕ) → j ≢ k → (before_number it lacks k n).gone j m ≡ (before_place it lacks k).gone j m
+gone_there it lacks k n j m other = ap (λ (t : Bool). if t then lacks && it.gone k m else (before_place it lacks k).gone j m) (unequal j k other)
+
+noted_here : (it : Standing) (lacks : Bool) (k : ℕ) (g : ℕ → Bool) (m : ℕ) → (before_chunks it lacks k g).gone k m ≡ (lacks && g m)
+noted_here it lacks k g m = ap (λ (t : Bool). if t then lacks && g m else (before_place it lacks k).gone k m) (eq-eqb k k refl)
+
+noted_there : (it : Standing) (lacks : Bool) (k : ℕ) (g : ℕ → Bool) (j m : ℕ) → j ≢ k → (before_chunks it lacks k g).gone j m ≡ (before_place it lacks k).gone j m
+noted_there it lacks k g j m other = ap (λ (t : Bool). if t then lacks && g m else (before_place it lacks k).gone j m) (unequal j k other)
+
+gone_empty : (it : Standing) (lacks : Bool) (k m : ℕ) → (before_place it lacks k).gone k m ≡ false
+gone_empty it lacks k m = ap (λ (t : Bool). if t then lacks && it.gone k m else false) (le-ltb k k (omega arith))
+
+-- no fact of another session notes anything here
+not_here : (x lacks : Bool) (j p : ℕ) (b : Bool) → j ≢ p → (x || (lacks && ((j == p) && b))) ≡ x
+not_here x lacks j p b other = ap (λ (t : Bool). x || (lacks && (t && b))) (unequal j p other) ∙ by x lacks
+  where
+    by : (x lacks : Bool) → (x || (lacks && false)) ≡ x
+    by true lacks = refl
+    by false true = refl
+    by false false = refl
+
 -- the book there, and at each other place
 here_is : (it : Standing) (lacks : Bool) (k n : ℕ) → (before_number it lacks k n).books k ≡ below_number (it.books k) n
 here_is it lacks k n = ap (λ (t : Bool). if t then below_number (it.books k) n else (before_place it lacks k).books k) (eq-eqb k k refl)
 
 there_is : (it : Standing) (lacks : Bool) (k n j : ℕ) → j ≢ k → (before_number it lacks k n).books j ≡ (before_place it lacks k).books j
 there_is it lacks k n j other = ap (λ (t : Bool). if t then below_number (it.books k) n else (before_place it lacks k).books j) (unequal j k other)
-  where
-    unequal : (j k : ℕ) → j ≢ k → (j == k) ≡ false
-    unequal j k other = by (j == k) refl
-      where
-        by : (t : Bool) → (j == k) ≡ t → (j == k) ≡ false
-        by true e = absurd (other (eqb-true j k e))
-        by false e = e
 
 empty_is : (it : Standing) (lacks : Bool) (k : ℕ) → (before_place it lacks k).books k ≡ empty_book
 empty_is it lacks k = ap (λ (t : Bool). if t then it.books k else empty_book) (le-ltb k k (omega arith))
@@ -122,34 +152,81 @@ fact_there k j f it other = by (j == (k + 1) - 1) refl
 none_below : (b : Book Placed) (m : ℕ) → (below_number b 0).at m ≡ None
 none_below b m = ap (λ (t : Bool). if t then b.at m else None) (le-ltb m 0 (omega arith))
 
+abbrev no_placed : Option Placed
+no_placed = None
+
 -- the floor is written
-pub floor_same : (it : Standing) (lacks : Bool) (k floor : ℕ) (run : Run) → floor ≡ (it.books k).floor → IsSame (after_fact (Some (Forgot (k + 1) floor run)) (before_place it lacks k)) (before_number it lacks k 0)
-floor_same it lacks k floor run is =
+pub floor_same : (it : Standing) (lacks : Bool) (k floor : ℕ) (run : Run) → floor ≡ (it.books k).floor → ((n : ℕ) → is_in n run ≡ false) → IsSame (after_fact (Some (Forgot (k + 1) floor run)) (before_place it lacks k)) (before_chunks it lacks k (λ n. false))
+floor_same it lacks k floor run is empty =
     let was : Standing = before_place it lacks k in
     let forget : Book Placed → Book Placed = λ b. record { at = λ n. if is_in_any n (run ∷ []) then None else b.at n; floor = max b.floor floor } in
-    one_place k (after_fact (Some (Forgot (k + 1) floor run)) was) (before_number it lacks k 0)
+    one_place k (after_fact (Some (Forgot (k + 1) floor run)) was) (before_chunks it lacks k (λ n. false))
     (λ j other. fact_there k j forget was other ∙ sym (there_is it lacks k 0 j other))
     (λ m. ap (λ (b : Book Placed). b.at m) (fact_here k forget was) ∙ (ap (λ (b : Book Placed). (forget b).at m) (empty_is it lacks k) ∙ (gone (is_in_any m (run ∷ [])) ∙ (sym (none_below (it.books k) m) ∙ sym (ap (λ (b : Book Placed). b.at m) (here_is it lacks k 0))))))
     (ap (λ (b : Book Placed). b.floor) (fact_here k forget was) ∙ (ap (λ (b : Book Placed). (forget b).floor) (empty_is it lacks k) ∙ (greatest floor ∙ (is ∙ sym (ap (λ (b : Book Placed). b.floor) (here_is it lacks k 0))))))
+    (λ j m other. not_here (was.gone j m) lacks j ((k + 1) - 1) (is_in m run) (λ same. other (same ∙ number_of_place k)) ∙ sym (noted_there it lacks k (λ n. false) j m other))
+    (λ m. ap (λ (x : Bool). x || (lacks && ((k == (k + 1) - 1) && is_in m run))) (gone_empty it lacks k m) ∙ (ap (λ (x : Bool). lacks && ((k == (k + 1) - 1) && x)) (empty m) ∙ (never lacks (k == (k + 1) - 1) ∙ sym (noted_here it lacks k (λ n. false) m))))
     refl
   where
-    nothing : Option Placed
-    nothing = None
-
-    gone : (t : Bool) → (if t then nothing else nothing) ≡ nothing
+    gone : (t : Bool) → (if t then no_placed else no_placed) ≡ no_placed
     gone true = refl
     gone false = refl
 
     greatest : (n : ℕ) → max 0 n ≡ n
     greatest n = omega arith
 
+    never : (l b : Bool) → (l && (b && false)) ≡ (l && false)
+    never true true = refl
+    never true false = refl
+    never false b = refl
+
 -- a floor at 0 needs no fact
-pub no_floor : (it : Standing) (lacks : Bool) (k : ℕ) → (it.books k).floor ≡ 0 → IsSame (before_place it lacks k) (before_number it lacks k 0)
+pub no_floor : (it : Standing) (lacks : Bool) (k : ℕ) → (it.books k).floor ≡ 0 → IsSame (before_place it lacks k) (before_chunks it lacks k (λ n. false))
 no_floor it lacks k is =
-    one_place k (before_place it lacks k) (before_number it lacks k 0)
+    one_place k (before_place it lacks k) (before_chunks it lacks k (λ n. false))
     (λ j other. sym (there_is it lacks k 0 j other))
     (λ m. ap (λ (b : Book Placed). b.at m) (empty_is it lacks k) ∙ (sym (none_below (it.books k) m) ∙ sym (ap (λ (b : Book Placed). b.at m) (here_is it lacks k 0))))
     (ap (λ (b : Book Placed). b.floor) (empty_is it lacks k) ∙ (sym is ∙ sym (ap (λ (b : Book Placed). b.floor) (here_is it lacks k 0))))
+    (λ j m other. sym (noted_there it lacks k (λ n. false) j m other))
+    (λ m. gone_empty it lacks k m ∙ (never lacks ∙ sym (noted_here it lacks k (λ n. false) m)))
+    refl
+  where
+    never : (l : Bool) → false ≡ (l && false)
+    never true = refl
+    never false = refl
+
+-- a run that was forgotten is written
+pub run_same : (it : Standing) (lacks : Bool) (k floor : ℕ) (g : ℕ → Bool) (one : Gone) → floor ≡ (it.books k).floor → one.place ≡ k → IsSame (after_fact (Some (Forgot (k + 1) floor one.run)) (before_chunks it lacks k g)) (before_chunks it lacks k (with_run g k one))
+run_same it lacks k floor g one is here =
+    let was : Standing = before_chunks it lacks k g in
+    let forget : Book Placed → Book Placed = λ b. record { at = λ n. if is_in_any n (one.run ∷ []) then None else b.at n; floor = max b.floor floor } in
+    one_place k (after_fact (Some (Forgot (k + 1) floor one.run)) was) (before_chunks it lacks k (with_run g k one))
+    (λ j other. fact_there k j forget was other)
+    (λ m. ap (λ (b : Book Placed). b.at m) (fact_here k forget was) ∙ (ap (λ (b : Book Placed). (forget b).at m) (here_is it lacks k 0) ∙ (gone (is_in_any m (one.run ∷ [])) ((below_number (it.books k) 0).at m) (none_below (it.books k) m) ∙ (sym (none_below (it.books k) m) ∙ sym (ap (λ (b : Book Placed). b.at m) (here_is it lacks k 0))))))
+    (ap (λ (b : Book Placed). b.floor) (fact_here k forget was) ∙ (ap (λ (b : Book Placed). (forget b).floor) (here_is it lacks k 0) ∙ (ap (λ (n : ℕ). max (it.books k).floor n) is ∙ (greatest (it.books k).floor ∙ sym (ap (λ (b : Book Placed). b.floor) (here_is it lacks k 0))))))
+    (λ j m other. not_here (was.gone j m) lacks j ((k + 1) - 1) (is_in m one.run) (λ same. other (same ∙ number_of_place k)) ∙ (noted_there it lacks k g j m other ∙ sym (noted_there it lacks k (with_run g k one) j m other)))
+    (λ m. ap (λ (x : Bool). x || (lacks && ((k == (k + 1) - 1) && is_in m one.run))) (noted_here it lacks k g m)
+    ∙ (ap (λ (t : Bool). (lacks && g m) || (lacks && (t && is_in m one.run))) (eq-eqb k ((k + 1) - 1) (sym (number_of_place k)) ∙ sym (eq-eqb k one.place (sym here)))
+    ∙ (both lacks (g m) ((k == one.place) && is_in m one.run) ∙ sym (noted_here it lacks k (with_run g k one) m))))
+    refl
+  where
+    gone : (t : Bool) (o : Option Placed) → o ≡ None → (if t then no_placed else o) ≡ no_placed
+    gone true o e = refl
+    gone false o e = e
+
+    greatest : (n : ℕ) → max n n ≡ n
+    greatest n = omega arith
+
+    both : (l a b : Bool) → ((l && a) || (l && b)) ≡ (l && (a || b))
+    both true a b = refl
+    both false a b = refl
+
+-- the same numbers were forgotten
+pub noted_same : (it : Standing) (lacks : Bool) (k : ℕ) (g h : ℕ → Bool) → ((n : ℕ) → g n ≡ h n) → IsSame (before_chunks it lacks k g) (before_chunks it lacks k h)
+noted_same it lacks k g h same =
+    one_place k (before_chunks it lacks k g) (before_chunks it lacks k h) (λ j other. refl) (λ m. refl) refl
+    (λ j m other. noted_there it lacks k g j m other ∙ sym (noted_there it lacks k h j m other))
+    (λ m. noted_here it lacks k g m ∙ (ap (λ (x : Bool). lacks && x) (same m) ∙ sym (noted_here it lacks k h m)))
     refl
 
 -- a chunk is written
@@ -162,6 +239,8 @@ chunk_same it lacks k n sure place is =
     (λ j other. fact_there k j put was other ∙ (there_is it lacks k n j other ∙ sym (there_is it lacks k (n + 1) j other)))
     (λ m. ap (λ (b : Book Placed). b.at m) (fact_here k put was) ∙ (ap (λ (b : Book Placed). (put b).at m) (here_is it lacks k n) ∙ (by m (m == n) refl ∙ sym (ap (λ (b : Book Placed). b.at m) (here_is it lacks k (n + 1))))))
     (ap (λ (b : Book Placed). b.floor) (fact_here k put was) ∙ (ap (λ (b : Book Placed). b.floor) (here_is it lacks k n) ∙ sym (ap (λ (b : Book Placed). b.floor) (here_is it lacks k (n + 1)))))
+    (λ j m other. gone_there it lacks k n j m other ∙ sym (gone_there it lacks k (n + 1) j m other))
+    (λ m. gone_here it lacks k n m ∙ sym (gone_here it lacks k (n + 1) m))
     refl
   where
     below : (m : ℕ) → m ≢ n → nat_lt m n ≡ nat_lt m (n + 1)
@@ -187,6 +266,8 @@ gap_same it lacks k a b le none =
     (λ j other. there_is it lacks k a j other ∙ sym (there_is it lacks k b j other))
     (λ m. ap (λ (x : Book Placed). x.at m) (here_is it lacks k a) ∙ (by m (nat_lt m a) refl (nat_lt m b) refl ∙ sym (ap (λ (x : Book Placed). x.at m) (here_is it lacks k b))))
     (ap (λ (x : Book Placed). x.floor) (here_is it lacks k a) ∙ sym (ap (λ (x : Book Placed). x.floor) (here_is it lacks k b)))
+    (λ j m other. gone_there it lacks k a j m other ∙ sym (gone_there it lacks k b j m other))
+    (λ m. gone_here it lacks k a m ∙ sym (gone_here it lacks k b m))
     refl
   where
     by : (m : ℕ) (s : Bool) → nat_lt m a ≡ s → (t : Bool) → nat_lt m b ≡ t → (if nat_lt m a then (it.books k).at m else None) ≡ (if nat_lt m b then (it.books k).at m else None)
@@ -205,6 +286,8 @@ end_same it lacks k a none =
     (λ j other. there_is it lacks k a j other ∙ ap (λ (t : Bool). if t then it.books j else empty_book) (next j other))
     (λ m. ap (λ (x : Book Placed). x.at m) (here_is it lacks k a) ∙ (by m (nat_lt m a) refl ∙ sym (ap (λ (x : Book Placed). x.at m) whole)))
     (ap (λ (x : Book Placed). x.floor) (here_is it lacks k a) ∙ sym (ap (λ (x : Book Placed). x.floor) whole))
+    (λ j m other. gone_there it lacks k a j m other ∙ ap (λ (t : Bool). if t then lacks && it.gone j m else false) (next j other))
+    (λ m. gone_here it lacks k a m ∙ sym (ap (λ (t : Bool). if t then lacks && it.gone k m else false) (lt-ltb k (k + 1) (omega arith))))
     refl
   where
     whole : (before_place it lacks (k + 1)).books k ≡ it.books k
@@ -222,15 +305,27 @@ end_same it lacks k a none =
     by m false e = ap (λ (t : Bool). if t then (it.books k).at m else None) e ∙ sym (none m (ltb-false m a e))
 
 pub none_first : (it : Standing) (lacks : Bool) → IsSame (bare lacks) (before_place it lacks 0)
-none_first it lacks = record { at = λ j m. ap (λ (b : Book Placed). b.at m) (nothing j); floor = λ j. ap (λ (b : Book Placed). b.floor) (nothing j); lacks = refl }
+none_first it lacks = record { at = λ j m. ap (λ (b : Book Placed). b.at m) (nothing j); floor = λ j. ap (λ (b : Book Placed). b.floor) (nothing j); gone = λ j m. sym (ap (λ (t : Bool). if t then lacks && it.gone j m else false) (le-ltb j 0 (omega arith))); lacks = refl }
   where
     nothing : (j : ℕ) → empty_book ≡ (before_place it lacks 0).books j
     nothing j = sym (ap (λ (t : Bool). if t then it.books j else empty_book) (le-ltb j 0 (omega arith)))
 
 -- all sessions
-pub all_places : (depot : Depot) (lacks : Bool) (n : ℕ) → length depot.stock.sessions.items ≡ n → IsSame (before_place (standing_of depot) lacks n) (lacking lacks (standing_of depot))
-all_places depot lacks n is = record { at = λ j m. ap (λ (b : Book Placed). b.at m) (same j); floor = λ j. ap (λ (b : Book Placed). b.floor) (same j); lacks = refl }
+pub all_places : (depot : Depot) (lacks : Bool) (n : ℕ) → length depot.stock.sessions.items ≡ n → GoneFits (length depot.stock.sessions.items) (standing_of depot) → IsSame (before_place (standing_of depot) lacks n) (lacking lacks (standing_of depot))
+all_places depot lacks n is fits = record { at = λ j m. ap (λ (b : Book Placed). b.at m) (same j); floor = λ j. ap (λ (b : Book Placed). b.floor) (same j); gone = λ j m. gone j m (nat_lt j n) refl ((standing_of depot).gone j m) refl; lacks = refl }
   where
+    gone : (j m : ℕ) (t : Bool) → nat_lt j n ≡ t → (x : Bool) → (standing_of depot).gone j m ≡ x → (if nat_lt j n then lacks && (standing_of depot).gone j m else false) ≡ (lacks && (standing_of depot).gone j m)
+    gone j m true e x f = ap (λ (t : Bool). if t then lacks && (standing_of depot).gone j m else false) e
+    gone j m false e true f = absurd (past (ltb-false j n e) (fits j m f).0)
+      where
+        past : n ≤ j → j < length depot.stock.sessions.items → ⊥
+        past le lt = omega (arith, is, le, lt)
+    gone j m false e false f = ap (λ (t : Bool). if t then lacks && (standing_of depot).gone j m else false) e ∙ (never lacks ∙ sym (ap (λ (x : Bool). lacks && x) f))
+      where
+        never : (l : Bool) → false ≡ (l && false)
+        never true = refl
+        never false = refl
+
     same : (j : ℕ) → (before_place (standing_of depot) lacks n).books j ≡ (standing_of depot).books j
     same j = by (nat_lt j n) refl
       where
@@ -313,34 +408,112 @@ wrote_chunk plan t before after depot lacks place session n fact lt number fit s
     by (Forgot s floor run) st tx sy = absurd st
     by Filled st tx sy = absurd st
 
+empty_run : (n : ℕ) → is_in n (record { first = 1; last = 0 }) ≡ false
+empty_run n = by (nat_le 1 n) refl (nat_le n 0) refl
+  where
+    by : (a : Bool) → nat_le 1 n ≡ a → (b : Bool) → nat_le n 0 ≡ b → (nat_le 1 n && nat_le n 0) ≡ false
+    by true e true f = absurd (never (leb-true 1 n e) (leb-true n 0 f))
+      where
+        never : 1 ≤ n → n ≤ 0 → ⊥
+        never le ge = omega (arith, le, ge)
+    by true e false f = ap (λ (t : Bool). t && nat_le n 0) e ∙ f
+    by false e b f = ap (λ (t : Bool). t && nat_le n 0) e
+
 -- the fact of a floor
 pub wrote_floor : (plan : CheckedPlan) (t : ℕ) (before after : List ℕ) (depot : Depot) (lacks : Bool) (place floor : ℕ) (d : Session) → place < length depot.stock.sessions.items → d ≡ get_or depot.stock.sessions.items place d → floor ≡ (book_of d.chunks).floor →
     after ≡ before ++ lines_text (chunk_fact_line plan t (Forgot (place + 1) floor (record { first = 1; last = 0 })) ∷ []) → FactStands plan t (Some (Forgot (place + 1) floor (record { first = 1; last = 0 }))) →
-    Wrote plan t (length depot.stock.sessions.items) before after (before_place (standing_of depot) lacks place) (before_number (standing_of depot) lacks place 0)
+    Wrote plan t (length depot.stock.sessions.items) before after (before_place (standing_of depot) lacks place) (before_chunks (standing_of depot) lacks place (λ n. false))
 wrote_floor plan t before after depot lacks place floor d lt is floor_is text says =
     wrote_one plan t (length depot.stock.sessions.items) before after _ _ (Forgot (place + 1) floor (record { first = 1; last = 0 })) text says
     (and_from (nat_le 1 (place + 1) && nat_le (place + 1) (length depot.stock.sessions.items)) (nat_le 0 floor)
     (and_from (nat_le 1 (place + 1)) (nat_le (place + 1) (length depot.stock.sessions.items)) (le-leb 1 (place + 1) (omega arith)) (le-leb (place + 1) (length depot.stock.sessions.items) (omega (arith, lt)))) (le-leb 0 floor (omega arith)))
-    (floor_same (standing_of depot) lacks place floor (record { first = 1; last = 0 }) (floor_is ∙ sym (ap (λ (b : Book Placed). b.floor) (book_at depot place d lt is))))
+    (floor_same (standing_of depot) lacks place floor (record { first = 1; last = 0 }) (floor_is ∙ sym (ap (λ (b : Book Placed). b.floor) (book_at depot place d lt is))) empty_run)
 
 pub wrote_no_floor : (plan : CheckedPlan) (t : ℕ) (before : List ℕ) (depot : Depot) (lacks : Bool) (place : ℕ) (d : Session) → place < length depot.stock.sessions.items → d ≡ get_or depot.stock.sessions.items place d → (book_of d.chunks).floor ≡ 0 →
-    Wrote plan t (length depot.stock.sessions.items) before before (before_place (standing_of depot) lacks place) (before_number (standing_of depot) lacks place 0)
+    Wrote plan t (length depot.stock.sessions.items) before before (before_place (standing_of depot) lacks place) (before_chunks (standing_of depot) lacks place (λ n. false))
 wrote_no_floor plan t before depot lacks place d lt is none = wrote_none plan t (length depot.stock.sessions.items) before _ _ (no_floor (standing_of depot) lacks place (ap (λ (b : Book Placed). b.floor) (book_at depot place d lt is) ∙ none))
+
+-- the fact of a run that was forgotten
+pub wrote_run : (plan : CheckedPlan) (t : ℕ) (before after : List ℕ) (depot : Depot) (lacks : Bool) (place floor : ℕ) (g : ℕ → Bool) (one : Gone) (d : Session) → place < length depot.stock.sessions.items → d ≡ get_or depot.stock.sessions.items place d → floor ≡ (book_of d.chunks).floor →
+    one.place ≡ place → one.run.first ≤ one.run.last → RunFits depot place one → after ≡ before ++ lines_text (chunk_fact_line plan t (Forgot (place + 1) floor one.run) ∷ []) → FactStands plan t (Some (Forgot (place + 1) floor one.run)) →
+    Wrote plan t (length depot.stock.sessions.items) before after (before_chunks (standing_of depot) lacks place g) (before_chunks (standing_of depot) lacks place (with_run g place one))
+wrote_run plan t before after depot lacks place floor g one d lt is floor_is here some fits text says =
+    let floor_same : floor ≡ ((standing_of depot).books place).floor = floor_is ∙ sym (ap (λ (b : Book Placed). b.floor) (book_at depot place d lt is)) in
+    let last : one.run.last ≤ ((standing_of depot).books place).floor = fits one.run.last (and_from (place == one.place) (is_in one.run.last one.run) (eq-eqb place one.place (sym here)) (and_from (nat_le one.run.first one.run.last) (nat_le one.run.last one.run.last) (le-leb one.run.first one.run.last some) (le-leb one.run.last one.run.last (omega arith)))) in
+    wrote_one plan t (length depot.stock.sessions.items) before after _ _ (Forgot (place + 1) floor one.run) text says
+    (and_from (nat_le 1 (place + 1) && nat_le (place + 1) (length depot.stock.sessions.items)) (nat_le one.run.last floor)
+    (and_from (nat_le 1 (place + 1)) (nat_le (place + 1) (length depot.stock.sessions.items)) (le-leb 1 (place + 1) (omega arith)) (le-leb (place + 1) (length depot.stock.sessions.items) (omega (arith, lt)))) (le-leb one.run.last floor (omega (arith, last, floor_same))))
+    (run_same (standing_of depot) lacks place floor g one floor_same here)
+
+-- one that is of another session, or has no number
+pub wrote_no_run : (plan : CheckedPlan) (t : ℕ) (before : List ℕ) (depot : Depot) (lacks : Bool) (place : ℕ) (g : ℕ → Bool) (one : Gone) → ((n : ℕ) → ((place == one.place) && is_in n one.run) ≡ false) →
+    Wrote plan t (length depot.stock.sessions.items) before before (before_chunks (standing_of depot) lacks place g) (before_chunks (standing_of depot) lacks place (with_run g place one))
+wrote_no_run plan t before depot lacks place g one none = wrote_none plan t (length depot.stock.sessions.items) before _ _ (noted_same (standing_of depot) lacks place g (with_run g place one) (λ n. sym (ap (λ (x : Bool). g n || x) (none n) ∙ or_false (g n))))
+  where
+    or_false : (x : Bool) → (x || false) ≡ x
+    or_false true = refl
+    or_false false = refl
+
+pub other_place : (place : ℕ) (one : Gone) → one.place ≢ place → (n : ℕ) → ((place == one.place) && is_in n one.run) ≡ false
+other_place place one other n = ap (λ (t : Bool). t && is_in n one.run) (unequal place one.place (λ same. other (sym same)))
+
+pub no_number : (place : ℕ) (one : Gone) → one.run.last < one.run.first → (n : ℕ) → ((place == one.place) && is_in n one.run) ≡ false
+no_number place one below n = ap (λ (t : Bool). (place == one.place) && t) (none (nat_le one.run.first n) refl (nat_le n one.run.last) refl) ∙ never (place == one.place)
+  where
+    none : (a : Bool) → nat_le one.run.first n ≡ a → (b : Bool) → nat_le n one.run.last ≡ b → is_in n one.run ≡ false
+    none true e true f = absurd (between (leb-true one.run.first n e) (leb-true n one.run.last f))
+      where
+        between : one.run.first ≤ n → n ≤ one.run.last → ⊥
+        between le ge = omega (arith, below, le, ge)
+    none true e false f = ap (λ (t : Bool). t && nat_le n one.run.last) e ∙ f
+    none false e b f = ap (λ (t : Bool). t && nat_le n one.run.last) e
+
+    never : (b : Bool) → (b && false) ≡ false
+    never true = refl
+    never false = refl
+
+-- one of those that are noted
+run_fits : (depot : Depot) (place i : ℕ) (d : Gone) → i < length depot.gone.items → depot.lacks ≡ true → GoneFits (length depot.stock.sessions.items) (standing_of depot) → RunFits depot place (get_or depot.gone.items i d)
+run_fits depot place i d lt lacks fits n e =
+    let noted : is_gone depot.gone.items place n ≡ true = list_any_at (λ (x : Gone). (place == x.place) && is_in n x.run) depot.gone.items i d lt e in
+    (fits place n (ap (λ (b : Bool). b && is_gone depot.gone.items place n) lacks ∙ noted)).1
+
+-- all of them so far
+pub run_more : (plan : CheckedPlan) (t : ℕ) (before middle after : List ℕ) (depot : Depot) (lacks : Bool) (place i : ℕ) (gone : List Gone) (d : Gone) → gone ≡ depot.gone.items → i < length gone → depot.lacks ≡ true → GoneFits (length depot.stock.sessions.items) (standing_of depot) →
+    Wrote plan t (length depot.stock.sessions.items) before middle (before_chunks (standing_of depot) lacks place (λ n. false)) (before_chunks (standing_of depot) lacks place (λ n. is_gone (take i depot.gone.items) place n)) →
+    ((g : ℕ → Bool) → RunFits depot place (get_or gone i d) → Wrote plan t (length depot.stock.sessions.items) middle after (before_chunks (standing_of depot) lacks place g) (before_chunks (standing_of depot) lacks place (with_run g place (get_or gone i d)))) →
+    Wrote plan t (length depot.stock.sessions.items) before after (before_chunks (standing_of depot) lacks place (λ n. false)) (before_chunks (standing_of depot) lacks place (λ n. is_gone (take (i + 1) depot.gone.items) place n))
+run_more plan t before middle after depot lacks place i gone d is lt lacked fits first second =
+    let same : get_or gone i d ≡ get_or depot.gone.items i d = ap (λ (xs : List Gone). get_or xs i d) is in
+    let within : i < length depot.gone.items = subst (λ (xs : List Gone). i < length xs) is lt in
+    wrote_as plan t (length depot.stock.sessions.items) before after _ _ _
+    (wrote_on plan t (length depot.stock.sessions.items) before middle after _ _ _ first
+    (second (λ n. is_gone (take i depot.gone.items) place n) (subst (λ (one : Gone). RunFits depot place one) (sym same) (run_fits depot place i d within lacked fits))))
+    (noted_same (standing_of depot) lacks place (with_run (λ n. is_gone (take i depot.gone.items) place n) place (get_or gone i d)) (λ n. is_gone (take (i + 1) depot.gone.items) place n)
+    (λ n. ap (λ (x : Gone). is_gone (take i depot.gone.items) place n || ((place == x.place) && is_in n x.run)) same ∙ sym (list_any_more (λ (x : Gone). (place == x.place) && is_in n x.run) depot.gone.items i d within)))
+
+pub runs_all : (depot : Depot) (lacks : Bool) (place i : ℕ) → length depot.gone.items ≤ i → depot.lacks ≡ true → IsSame (before_chunks (standing_of depot) lacks place (λ n. is_gone (take i depot.gone.items) place n)) (before_number (standing_of depot) lacks place 0)
+runs_all depot lacks place i all is =
+    noted_same (standing_of depot) lacks place (λ n. is_gone (take i depot.gone.items) place n) ((standing_of depot).gone place)
+    (λ n. ap (λ (xs : List Gone). is_gone xs place n) (take_all i depot.gone.items all) ∙ sym (ap (λ (b : Bool). b && is_gone depot.gone.items place n) is))
+
+pub no_runs : (depot : Depot) (lacks : Bool) (place : ℕ) → depot.lacks ≡ false → IsSame (before_chunks (standing_of depot) lacks place (λ n. false)) (before_number (standing_of depot) lacks place 0)
+no_runs depot lacks place is = noted_same (standing_of depot) lacks place (λ n. false) ((standing_of depot).gone place) (λ n. sym (ap (λ (b : Bool). b && is_gone depot.gone.items place n) is))
 
 -- ---- what is lacked
 
 pub filled_same : (node : ℕ) (depot : Depot) → depot.lacks ≡ false → IsSame (after_fact (Some Filled) (lacking (first_lacks node depot) (standing_of depot))) (written_of node depot)
-filled_same node depot is = record { at = λ k n. refl; floor = λ k. refl; lacks = sym (and_right (first_lacks node depot) depot.lacks is) }
+filled_same node depot is = record { at = λ k n. refl; floor = λ k. refl; gone = λ k n. sym (ap (λ (t : Bool). t && (standing_of depot).gone k n) (and_right (first_lacks node depot) depot.lacks is)); lacks = sym (and_right (first_lacks node depot) depot.lacks is) }
 
 pub lacks_same : (node : ℕ) (depot : Depot) → depot.lacks ≡ true → IsSame (lacking (first_lacks node depot) (standing_of depot)) (written_of node depot)
-lacks_same node depot is = record { at = λ k n. refl; floor = λ k. refl; lacks = by (first_lacks node depot) depot.lacks is }
+lacks_same node depot is = record { at = λ k n. refl; floor = λ k. refl; gone = λ k n. ap (λ (t : Bool). t && (standing_of depot).gone k n) (by (first_lacks node depot) depot.lacks is); lacks = by (first_lacks node depot) depot.lacks is }
   where
     by : (a b : Bool) → b ≡ true → a ≡ (a && b)
     by true b e = sym e
     by false b e = refl
 
 pub never_lacks : (node : ℕ) (depot : Depot) → first_lacks node depot ≡ false → IsSame (lacking (first_lacks node depot) (standing_of depot)) (written_of node depot)
-never_lacks node depot is = record { at = λ k n. refl; floor = λ k. refl; lacks = by (first_lacks node depot) depot.lacks is }
+never_lacks node depot is = record { at = λ k n. refl; floor = λ k. refl; gone = λ k n. ap (λ (t : Bool). t && (standing_of depot).gone k n) (by (first_lacks node depot) depot.lacks is); lacks = by (first_lacks node depot) depot.lacks is }
   where
     by : (a b : Bool) → a ≡ false → a ≡ (a && b)
     by true b e = absurd (true≢false e)
@@ -515,6 +688,10 @@ needs plan m before after of wrote = record {
     made : (new last : Chunks) → ChunksAreBlank plan m new → RecallsAll ChunkRecalls new wrote.lines last → Makes m (length m.depots) new last
     made new last blank r = wrote.makes new last (like new blank) r
 
+    twice : (l g : Bool) → (l && (l && g)) ≡ (l && g)
+    twice true g = refl
+    twice false g = refl
+
     lacks_as : (depot : Depot) (room : ℕ) → HasRoom m.node room depot → (first_lacks m.node depot && depot.lacks) ≡ depot.lacks
     lacks_as depot room has = by depot.lacks refl
       where
@@ -535,7 +712,7 @@ needs plan m before after of wrote = record {
         record {
           sessions = makes.like.sessions t was is at_was at_is;
           allowed = done.0 ∙ bare_it.allowed_is;
-          standing = record { at = standing.at; floor = standing.floor; lacks = standing.lacks ∙ lacks_as was (room_of_lines plan t) has };
+          standing = record { at = standing.at; floor = standing.floor; gone = λ k n. standing.gone k n ∙ (ap (λ (b : Bool). b && (was.lacks && is_gone was.gone.items k n)) (lacks_as was (room_of_lines plan t) has) ∙ twice was.lacks (is_gone was.gone.items k n)); lacks = standing.lacks ∙ lacks_as was (room_of_lines plan t) has };
         }
 
 -- the same of machines that have chunks

@@ -1,6 +1,6 @@
 -- The line of what a tenant is told of its chunks: `T NODE` and words. S is a session, N a number, P how many nodes of the column were lost.
 -- `kept S N P`; `damaged S N`; `got S N SIZE FROM CONTENT`, `none S N`, `lacks S N`; `forgot S FLOOR FIRST LAST`; `chunks S AFTER FLOOR N.SIZE .. end`, without `end`
--- where these are not all; `room USED ALLOWED P LACKS`; and `refused` with its cause: `bad`, `nosession S N`, `toolong S N LENGTH`, `differs S N`, `below S N FLOOR`, `room S N FREE`.
+-- where these are not all; `room USED ALLOWED P LACKS`; and `refused` with its cause: `bad`, `nosession S N`, `toolong S N LENGTH`, `differs S N`, `below S N FLOOR`, `room S N FREE`, `lacks S FLOOR`.
 use Rattle.std.specs.Prelude.{ℕ, ◌*◌, List, [], ◌∷◌, ◌++◌, Bool, true, false, nat_le, length, take, drop, map, codes, decimal, if◌then◌else◌}
 use Rattle.gq_desk.specs.CheckedPlan.{CheckedPlan, row_at}
 use Rattle.gq_quote.specs.Quote.{quoted}
@@ -66,6 +66,7 @@ answer_words (Told.TooLong s n long) = codes "refused" ∷ codes "toolong" ∷ d
 answer_words (Told.Kept s n told p floor free) = kept_words s n p floor free told
 answer_words (Told.Found s n from long found lacks) = found_words s n from long lacks found
 answer_words (Told.Forgot s floor run) = codes "forgot" ∷ decimal s ∷ decimal floor ∷ decimal run.first ∷ decimal run.last ∷ []
+answer_words (Told.Lacking s floor) = codes "refused" ∷ codes "lacks" ∷ decimal s ∷ decimal floor ∷ []
 answer_words (Told.Listed s after floor chunks is_all) = codes "chunks" ∷ decimal s ∷ decimal after ∷ decimal floor ∷ map chunk_word chunks.items ++ end_words is_all
 answer_words (Told.Room used allowed p lacks) = codes "room" ∷ decimal used ∷ decimal allowed ∷ decimal p ∷ decimal (sure_digit lacks) ∷ []
 

@@ -1,6 +1,6 @@
 -- What a machine of chunks owes that lasts.
-use Rattle.std.proofs.Common.{◌≡◌, ◌≢◌, ◌<◌, ◌-◌, ℕ, List, [], ◌∷◌, ◌++◌, length, Bool, true, false, Option, Some, None, refl, sym, ap, subst, ◌∙◌}
-use Rattle.std.specs.Prelude.{◌==◌, ◌≤◌, ◌&&◌, nat_le, not, slice_get, if◌then◌else◌}
+use Rattle.std.proofs.Common.{◌≡◌, ◌≢◌, ◌<◌, ◌-◌, ℕ, List, [], ◌∷◌, ◌++◌, length, Bool, true, false, Option, Some, None, refl, sym, ap, subst, ◌∙◌, arith}
+use Rattle.std.specs.Prelude.{◌==◌, ◌≤◌, ◌&&◌, ◌||◌, nat_le, not, max, slice_get, if◌then◌else◌}
 use Rattle.std.specs.List.{list_all}
 use Rattle.std.proofs.lemmas.Bool.{and_from, and_parts, leb-true, eqb-true, eq-eqb, true≢false}
 use Rattle.std.proofs.lemmas.Option.{same_Some, slice_get_within}
@@ -15,7 +15,7 @@ use Rattle.gq_keeper.specs.Starting.{RecallsAll}
 use Rattle.gq_depot.specs.Depots.{Placed, Standing, standing_of, forgotten, after_fact, bare, IsSame, LeadsTo, reads_fact, ReadsFact}
 use Rattle.gq_depot.specs.Tenants.{LeadsOwn, ApartFrom}
 use Rattle.gq_ledger.specs.Steps.{with_at}
-use Rattle.gq_stock.specs.Forgetting.{is_in_any}
+use Rattle.gq_stock.specs.Forgetting.{is_in, is_in_any}
 use Rattle.gq_depot.specs.declared.limits.TheConstants.{MOST_CHUNK}
 use Rattle.gq_depot.specs.declared.depot.Depot.{Depot}
 use Rattle.gq_depot.specs.declared.fact.ChunkFact.{ChunkFact}
@@ -24,7 +24,7 @@ use Rattle.gq_depot.specs.declared.request.ChunkRequest.{ChunkRequest}
 use Rattle.gq_depot.proofs.Standing.{there}
 use Rattle.gq_depot.proofs.Tenants.{after_same, same_on}
 use Rattle.gq_chunks.specs.Facts.{place_verb, verb_of, own_words, chunk_fact_line, chunk_fact_of_line}
-use Rattle.gq_chunks.specs.Machines.{Chunks, IsSite, Asked, asked_in, fact_lines, FactStands, depot_reads, Took, StepsBy, ChunkSteps, reads_told, chunk_reads, Recalled, ChunkRecalls, room_of_lines, lacks_at_first, IsBare, IsBlank, ChunksAreBlank, AllFit, IsSound, AreSound, HasRoom, ChunksAreOf, DepotRests, ChunksRest}
+use Rattle.gq_chunks.specs.Machines.{Chunks, IsSite, Asked, asked_in, fact_lines, FactStands, depot_reads, Took, StepsBy, ChunkSteps, reads_told, chunk_reads, Recalled, ChunkRecalls, room_of_lines, lacks_at_first, IsBare, IsBlank, ChunksAreBlank, AllFit, GoneFits, IsSound, AreSound, HasRoom, ChunksAreOf, DepotRests, ChunksRest}
 
 -- ---- machines that have chunks
 
@@ -36,10 +36,10 @@ on_chunks f (line ∷ lines) a b (next, one, more) = (f next, one, on_chunks f l
 -- ---- the same, and the same node
 
 pub same_back : (a b : Standing) → IsSame a b → IsSame b a
-same_back a b same = record { at = λ k n. sym (same.at k n); floor = λ k. sym (same.floor k); lacks = sym same.lacks }
+same_back a b same = record { at = λ k n. sym (same.at k n); floor = λ k. sym (same.floor k); gone = λ k n. sym (same.gone k n); lacks = sym same.lacks }
 
 pub same_itself : (a : Standing) → IsSame a a
-same_itself a = record { at = λ k n. refl; floor = λ k. refl; lacks = refl }
+same_itself a = record { at = λ k n. refl; floor = λ k. refl; gone = λ k n. refl; lacks = refl }
 
 pub site_on : (a b c : Chunks) → IsSite a b → IsSite b c → IsSite a c
 site_on a b c one two = record { plan = two.plan ∙ one.plan; node = two.node ∙ one.node; losses = two.losses ∙ one.losses; tenants = two.tenants ∙ one.tenants }
@@ -322,10 +322,61 @@ fits_after sessions (Some (Forgot s floor run)) it reads fit = λ k m placed is.
 fits_same : (a b : Standing) → IsSame a b → AllFit b → AllFit a
 fits_same a b same fit k n placed is = fit k n placed (sym (same.at k n) ∙ is)
 
+-- what a fact that is read forgets is not above the floor that it leaves
+gone_after_fits : (sessions : ℕ) (fact : Option ChunkFact) (it : Standing) → ReadsFact sessions fact → GoneFits sessions it → GoneFits sessions (after_fact fact it)
+gone_after_fits sessions None it reads fits = fits
+gone_after_fits sessions (Some Filled) it reads fits = λ k m is. absurd (true≢false (sym is))
+gone_after_fits sessions (Some (Put s n sure place)) it reads fits = λ k m is. ((fits k m is).0, by k m (k == s - 1) (fits k m is).1)
+  where
+    by : (k m : ℕ) (a : Bool) → m ≤ (it.books k).floor → m ≤ (if a then with_at (it.books k) n (Some (record { place = place; is_sure = sure })) else it.books k).floor
+    by k m true le = le
+    by k m false le = le
+gone_after_fits sessions (Some (Forgot s floor run)) it reads fits = λ k m is. by k m (it.gone k m) refl is
+  where
+    parts : ((nat_le 1 s && nat_le s sessions) ≡ true) × (nat_le run.last floor ≡ true)
+    parts = and_parts (nat_le 1 s && nat_le s sessions) (nat_le run.last floor) reads
+
+    session : (nat_le 1 s ≡ true) × (nat_le s sessions ≡ true)
+    session = and_parts (nat_le 1 s) (nat_le s sessions) parts.0
+
+    risen : (k m : ℕ) (a : Bool) → m ≤ (it.books k).floor → m ≤ (if a then forgotten (it.books k) floor run else it.books k).floor
+    risen k m true le = above (it.books k).floor le
+      where
+        above : (x : ℕ) → m ≤ x → m ≤ max x floor
+        above x le = omega (arith, le)
+    risen k m false le = le
+
+    here : (k m : ℕ) → k ≡ s - 1 → m ≤ run.last → (k < sessions) × (m ≤ (if k == s - 1 then forgotten (it.books k) floor run else it.books k).floor)
+    here k m same le = (
+      omega (arith, same, leb-true 1 s session.0, leb-true s sessions session.1),
+      subst (λ (t : Bool). m ≤ (if t then forgotten (it.books k) floor run else it.books k).floor) (sym (eq-eqb k (s - 1) same)) (above (it.books k).floor),
+    )
+      where
+        above : (x : ℕ) → m ≤ max x floor
+        above x = omega (arith, le, leb-true run.last floor parts.1)
+
+    noted : (k m : ℕ) (lacks : Bool) → (lacks && ((k == s - 1) && is_in m run)) ≡ true → (k < sessions) × (m ≤ (if k == s - 1 then forgotten (it.books k) floor run else it.books k).floor)
+    noted k m lacks is =
+        let its = and_parts lacks ((k == s - 1) && is_in m run) is in
+        let both = and_parts (k == s - 1) (is_in m run) its.1 in
+        let ends = and_parts (nat_le run.first m) (nat_le m run.last) both.1 in
+        here k m (eqb-true k (s - 1) both.0) (leb-true m run.last ends.1)
+
+    by : (k m : ℕ) (a : Bool) → it.gone k m ≡ a → (a || (it.lacks && ((k == s - 1) && is_in m run))) ≡ true → (k < sessions) × (m ≤ (if k == s - 1 then forgotten (it.books k) floor run else it.books k).floor)
+    by k m true e is = ((fits k m e).0, risen k m (k == s - 1) (fits k m e).1)
+    by k m false e is = noted k m it.lacks is
+
+gone_fits_same : (sessions : ℕ) (a b : Standing) → IsSame a b → GoneFits sessions b → GoneFits sessions a
+gone_fits_same sessions a b same fits k n is =
+    let its = fits k n (sym (same.gone k n) ∙ is) in
+    (its.0, subst (λ (z : ℕ). n ≤ z) (sym (same.floor k)) its.1)
+
 sound_on : (plan : CheckedPlan) (t : ℕ) (fact : Option ChunkFact) (was is : Depot) → LeadsTo was fact is → ReadsFact (length was.stock.sessions.items) fact → IsSound plan t was → IsSound plan t is
 sound_on plan t fact was is leads reads sound = record {
   sessions_are = leads.sessions ∙ sound.sessions_are;
   fit = fits_same (standing_of is) (after_fact fact (standing_of was)) leads.standing (fits_after (length was.stock.sessions.items) fact (standing_of was) reads sound.fit);
+  gone = subst (λ (n : ℕ). GoneFits n (standing_of is)) (sym leads.sessions)
+      (gone_fits_same (length was.stock.sessions.items) (standing_of is) (after_fact fact (standing_of was)) leads.standing (gone_after_fits (length was.stock.sessions.items) fact (standing_of was) reads sound.gone));
 }
 
 -- what holds of each tenant's depot goes on to hold

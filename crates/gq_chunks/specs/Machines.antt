@@ -198,10 +198,15 @@ ChunksAreBlank lines m blank = IsBlank (room_of_lines lines) m blank
 abbrev pub AllFit : Standing → Type 0
 AllFit it = (k n : ℕ) (placed : Placed) → (it.books k).at n ≡ Some placed → long_at placed.place ≤ MOST_CHUNK
 
--- the depot has the sessions of the tenant at this place, and no chunk that is too long
+-- what was forgotten is of so many sessions, and not above their floors
+abbrev pub GoneFits : (sessions : ℕ) → Standing → Type 0
+GoneFits sessions it = (k n : ℕ) → it.gone k n ≡ true → (k < sessions) × (n ≤ (it.books k).floor)
+
+-- the depot has the sessions of the tenant at this place, no chunk that is too long, and forgot nothing above a floor
 pub record IsSound (plan : CheckedPlan) (t : ℕ) (depot : Depot) : Type 0 where
   pub sessions_are : length depot.stock.sessions.items ≡ (row_at plan t).sessions
   pub fit : AllFit (standing_of depot)
+  pub gone : GoneFits (length depot.stock.sessions.items) (standing_of depot)
 
 abbrev pub AreSound : CheckedPlan → List Depot → Type 0
 AreSound plan depots = (t : ℕ) (depot : Depot) → slice_get depots t ≡ Some depot → IsSound plan t depot

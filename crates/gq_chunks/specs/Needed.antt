@@ -1,14 +1,16 @@
 -- The facts that a start needs.
-use Rattle.std.specs.Prelude.{◌≡◌, ◌<◌, ◌≤◌, ℕ, List, [], ◌∷◌, ◌++◌, length, map, Bool, true, ◌&&◌, ◌==◌, nat_lt, Some, None, slice_get, if◌then◌else◌, ⊤}
+use Rattle.std.specs.Prelude.{◌≡◌, ◌<◌, ◌≤◌, ℕ, List, [], ◌∷◌, ◌++◌, length, map, Bool, true, false, ◌&&◌, ◌||◌, ◌==◌, nat_lt, Some, None, slice_get, if◌then◌else◌, ⊤}
 use Rattle.std.specs.List.{list_all}
 use Rattle.gq_desk.specs.CheckedPlan.{CheckedPlan}
 use Rattle.gq_ledger.specs.Steps.{Book}
+use Rattle.gq_stock.specs.Forgetting.{is_in}
 use Rattle.gq_journal.specs.Batches.{Line, lines_text}
 use Rattle.gq_keeper.specs.Plans.{are_facts}
 use Rattle.gq_keeper.specs.Starting.{RecallsAll}
 use Rattle.gq_depot.specs.Depots.{Placed, Standing, standing_of, after_fact, bare, IsSame, reads_fact}
 use Rattle.gq_depot.specs.declared.depot.Depot.{Depot}
 use Rattle.gq_depot.specs.declared.fact.ChunkFact.{ChunkFact}
+use Rattle.gq_depot.specs.declared.gone.Gone.{Gone}
 use Rattle.gq_chunks.specs.Facts.{chunk_fact_line}
 use Rattle.gq_chunks.specs.Machines.{Chunks, IsSite, FactStands, chunk_reads, ChunkRecalls, lacks_at_first}
 
@@ -38,19 +40,39 @@ empty_book = record { at = λ n. None; floor = 0 }
 
 -- the sessions before this place
 abbrev pub before_place : Standing → (lacks : Bool) → (k : ℕ) → Standing
-before_place it lacks k = record { books = λ j. if nat_lt j k then it.books j else empty_book; lacks = lacks }
+before_place it lacks k = record { books = λ j. if nat_lt j k then it.books j else empty_book; gone = λ j n. if nat_lt j k then lacks && it.gone j n else false; lacks = lacks }
 
 -- of a session its floor, and the chunks below this number
 abbrev pub below_number : Book Placed → (n : ℕ) → Book Placed
 below_number b n = record { at = λ m. if nat_lt m n then b.at m else None; floor = b.floor }
 
+-- the sessions before this place, and of the one at it the floor, and what was forgotten of these numbers
+abbrev pub before_chunks : Standing → (lacks : Bool) → (k : ℕ) → (gone : ℕ → Bool) → Standing
+before_chunks it lacks k gone = record {
+  books = λ j. if j == k then below_number (it.books k) 0 else (before_place it lacks k).books j;
+  gone = λ j n. if j == k then lacks && gone n else (before_place it lacks k).gone j n;
+  lacks = lacks;
+}
+
+-- these numbers, and those of the run, if it is of the session at this place
+abbrev pub with_run : (gone : ℕ → Bool) → (k : ℕ) → Gone → (n : ℕ) → Bool
+with_run gone k one n = gone n || ((k == one.place) && is_in n one.run)
+
+-- no number of the run is above the floor of that session
+abbrev pub RunFits : Depot → (k : ℕ) → Gone → Type 0
+RunFits depot k one = (n : ℕ) → ((k == one.place) && is_in n one.run) ≡ true → n ≤ ((standing_of depot).books k).floor
+
 -- the sessions before this place, and so much of the one at it
 abbrev pub before_number : Standing → (lacks : Bool) → (k n : ℕ) → Standing
-before_number it lacks k n = record { books = λ j. if j == k then below_number (it.books k) n else (before_place it lacks k).books j; lacks = lacks }
+before_number it lacks k n = record {
+  books = λ j. if j == k then below_number (it.books k) n else (before_place it lacks k).books j;
+  gone = λ j m. if j == k then lacks && it.gone k m else (before_place it lacks k).gone j m;
+  lacks = lacks;
+}
 
--- the same chunks, where this is lacked
+-- the same chunks, where this is lacked, and what was forgotten while chunks are
 abbrev pub lacking : Bool → Standing → Standing
-lacking lacks it = record { books = it.books; lacks = lacks }
+lacking lacks it = record { books = it.books; gone = λ k n. lacks && it.gone k n; lacks = lacks }
 
 -- ---- all tenants
 

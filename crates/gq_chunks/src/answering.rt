@@ -296,6 +296,15 @@ fn put_answer(out: &mut Vec<u8>, answer: &ChunkAnswer) -> Result<(), OutOfMemory
                 Piece::Number(run.last),
             ],
         ),
+        ChunkAnswer::Lacking { session, floor } => put_words(
+            out,
+            &[
+                Piece::Text(b"refused"),
+                Piece::Text(b"lacks"),
+                Piece::Number(u64::from(*session)),
+                Piece::Number(*floor),
+            ],
+        ),
         ChunkAnswer::Listed {
             session,
             after,

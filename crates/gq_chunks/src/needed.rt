@@ -1,19 +1,19 @@
 //! The facts that a start needs.
 
-ghost use Rattle.std.specs.Prelude.{◌≡◌, ◌<◌, ◌+◌, ◌^◌, ℕ, Bool, length, IsSome, OnOk};
+ghost use Rattle.std.specs.Prelude.{◌≡◌, ◌<◌, ◌+◌, ◌^◌, ℕ, Bool, false, length, IsSome, OnOk};
 ghost use Rattle.gq_shelf.specs.Notes.{Noted};
 ghost use Rattle.gq_desk.specs.CheckedPlan.{row_at};
 ghost use Rattle.gq_text.specs.Canonical.{IsPlan};
 ghost use Rattle.gq_ledger.specs.Ledgers.{book_of};
 ghost use Rattle.gq_depot.specs.Answers.{In};
 ghost use Rattle.gq_depot.specs.Depots.{standing_of, bare};
-ghost use Rattle.gq_chunks.specs.Machines.{chunks, AllFit, IsSound, AreSound};
-ghost use Rattle.gq_chunks.specs.Needed.{Wrote, before_place, before_number, lacking, first_lacks, written_of, WroteTenants};
+ghost use Rattle.gq_chunks.specs.Machines.{chunks, AllFit, GoneFits, IsSound, AreSound};
+ghost use Rattle.gq_chunks.specs.Needed.{Wrote, before_place, before_chunks, RunFits, with_run, before_number, lacking, first_lacks, written_of, WroteTenants};
 
 use crate::ChunkFact;
 use crate::new_depots::lacks_at_first;
 use crate::ranges::put_sound_fact;
-use gq_depot::Depot;
+use gq_depot::{Depot, Gone};
 use gq_desk::Plan;
 use gq_memory::OutOfMemory;
 use gq_stock::Run;
@@ -30,7 +30,7 @@ fn put_floor(
     requires tenant { tenant < length plan.now.rows }
     requires few { place + 1 < 2 ^ 32 }
     requires place { place < length depot.now.stock.sessions.items }
-    ensures { (lacks : Bool) → OnOk result (Wrote plan.now tenant (length depot.now.stock.sessions.items) facts.old.items facts.new.items (before_place (standing_of depot.now) lacks place) (before_number (standing_of depot.now) lacks place 0)) }
+    ensures { (lacks : Bool) → OnOk result (Wrote plan.now tenant (length depot.now.stock.sessions.items) facts.old.items facts.new.items (before_place (standing_of depot.now) lacks place) (before_chunks (standing_of depot.now) lacks place (λ n. false))) }
 {
     let floor = depot.stock.sessions[place as usize].floor();
     if floor == 0 {
@@ -42,6 +42,55 @@ fn put_floor(
         run: Run { first: 1, last: 0 },
     };
     put_sound_fact(facts, plan, tenant, &fact)
+}
+
+// Appends the fact of a run that was forgotten, if it is one of the session at this place.
+fn put_run(
+    plan: &Plan,
+    tenant: u8,
+    depot: &Depot,
+    place: u32,
+    gone: Gone,
+    facts: &mut Vec<u8>,
+) -> Result<(), OutOfMemory>
+    requires sound { IsPlan plan.now }
+    requires tenant { tenant < length plan.now.rows }
+    requires few { place + 1 < 2 ^ 32 }
+    requires place { place < length depot.now.stock.sessions.items }
+    ensures { (lacks : Bool) (before : ℕ → Bool) → RunFits depot.now place gone → OnOk result (Wrote plan.now tenant (length depot.now.stock.sessions.items) facts.old.items facts.new.items (before_chunks (standing_of depot.now) lacks place before) (before_chunks (standing_of depot.now) lacks place (with_run before place gone))) }
+{
+    if gone.place != place as usize || gone.run.last < gone.run.first {
+        return Ok(());
+    }
+    let fact = ChunkFact::Forgot {
+        session: place + 1,
+        floor: depot.stock.sessions[place as usize].floor(),
+        run: gone.run,
+    };
+    put_sound_fact(facts, plan, tenant, &fact)
+}
+
+// Appends the facts of what the session at this place forgot since chunks are lacked.
+fn put_runs(
+    plan: &Plan,
+    tenant: u8,
+    depot: &Depot,
+    place: u32,
+    facts: &mut Vec<u8>,
+) -> Result<(), OutOfMemory>
+    requires sound { IsPlan plan.now }
+    requires tenant { tenant < length plan.now.rows }
+    requires few { place + 1 < 2 ^ 32 }
+    requires place { place < length depot.now.stock.sessions.items }
+    ensures { (lacks : Bool) → GoneFits (length depot.now.stock.sessions.items) (standing_of depot.now) → OnOk result (Wrote plan.now tenant (length depot.now.stock.sessions.items) facts.old.items facts.new.items (before_chunks (standing_of depot.now) lacks place (λ n. false)) (before_number (standing_of depot.now) lacks place 0)) }
+{
+    if !depot.lacks {
+        return Ok(());
+    }
+    for gone in depot.gone.as_slice() {
+        put_run(plan, tenant, depot, place, *gone, facts)?;
+    }
+    Ok(())
 }
 
 // Appends the fact of the chunk of this number.
@@ -117,12 +166,13 @@ fn put_session(
     requires sound { IsPlan plan.now }
     requires tenant { tenant < length plan.now.rows }
     requires few { place + 1 < 2 ^ 32 }
-    ensures { (lacks : Bool) → AllFit (standing_of depot.now) → OnOk result (place < length depot.now.stock.sessions.items → Wrote plan.now tenant (length depot.now.stock.sessions.items) facts.old.items facts.new.items (before_place (standing_of depot.now) lacks place) (before_place (standing_of depot.now) lacks (place + 1))) }
+    ensures { (lacks : Bool) → AllFit (standing_of depot.now) → GoneFits (length depot.now.stock.sessions.items) (standing_of depot.now) → OnOk result (place < length depot.now.stock.sessions.items → Wrote plan.now tenant (length depot.now.stock.sessions.items) facts.old.items facts.new.items (before_place (standing_of depot.now) lacks place) (before_place (standing_of depot.now) lacks (place + 1))) }
 {
     if place as usize >= depot.stock.sessions.len() {
         return Ok(());
     }
     put_floor(plan, tenant, depot, place, facts)?;
+    put_runs(plan, tenant, depot, place, facts)?;
     put_zero(plan, tenant, depot, place, facts)?;
     put_others(plan, tenant, depot, place, facts)
 }
@@ -136,7 +186,7 @@ fn put_sessions(
 ) -> Result<(), OutOfMemory>
     requires sound { IsPlan plan.now }
     requires tenant { tenant < length plan.now.rows }
-    ensures { (lacks : Bool) → AllFit (standing_of depot.now) → length depot.now.stock.sessions.items ≡ (row_at plan.now tenant).sessions → OnOk result (Wrote plan.now tenant (length depot.now.stock.sessions.items) facts.old.items facts.new.items (bare lacks) (lacking lacks (standing_of depot.now))) }
+    ensures { (lacks : Bool) → AllFit (standing_of depot.now) → GoneFits (length depot.now.stock.sessions.items) (standing_of depot.now) → length depot.now.stock.sessions.items ≡ (row_at plan.now tenant).sessions → OnOk result (Wrote plan.now tenant (length depot.now.stock.sessions.items) facts.old.items facts.new.items (bare lacks) (lacking lacks (standing_of depot.now))) }
 {
     let sessions = plan.row(tenant).sessions;
     for place in 0..sessions {

@@ -1,7 +1,8 @@
 -- A depot of which one session has changed.
 use Rattle.std.proofs.Common.{◌≡◌, ◌≢◌, ◌<◌, ◌+◌, ◌-◌, length-append, get_or, set, get_or-set_same, length-set, ℕ, zero, suc, Bool, true, false, List, [], ◌∷◌, length, Option, Some, None, refl, sym, ap, subst, ◌∙◌, arith}
-use Rattle.std.specs.Prelude.{All, ◌≤◌, ◌&&◌, nat_le, ◌++◌, slice_get, option_map, ◌==◌, IsSome, IfOk, MatchOption, Result, Ok, Err, if◌then◌else◌}
-use Rattle.std.proofs.lemmas.Bool.{and_from, le-leb, ne_eqb, eqb-true, eq-eqb, true≢false}
+use Rattle.std.specs.Prelude.{All, ◌≤◌, ◌&&◌, ◌||◌, nat_le, ◌++◌, slice_get, option_map, ◌==◌, IsSome, IfOk, MatchBool, MatchOption, Result, Ok, Err, if◌then◌else◌}
+use Rattle.std.proofs.lemmas.Bool.{and_from, and_parts, le-leb, leb-true, ne_eqb, eqb-true, eq-eqb, true≢false}
+use Rattle.std.proofs.lemmas.List.Folds.{list_any-append, list_any_at}
 use Rattle.std.proofs.lemmas.Option.{same_Some, slice_get-get_or, slice_get_within, get_or_from_slice_get}
 use Rattle.gq_shelf.specs.Notes.{Noted}
 use Rattle.gq_shelf.specs.Places.{content_at, long_at}
@@ -10,10 +11,10 @@ use Rattle.gq_shelf.specs.declared.place.Place.{Place}
 use Rattle.gq_ledger.specs.Ledgers.{book_of}
 use Rattle.gq_ledger.specs.Steps.{Book, Leads, Gives, with_at}
 use Rattle.gq_stock.proofs.Sessions.{others_stay}
-use Rattle.gq_stock.specs.Forgetting.{is_in_any, ForgotAs}
+use Rattle.gq_stock.specs.Forgetting.{is_in, is_in_any, ForgotAs}
 use Rattle.gq_stock.specs.Held.{Held, held_by, contents}
 use Rattle.gq_stock.specs.Keeping.{ChangesOnly, KeptAs}
-use Rattle.gq_stock.specs.Stocks.{ChangesIn, StaysIn, KeptIn, SureIn, LongIn, IsEmpty}
+use Rattle.gq_stock.specs.Stocks.{GivenIn, ChangesIn, StaysIn, KeptIn, SureIn, LongIn, IsEmpty}
 use Rattle.gq_stock.specs.Sure.{PlaceIsSure, IsSureOf, IsLongOf}
 use Rattle.gq_stock.proofs.Deeds.{new_there, same≢new, differs≢new, damaged≢new, below≢new, full≢new}
 use Rattle.gq_stock.specs.declared.chunk.Chunk.{Chunk}
@@ -29,10 +30,11 @@ use Rattle.gq_depot.specs.declared.answer.Answered.{Answered}
 use Rattle.gq_depot.specs.declared.answer.ChunkAnswer.{ChunkAnswer}
 use Rattle.gq_depot.specs.declared.answer.ChunkAnswer.TheVariants.{NoSession, Kept}
 use Rattle.gq_depot.specs.declared.answer.ListedChunk.{ListedChunk}
-use Rattle.gq_depot.specs.Depots.{Placed, place_in, placed_of, placed, book_in, standing_of, forgotten, after_fact, IsSame, LeadsTo, FactIsSure, bare, reads_fact, ReadsFact}
+use Rattle.gq_depot.specs.Depots.{Placed, place_in, placed_of, placed, book_in, is_gone, standing_of, forgotten, gone_after, after_fact, IsSame, LeadsTo, FactIsSure, bare, reads_fact, ReadsFact, StandsIn}
 use Rattle.gq_depot.specs.declared.limits.TheConstants.{MOST_CHUNK}
 use Rattle.gq_depot.specs.declared.depot.Depot.{Depot}
 use Rattle.gq_depot.specs.declared.fact.ChunkFact.{ChunkFact}
+use Rattle.gq_depot.specs.declared.gone.Gone.{Gone}
 use Rattle.gq_depot.specs.declared.fact.ChunkFact.TheVariants.{Put, Forgot, Filled}
 
 -- there is one at a place within the list
@@ -48,11 +50,11 @@ abbrev pub OthersStay : (old new : Depot) → ℕ → Type 0
 OthersStay old new p = (j : ℕ) → j ≢ p → slice_get new.stock.sessions.items j ≡ slice_get old.stock.sessions.items j
 
 -- the session at the place has what this makes of what it had
-pub one_book : (old new : Depot) (p s : ℕ) (f : Book Placed → Book Placed) (was is : Session) → s ≡ p + 1 → OthersStay old new p → new.lacks ≡ old.lacks →
+pub one_book : (old new : Depot) (p s : ℕ) (f : Book Placed → Book Placed) (g : ℕ → ℕ → Bool) (was is : Session) → s ≡ p + 1 → OthersStay old new p → new.lacks ≡ old.lacks → ((k n : ℕ) → (standing_of new).gone k n ≡ g k n) →
     slice_get old.stock.sessions.items p ≡ Some was → slice_get new.stock.sessions.items p ≡ Some is →
     ((m : ℕ) → (placed (book_of is.chunks)).at m ≡ (f (placed (book_of was.chunks))).at m) → (placed (book_of is.chunks)).floor ≡ (f (placed (book_of was.chunks))).floor →
-    IsSame (standing_of new) (record { books = λ k. if k == s - 1 then f ((standing_of old).books k) else (standing_of old).books k; lacks = old.lacks })
-one_book old new p s f was is number others lacks was_there is_there at floor = record { at = λ k m. at_by k m (k == s - 1) refl; floor = λ k. floor_by k (k == s - 1) refl; lacks = lacks }
+    IsSame (standing_of new) (record { books = λ k. if k == s - 1 then f ((standing_of old).books k) else (standing_of old).books k; gone = g; lacks = old.lacks })
+one_book old new p s f g was is number others lacks gone was_there is_there at floor = record { at = λ k m. at_by k m (k == s - 1) refl; floor = λ k. floor_by k (k == s - 1) refl; gone = gone; lacks = lacks }
   where
     place : (k : ℕ) → k ≡ s - 1 → k ≡ p
     place k e = omega (arith, e, number)
@@ -70,35 +72,42 @@ one_book old new p s f was is number others lacks was_there is_there at floor = 
         (ap (λ (o : Option Session). (book_in o).floor) is_there ∙ (floor ∙ sym (ap (λ (o : Option Session). (f (book_in o)).floor) was_there)))
     floor_by k false e = ap (λ (o : Option Session). (book_in o).floor) (others k (other k e))
 
+-- what was forgotten stays so
+pub gone_stays : (old new : Depot) → new.lacks ≡ old.lacks → new.gone.items ≡ old.gone.items → (k n : ℕ) → (standing_of new).gone k n ≡ (standing_of old).gone k n
+gone_stays old new lacks gone k n = ap (λ (xs : List Gone). new.lacks && is_gone xs k n) gone ∙ ap (λ (b : Bool). b && is_gone old.gone.items k n) lacks
+
 -- a chunk is under the number
-pub put_same : (old new : Depot) (p s n : ℕ) (sure : Bool) (at : Place) (was is : Session) → s ≡ p + 1 → OthersStay old new p → new.lacks ≡ old.lacks →
+pub put_same : (old new : Depot) (p s n : ℕ) (sure : Bool) (at : Place) (was is : Session) → s ≡ p + 1 → OthersStay old new p → new.lacks ≡ old.lacks → new.gone.items ≡ old.gone.items →
     slice_get old.stock.sessions.items p ≡ Some was → slice_get new.stock.sessions.items p ≡ Some is →
     ChangesOnly (book_of was.chunks) n (book_of is.chunks) → option_map placed_of ((book_of is.chunks).at n) ≡ Some (record { place = at; is_sure = sure }) →
     IsSame (standing_of new) (after_fact (Some (Put s n sure at)) (standing_of old))
-put_same old new p s n sure at was is number others lacks was_there is_there alone stands =
-    one_book old new p s (λ b. with_at b n (Some (record { place = at; is_sure = sure }))) was is number others lacks was_there is_there (λ m. under m (m == n) refl) alone.floor
+put_same old new p s n sure at was is number others lacks gone was_there is_there alone stands =
+    one_book old new p s (λ b. with_at b n (Some (record { place = at; is_sure = sure }))) (standing_of old).gone was is number others lacks (gone_stays old new lacks gone) was_there is_there (λ m. under m (m == n) refl) alone.floor
   where
     under : (m : ℕ) (b : Bool) → (m == n) ≡ b → option_map placed_of ((book_of is.chunks).at m) ≡ (if b then Some (record { place = at; is_sure = sure }) else option_map placed_of ((book_of was.chunks).at m))
     under m true e = ap (λ (z : ℕ). option_map placed_of ((book_of is.chunks).at z)) (eqb-true m n e) ∙ stands
     under m false e = ap (option_map placed_of) (alone.others m (λ same. true≢false (sym (eq-eqb m n same) ∙ e)))
 
 -- numbers are forgotten
-pub forgot_same : (old new : Depot) (p s floor : ℕ) (run : Run) (was is : Session) → s ≡ p + 1 → OthersStay old new p → new.lacks ≡ old.lacks →
+pub forgot_same : (old new : Depot) (p s floor : ℕ) (run : Run) (was is : Session) → s ≡ p + 1 → OthersStay old new p → new.lacks ≡ old.lacks → ((k n : ℕ) → (standing_of new).gone k n ≡ gone_after (standing_of old) p run k n) →
     slice_get old.stock.sessions.items p ≡ Some was → slice_get new.stock.sessions.items p ≡ Some is →
     ForgotAs (book_of was.chunks) floor (run ∷ []) (book_of is.chunks) →
     IsSame (standing_of new) (after_fact (Some (Forgot s floor run)) (standing_of old))
-forgot_same old new p s floor run was is number others lacks was_there is_there forgot =
-    one_book old new p s (λ b. forgotten b floor run) was is number others lacks was_there is_there (λ m. ap (option_map placed_of) (forgot.at m) ∙ gone (is_in_any m (run ∷ [])) ((book_of was.chunks).at m)) forgot.risen
+forgot_same old new p s floor run was is number others lacks noted was_there is_there forgot =
+    one_book old new p s (λ b. forgotten b floor run) (gone_after (standing_of old) (s - 1) run) was is number others lacks (λ k n. noted k n ∙ ap (λ (place : ℕ). gone_after (standing_of old) place run k n) (sym place)) was_there is_there (λ m. ap (option_map placed_of) (forgot.at m) ∙ gone (is_in_any m (run ∷ [])) ((book_of was.chunks).at m)) forgot.risen
   where
+    place : s - 1 ≡ p
+    place = omega (arith, number)
+
     gone : (b : Bool) (o : Option Chunk) → option_map placed_of (if b then None else o) ≡ (if b then None else option_map placed_of o)
     gone true o = refl
     gone false o = refl
 
 -- nothing changes
-pub stays_same : (old new : Depot) (p : ℕ) (was is : Session) → OthersStay old new p → new.lacks ≡ old.lacks →
+pub stays_same : (old new : Depot) (p : ℕ) (was is : Session) → OthersStay old new p → new.lacks ≡ old.lacks → new.gone.items ≡ old.gone.items →
     slice_get old.stock.sessions.items p ≡ Some was → slice_get new.stock.sessions.items p ≡ Some is →
     book_of is.chunks ≡ book_of was.chunks → IsSame (standing_of new) (standing_of old)
-stays_same old new p was is others lacks was_there is_there same = record { at = λ k m. ap (λ (b : Book Placed). b.at m) (books k (k == p) refl); floor = λ k. ap (λ (b : Book Placed). b.floor) (books k (k == p) refl); lacks = lacks }
+stays_same old new p was is others lacks gone was_there is_there same = record { at = λ k m. ap (λ (b : Book Placed). b.at m) (books k (k == p) refl); floor = λ k. ap (λ (b : Book Placed). b.floor) (books k (k == p) refl); gone = gone_stays old new lacks gone; lacks = lacks }
   where
     books : (k : ℕ) (b : Bool) → (k == p) ≡ b → book_in (slice_get new.stock.sessions.items k) ≡ book_in (slice_get old.stock.sessions.items k)
     books k true e = subst (λ (z : ℕ). book_in (slice_get new.stock.sessions.items z) ≡ book_in (slice_get old.stock.sessions.items z)) (sym (eqb-true k p e))
@@ -110,28 +119,28 @@ stays_same old new p was is others lacks was_there is_there same = record { at =
 abbrev pub Keeps : (old new : Depot) → (p n : ℕ) → Keeping → Type 0
 Keeps old new p n told = (told ≡ New → ChangesIn old.stock.sessions.items p n new.stock.sessions.items) × (told ≢ New → StaysIn old.stock.sessions.items p new.stock.sessions.items)
 
-same_by : (old new : Depot) (p s n : ℕ) (told : Keeping) (fact : Option ChunkFact) (was is : Session) → s ≡ p + 1 → OthersStay old new p → new.lacks ≡ old.lacks →
+same_by : (old new : Depot) (p s n : ℕ) (told : Keeping) (fact : Option ChunkFact) (was is : Session) → s ≡ p + 1 → OthersStay old new p → new.lacks ≡ old.lacks → new.gone.items ≡ old.gone.items →
     slice_get old.stock.sessions.items p ≡ Some was → slice_get new.stock.sessions.items p ≡ Some is →
     Keeps old new p n told → GivesFor told (book_of is.chunks) s n fact → IsSame (standing_of new) (after_fact fact (standing_of old))
-same_by old new p s n New (Some (Put s' n' sure at)) was is number others lacks was_there is_there keeps gives =
+same_by old new p s n New (Some (Put s' n' sure at)) was is number others lacks gone was_there is_there keeps gives =
     subst (λ (z : ℕ). IsSame (standing_of new) (after_fact (Some (Put z n' sure at)) (standing_of old))) (sym gives.0)
     (subst (λ (z : ℕ). IsSame (standing_of new) (after_fact (Some (Put s z sure at)) (standing_of old))) (sym gives.1)
-    (put_same old new p s n sure at was is number others lacks was_there is_there (keeps.0 refl was is was_there is_there) gives.2))
-same_by old new p s n New (Some (Forgot s' floor run)) was is number others lacks was_there is_there keeps gives = absurd gives
-same_by old new p s n New (Some Filled) was is number others lacks was_there is_there keeps gives = absurd gives
-same_by old new p s n New None was is number others lacks was_there is_there keeps gives = absurd gives
-same_by old new p s n Same fact was is number others lacks was_there is_there keeps gives = subst (λ (f : Option ChunkFact). IsSame (standing_of new) (after_fact f (standing_of old))) (sym gives) (stays_same old new p was is others lacks was_there is_there (keeps.1 same≢new was is was_there is_there))
-same_by old new p s n Differs fact was is number others lacks was_there is_there keeps gives = subst (λ (f : Option ChunkFact). IsSame (standing_of new) (after_fact f (standing_of old))) (sym gives) (stays_same old new p was is others lacks was_there is_there (keeps.1 differs≢new was is was_there is_there))
-same_by old new p s n Damaged fact was is number others lacks was_there is_there keeps gives = subst (λ (f : Option ChunkFact). IsSame (standing_of new) (after_fact f (standing_of old))) (sym gives) (stays_same old new p was is others lacks was_there is_there (keeps.1 damaged≢new was is was_there is_there))
-same_by old new p s n Below fact was is number others lacks was_there is_there keeps gives = subst (λ (f : Option ChunkFact). IsSame (standing_of new) (after_fact f (standing_of old))) (sym gives) (stays_same old new p was is others lacks was_there is_there (keeps.1 below≢new was is was_there is_there))
-same_by old new p s n Full fact was is number others lacks was_there is_there keeps gives = subst (λ (f : Option ChunkFact). IsSame (standing_of new) (after_fact f (standing_of old))) (sym gives) (stays_same old new p was is others lacks was_there is_there (keeps.1 full≢new was is was_there is_there))
+    (put_same old new p s n sure at was is number others lacks gone was_there is_there (keeps.0 refl was is was_there is_there) gives.2))
+same_by old new p s n New (Some (Forgot s' floor run)) was is number others lacks gone was_there is_there keeps gives = absurd gives
+same_by old new p s n New (Some Filled) was is number others lacks gone was_there is_there keeps gives = absurd gives
+same_by old new p s n New None was is number others lacks gone was_there is_there keeps gives = absurd gives
+same_by old new p s n Same fact was is number others lacks gone was_there is_there keeps gives = subst (λ (f : Option ChunkFact). IsSame (standing_of new) (after_fact f (standing_of old))) (sym gives) (stays_same old new p was is others lacks gone was_there is_there (keeps.1 same≢new was is was_there is_there))
+same_by old new p s n Differs fact was is number others lacks gone was_there is_there keeps gives = subst (λ (f : Option ChunkFact). IsSame (standing_of new) (after_fact f (standing_of old))) (sym gives) (stays_same old new p was is others lacks gone was_there is_there (keeps.1 differs≢new was is was_there is_there))
+same_by old new p s n Damaged fact was is number others lacks gone was_there is_there keeps gives = subst (λ (f : Option ChunkFact). IsSame (standing_of new) (after_fact f (standing_of old))) (sym gives) (stays_same old new p was is others lacks gone was_there is_there (keeps.1 damaged≢new was is was_there is_there))
+same_by old new p s n Below fact was is number others lacks gone was_there is_there keeps gives = subst (λ (f : Option ChunkFact). IsSame (standing_of new) (after_fact f (standing_of old))) (sym gives) (stays_same old new p was is others lacks gone was_there is_there (keeps.1 below≢new was is was_there is_there))
+same_by old new p s n Full fact was is number others lacks gone was_there is_there keeps gives = subst (λ (f : Option ChunkFact). IsSame (standing_of new) (after_fact f (standing_of old))) (sym gives) (stays_same old new p was is others lacks gone was_there is_there (keeps.1 full≢new was is was_there is_there))
 
-pub leads_by : (old new : Depot) (p s n : ℕ) (told : Keeping) (fact : Option ChunkFact) → s ≡ p + 1 → p < length old.stock.sessions.items → length new.stock.sessions.items ≡ length old.stock.sessions.items → new.stock.allowed ≡ old.stock.allowed → new.lacks ≡ old.lacks →
+pub leads_by : (old new : Depot) (p s n : ℕ) (told : Keeping) (fact : Option ChunkFact) → s ≡ p + 1 → p < length old.stock.sessions.items → length new.stock.sessions.items ≡ length old.stock.sessions.items → new.stock.allowed ≡ old.stock.allowed → new.lacks ≡ old.lacks → new.gone.items ≡ old.gone.items →
     OthersStay old new p → Keeps old new p n told → In new.stock.sessions.items p (λ session. GivesFor told (book_of session.chunks) s n fact) → LeadsTo old fact new
-leads_by old new p s n told fact number within long allowed lacks others keeps gives =
+leads_by old new p s n told fact number within long allowed lacks gone others keeps gives =
     let was : (x : Session) × (slice_get old.stock.sessions.items p ≡ Some x) = there old.stock.sessions.items p within in
     let is : (x : Session) × (slice_get new.stock.sessions.items p ≡ Some x) = there new.stock.sessions.items p (omega (arith, within, long)) in
-    record { standing = same_by old new p s n told fact was.0 is.0 number others lacks was.1 is.1 keeps (gives is.0 is.1); sessions = long; allowed = allowed }
+    record { standing = same_by old new p s n told fact was.0 is.0 number others lacks gone was.1 is.1 keeps (gives is.0 is.1); sessions = long; allowed = allowed }
 
 -- ---- what is told and given
 
@@ -231,9 +240,13 @@ reads_by news p s n sessions {long} told fact number within same few is_long giv
     by Full f is at its g = subst (λ (z : Option ChunkFact). ReadsFact sessions z) (sym g) tt
 
 -- a depot that is new has nothing
-pub bare_new : (depot : Depot) (lacks : Bool) → All IsEmpty depot.stock.sessions.items → depot.lacks ≡ lacks → IsSame (standing_of depot) (bare lacks)
-bare_new depot lacks empty is = record { at = λ k n. at_by k n (slice_get depot.stock.sessions.items k) refl; floor = λ k. floor_by k (slice_get depot.stock.sessions.items k) refl; lacks = is }
+pub bare_new : (depot : Depot) (lacks : Bool) → All IsEmpty depot.stock.sessions.items → depot.lacks ≡ lacks → depot.gone.items ≡ [] → IsSame (standing_of depot) (bare lacks)
+bare_new depot lacks empty is none = record { at = λ k n. at_by k n (slice_get depot.stock.sessions.items k) refl; floor = λ k. floor_by k (slice_get depot.stock.sessions.items k) refl; gone = λ k n. ap (λ (xs : List Gone). depot.lacks && is_gone xs k n) none ∙ never depot.lacks; lacks = is }
   where
+    never : (b : Bool) → (b && false) ≡ false
+    never true = refl
+    never false = refl
+
     its : (k : ℕ) (session : Session) → slice_get depot.stock.sessions.items k ≡ Some session → IsEmpty session
     its k session e = subst IsEmpty (get_or_from_slice_get depot.stock.sessions.items k session session e) (empty k session (slice_get_within depot.stock.sessions.items k session e))
 
@@ -246,11 +259,12 @@ bare_new depot lacks empty is = record { at = λ k n. at_by k n (slice_get depot
     floor_by k (Some session) e = (its k session e).floor
 
 -- what is not of the stock and of what is lacked plays no part
-pub leads_on : (old mid new : Depot) (fact : Option ChunkFact) → LeadsTo old fact mid → new.stock ≡ mid.stock → new.lacks ≡ mid.lacks → LeadsTo old fact new
-leads_on old mid new fact leads stock lacks = record {
+pub leads_on : (old mid new : Depot) (fact : Option ChunkFact) → LeadsTo old fact mid → new.stock ≡ mid.stock → new.lacks ≡ mid.lacks → new.gone.items ≡ mid.gone.items → LeadsTo old fact new
+leads_on old mid new fact leads stock lacks gone = record {
   standing = record {
     at = λ k n. ap (λ (x : Stock). (book_in (slice_get x.sessions.items k)).at n) stock ∙ leads.standing.at k n;
     floor = λ k. ap (λ (x : Stock). (book_in (slice_get x.sessions.items k)).floor) stock ∙ leads.standing.floor k;
+    gone = λ k n. gone_stays mid new lacks gone k n ∙ leads.standing.gone k n;
     lacks = lacks ∙ leads.standing.lacks;
   };
   sessions = ap (λ (x : Stock). length x.sessions.items) stock ∙ leads.sessions;
@@ -323,11 +337,11 @@ looked C written sessions p n there it found there_is it_is as_there = subst (λ
 
 -- a chunk is put there, whatever was
 pub given_leads : (old new : Depot) (p s n : ℕ) (chunk : Chunk) (d is : Session) → s ≡ p + 1 → p < length old.stock.sessions.items → d ≡ get_or old.stock.sessions.items p d → Leads (book_of d.chunks) (Gives n chunk) (book_of is.chunks) →
-    new.stock.sessions.items ≡ set old.stock.sessions.items p is → new.stock.allowed ≡ old.stock.allowed → new.lacks ≡ old.lacks → LeadsTo old (Some (Put s n chunk.is_sure chunk.place)) new
-given_leads old new p s n chunk d is number lt d_is leads set_is allowed lacks =
+    new.stock.sessions.items ≡ set old.stock.sessions.items p is → new.stock.allowed ≡ old.stock.allowed → new.lacks ≡ old.lacks → new.gone.items ≡ old.gone.items → LeadsTo old (Some (Put s n chunk.is_sure chunk.place)) new
+given_leads old new p s n chunk d is number lt d_is leads set_is allowed lacks gone =
     let within : p < length (set old.stock.sessions.items p is) = omega (arith, length-set old.stock.sessions.items p is, lt) in record {
       standing = put_same old new p s n chunk.is_sure chunk.place d is number
-          (λ j other. ap (λ (xs : List Session). slice_get xs j) set_is ∙ others_stay old.stock.sessions.items p j is other) lacks
+          (λ j other. ap (λ (xs : List Session). slice_get xs j) set_is ∙ others_stay old.stock.sessions.items p j is other) lacks gone
           (slice_get-get_or old.stock.sessions.items p d lt ∙ ap (λ (x : Session). Some x) (sym d_is))
           (ap (λ (xs : List Session). slice_get xs p) set_is ∙ (slice_get-get_or (set old.stock.sessions.items p is) p is within ∙ ap (λ (x : Session). Some x) (get_or-set_same old.stock.sessions.items p is is lt)))
           (record { others = λ m other. leads.at m ∙ ap (λ (t : Bool). if t then Some chunk else (book_of d.chunks).at m) (ne_eqb m n other); floor = leads.floor })
@@ -335,3 +349,94 @@ given_leads old new p s n chunk d is number lt d_is leads set_is allowed lacks =
       sessions = ap (λ (xs : List Session). length xs) set_is ∙ length-set old.stock.sessions.items p is;
       allowed = allowed;
     }
+
+-- ---- what is forgotten while chunks are lacked
+
+-- one more is noted
+pub noted_more : (old new : Depot) (place : ℕ) (run : Run) → new.lacks ≡ old.lacks → new.gone.items ≡ old.gone.items ++ record { place = place; run = run } ∷ [] → old.lacks ≡ true → (k n : ℕ) → (standing_of new).gone k n ≡ gone_after (standing_of old) place run k n
+noted_more old new place run lacks gone is k n =
+    ap (λ (xs : List Gone). new.lacks && is_gone xs k n) gone
+    ∙ (ap (λ (b : Bool). b && is_gone (old.gone.items ++ record { place = place; run = run } ∷ []) k n) (lacks ∙ is)
+    ∙ (list_any-append (λ (one : Gone). (k == one.place) && is_in n one.run) old.gone.items (record { place = place; run = run } ∷ [])
+    ∙ (one (is_gone old.gone.items k n) ((k == place) && is_in n run) ∙ sym (ap (λ (b : Bool). (b && is_gone old.gone.items k n) || (b && ((k == place) && is_in n run))) is))))
+  where
+    one : (a b : Bool) → (a || (b || false)) ≡ (a || b)
+    one true b = refl
+    one false true = refl
+    one false false = refl
+
+-- nothing is noted where nothing is lacked
+pub noted_nothing : (old : Depot) (place : ℕ) (run : Run) → old.lacks ≡ false → (k n : ℕ) → (standing_of old).gone k n ≡ gone_after (standing_of old) place run k n
+noted_nothing old place run is k n = ap (λ (b : Bool). b && is_gone old.gone.items k n) is ∙ sym (ap (λ (b : Bool). (b && is_gone old.gone.items k n) || (b && ((k == place) && is_in n run))) is)
+
+-- a run that has no number
+pub noted_none : (old : Depot) (place : ℕ) (run : Run) → run.last < run.first → (k n : ℕ) → (standing_of old).gone k n ≡ gone_after (standing_of old) place run k n
+noted_none old place run below k n = sym (ap (λ (b : Bool). (old.lacks && is_gone old.gone.items k n) || (old.lacks && ((k == place) && b))) (none (nat_le run.first n) refl (nat_le n run.last) refl) ∙ nothing old.lacks (is_gone old.gone.items k n) (k == place))
+  where
+    none : (a : Bool) → nat_le run.first n ≡ a → (b : Bool) → nat_le n run.last ≡ b → is_in n run ≡ false
+    none true e true f = absurd (never (leb-true run.first n e) (leb-true n run.last f))
+      where
+        never : run.first ≤ n → n ≤ run.last → ⊥
+        never le ge = omega (arith, below, le, ge)
+    none false e b f = ap (λ (t : Bool). t && nat_le n run.last) e
+    none true e false f = ap (λ (t : Bool). t && nat_le n run.last) e ∙ f
+
+    nothing : (l a b : Bool) → ((l && a) || (l && (b && false))) ≡ (l && a)
+    nothing true true b = refl
+    nothing true false true = refl
+    nothing true false false = refl
+    nothing false a b = refl
+
+-- one that is noted already
+pub noted_already : (old : Depot) (place : ℕ) (run : Run) → ((k n : ℕ) → ((k == place) && is_in n run) ≡ true → is_gone old.gone.items k n ≡ true) → (k n : ℕ) → (standing_of old).gone k n ≡ gone_after (standing_of old) place run k n
+noted_already old place run covered k n = by old.lacks (is_gone old.gone.items k n) refl ((k == place) && is_in n run) refl
+  where
+    by : (l a : Bool) → is_gone old.gone.items k n ≡ a → (b : Bool) → ((k == place) && is_in n run) ≡ b → (l && is_gone old.gone.items k n) ≡ ((l && is_gone old.gone.items k n) || (l && ((k == place) && is_in n run)))
+    by false a e b f = refl
+    by true true e b f = e ∙ sym (ap (λ (t : Bool). t || ((k == place) && is_in n run)) e)
+    by true false e true f = absurd (true≢false (sym (covered k n f) ∙ e))
+    by true false e false f = sym (ap (λ (t : Bool). is_gone old.gone.items k n || t) f ∙ or_false (is_gone old.gone.items k n))
+      where
+        or_false : (x : Bool) → (x || false) ≡ x
+        or_false true = refl
+        or_false false = refl
+
+-- its test, as it goes along the list
+pub covered_by : (gone : List Gone) (place : ℕ) (run : Run) (one : Gone) (i : ℕ) → i < length gone → one ≡ get_or gone i one → one.place ≡ place → one.run.first ≤ run.first → run.last ≤ one.run.last → (k n : ℕ) → ((k == place) && is_in n run) ≡ true → is_gone gone k n ≡ true
+covered_by gone place run one i lt is same first last k n e =
+    let parts = and_parts (k == place) (is_in n run) e in
+    let ends = and_parts (nat_le run.first n) (nat_le n run.last) parts.1 in
+    let low : run.first ≤ n = leb-true run.first n ends.0 in
+    let high : n ≤ run.last = leb-true n run.last ends.1 in
+    let here : ((k == one.place) && is_in n one.run) ≡ true = and_from (k == one.place) (is_in n one.run) (ap (λ (z : ℕ). k == z) same ∙ parts.0) (and_from (nat_le one.run.first n) (nat_le n one.run.last) (le-leb one.run.first n (omega (arith, first, low))) (le-leb n one.run.last (omega (arith, last, high)))) in
+    list_any_at (λ (x : Gone). (k == x.place) && is_in n x.run) gone i one lt (subst (λ (x : Gone). ((k == x.place) && is_in n x.run) ≡ true) is here)
+
+-- ---- what a peer gives
+
+pub give_leads : (old mid new : Depot) (p s n : ℕ) (fact : ChunkFact) → s ≡ p + 1 → p < length old.stock.sessions.items → length mid.stock.sessions.items ≡ length old.stock.sessions.items → mid.stock.allowed ≡ old.stock.allowed → mid.lacks ≡ old.lacks → mid.gone.items ≡ old.gone.items → OthersStay old mid p →
+    ChangesIn old.stock.sessions.items p n mid.stock.sessions.items → new.stock ≡ mid.stock → new.lacks ≡ mid.lacks → new.gone.items ≡ mid.gone.items → In mid.stock.sessions.items p (λ session. StandsIn (book_of session.chunks) s n fact) → LeadsTo old (Some fact) new
+give_leads old mid new p s n fact number within long allowed lacks gone others changes stock lacks_same gone_same stands =
+    leads_on old mid new (Some fact)
+    (leads_by old mid p s n New (Some fact) number within long allowed lacks gone others ((λ same. changes), (λ other. absurd (other refl))) stands)
+    stock lacks_same gone_same
+
+pub stands_still : (was is : Stock) (p s n : ℕ) (fact : ChunkFact) → is ≡ was → In is.sessions.items p (λ session. StandsIn (book_of session.chunks) s n fact) → In was.sessions.items p (λ session. StandsIn (book_of session.chunks) s n fact)
+stands_still was is p s n fact same stands = subst (λ (x : Stock). In x.sessions.items p (λ session. StandsIn (book_of session.chunks) s n fact)) same stands
+
+pub put_given : (written : Extent → List ℕ) (news : List Session) (p s n : ℕ) (bytes : List ℕ) (fact : ChunkFact) → p < length news → GivenIn written news p n bytes → In news p (λ session. StandsIn (book_of session.chunks) s n fact) → PutIs written s n true bytes (Some fact)
+put_given written news p s n bytes fact within given stands =
+    let is : (x : Session) × (slice_get news p ≡ Some x) = there news p within in
+    by fact is.0 (given is.0 is.1) (stands is.0 is.1)
+  where
+    by : (f : ChunkFact) (is : Session) → (contents written (book_of is.chunks)).at n ≡ Some (record { bytes = bytes; is_sure = true }) → StandsIn (book_of is.chunks) s n f → PutIs written s n true bytes (Some f)
+    by (Put s' n' is_sure place) is held st =
+        let same : Some (record { bytes = content_at written place; is_sure = is_sure }) ≡ Some (record { bytes = bytes; is_sure = true }) = sym (held_placed written ((book_of is.chunks).at n) place is_sure st.2) ∙ held in
+        let it = same_Some (record { bytes = content_at written place; is_sure = is_sure }) (record { bytes = bytes; is_sure = true }) same in
+        (st.0, st.1, ap (λ (h : Held). h.is_sure) it, ap (λ (h : Held). h.bytes) it)
+    by (Forgot s' floor run) is held st = absurd st
+    by Filled is held st = absurd st
+
+pub match_both : (a b : Bool) (P Q : Type 0) → a ≡ true → b ≡ true → P → MatchBool (a && b) P Q
+match_both true true P Q e f holds = holds
+match_both true false P Q e f holds = absurd (true≢false (sym f))
+match_both false b P Q e f holds = absurd (true≢false (sym e))

@@ -1,18 +1,19 @@
 -- Tenants are apart, and facts make again what there was.
 use Rattle.std.proofs.Common.{◌≡◌, ◌≢◌, ◌<◌, ◌-◌, ℕ, zero, suc, Bool, true, false, List, [], ◌∷◌, length, get_or, set, get_or-set_same, length-set, Option, Some, None, refl, sym, ap, subst, ◌∙◌, arith}
-use Rattle.std.specs.Prelude.{◌==◌, slice_get, max, if◌then◌else◌}
+use Rattle.std.specs.Prelude.{◌==◌, ◌&&◌, ◌||◌, slice_get, max, if◌then◌else◌}
 use Rattle.std.proofs.lemmas.Bool.{eqb-true, eq-eqb, true≢false}
 use Rattle.std.proofs.lemmas.Option.{same_Some, slice_get-get_or}
 use Rattle.gq_shelf.specs.Notes.{Noted}
 use Rattle.gq_ledger.specs.Steps.{Book, with_at}
-use Rattle.gq_stock.specs.Forgetting.{is_in_any}
+use Rattle.gq_stock.specs.Forgetting.{is_in, is_in_any}
 use Rattle.gq_depot.specs.Depots.{Placed, Standing, standing_of, forgotten, after_fact, IsSame}
-use Rattle.gq_depot.specs.Tenants.{Step, TakesOwn}
-use Rattle.gq_depot.specs.Laws.{Did, Ran, RanAlone, own_with, own, Apart, after_all, FactsRemake}
+use Rattle.gq_depot.specs.Tenants.{Step, TakesOwn, FillStep, FillsOwn}
+use Rattle.gq_depot.specs.Laws.{Did, Deed, Asked, Filled, fact_of, Does, DoesOwn, Ran, RanAlone, own_with, own, Apart, after_all, FactsRemake}
 use Rattle.gq_depot.specs.declared.answer.Answered.{Answered}
 use Rattle.gq_depot.specs.declared.depot.Depot.{Depot}
 use Rattle.gq_depot.specs.declared.fact.ChunkFact.{ChunkFact}
-use Rattle.gq_depot.specs.declared.fact.ChunkFact.TheVariants.{Put, Forgot, Filled}
+use Rattle.gq_depot.specs.declared.fact.ChunkFact.TheVariants as Fact
+use Rattle.gq_depot.specs.declared.filling.Filling.{Filling}
 use Rattle.gq_depot.specs.declared.request.ChunkRequest.{ChunkRequest}
 use Rattle.gq_depot.proofs.Standing.{there}
 
@@ -25,7 +26,14 @@ takes_own noted losses olds t d new request answered lt is step old now was afte
     let last : now ≡ new = same_Some now new (sym after ∙ (slice_get-get_or (set olds t new) t new within ∙ ap (λ (x : Depot). Some x) (get_or-set_same olds t new new lt))) in
     subst (λ (x : Depot). Step noted losses x request answered now) (sym first) (subst (λ (x : Depot). Step noted losses d request answered x) (sym last) step)
 
--- ---- any requests
+pub fills_own : (noted : Noted) (olds : List Depot) (t : ℕ) (d new : Depot) (filling : Filling) (fact : Option ChunkFact) → t < length olds → d ≡ get_or olds t d → FillStep noted d filling fact new → FillsOwn noted olds t filling fact (set olds t new)
+fills_own noted olds t d new filling fact lt is step old now was after =
+    let within : t < length (set olds t new) = omega (arith, length-set olds t new) in
+    let first : old ≡ d = same_Some old d (sym was ∙ (slice_get-get_or olds t d lt ∙ ap (λ (x : Depot). Some x) (sym is))) in
+    let last : now ≡ new = same_Some now new (sym after ∙ (slice_get-get_or (set olds t new) t new within ∙ ap (λ (x : Depot). Some x) (get_or-set_same olds t new new lt))) in
+    subst (λ (x : Depot). FillStep noted x filling fact now) (sym first) (subst (λ (x : Depot). FillStep noted d filling fact x) (sym last) step)
+
+-- ---- any requests, and what peers give
 
 pub within : {X : Type 0} (xs : List X) (t : ℕ) (x : X) → slice_get xs t ≡ Some x → t < length xs
 within {X} [] t x is = absurd (none x is)
@@ -69,25 +77,31 @@ floors_same false f x y changed same = same
 
 pub after_same : (fact : Option ChunkFact) (a b : Standing) → IsSame a b → IsSame (after_fact fact a) (after_fact fact b)
 after_same None a b same = same
-after_same (Some (Put s n sure place)) a b same =
+after_same (Some (Fact.Put s n sure place)) a b same =
     let f : Book Placed → Book Placed = λ x. with_at x n (Some (record { place = place; is_sure = sure })) in record {
       at = λ k m. books_same (k == s - 1) f (a.books k) (b.books k) m (ap (λ (o : Option Placed). if m == n then Some (record { place = place; is_sure = sure }) else o) (same.at k m)) (same.at k m);
       floor = λ k. floors_same (k == s - 1) f (a.books k) (b.books k) (same.floor k) (same.floor k);
+      gone = same.gone;
       lacks = same.lacks;
     }
-after_same (Some (Forgot s floor run)) a b same =
+after_same (Some (Fact.Forgot s floor run)) a b same =
     let f : Book Placed → Book Placed = λ x. forgotten x floor run in record {
       at = λ k m. books_same (k == s - 1) f (a.books k) (b.books k) m (ap (λ (o : Option Placed). if is_in_any m (run ∷ []) then None else o) (same.at k m)) (same.at k m);
       floor = λ k. floors_same (k == s - 1) f (a.books k) (b.books k) (ap (λ (x : ℕ). max x floor) (same.floor k)) (same.floor k);
+      gone = λ k m. ap (λ (x : Bool). x || (a.lacks && ((k == s - 1) && is_in m run))) (same.gone k m) ∙ ap (λ (x : Bool). b.gone k m || (x && ((k == s - 1) && is_in m run))) same.lacks;
       lacks = same.lacks;
     }
-after_same (Some Filled) a b same = record { at = same.at; floor = same.floor; lacks = refl }
+after_same (Some Fact.Filled) a b same = record { at = same.at; floor = same.floor; gone = λ k n. refl; lacks = refl }
 
 pub same_on : (a b c : Standing) → IsSame a b → IsSame b c → IsSame a c
-same_on a b c one two = record { at = λ k n. one.at k n ∙ two.at k n; floor = λ k. one.floor k ∙ two.floor k; lacks = one.lacks ∙ two.lacks }
+same_on a b c one two = record { at = λ k n. one.at k n ∙ two.at k n; floor = λ k. one.floor k ∙ two.floor k; gone = λ k n. one.gone k n ∙ two.gone k n; lacks = one.lacks ∙ two.lacks }
 
 pub facts_remake : FactsRemake
-facts_remake losses first now [] ran = subst (λ (x : Depot). IsSame (standing_of x) (standing_of first)) (sym ran) (record { at = λ k n. refl; floor = λ k. refl; lacks = refl })
+facts_remake losses first now [] ran = subst (λ (x : Depot). IsSame (standing_of x) (standing_of first)) (sym ran) (record { at = λ k n. refl; floor = λ k. refl; gone = λ k n. refl; lacks = refl })
 facts_remake losses first now (did ∷ before) (mid, ran, step) =
-    same_on (standing_of now) (after_fact did.answered.fact (standing_of mid)) (after_all (did ∷ before) (standing_of first)) step.leads.standing
-    (after_same did.answered.fact (standing_of mid) (after_all before (standing_of first)) (facts_remake losses first mid before ran))
+    same_on (standing_of now) (after_fact (fact_of did.deed) (standing_of mid)) (after_all (did ∷ before) (standing_of first)) (leads did.deed step)
+    (after_same (fact_of did.deed) (standing_of mid) (after_all before (standing_of first)) (facts_remake losses first mid before ran))
+  where
+    leads : (deed : Deed) → Does did.noted losses mid deed now → IsSame (standing_of now) (after_fact (fact_of deed) (standing_of mid))
+    leads (Asked request answered) step = step.leads.standing
+    leads (Filled filling fact) step = step.leads.standing

@@ -16,7 +16,7 @@ use Rattle.gq_stock.specs.declared.keeping.Keeping.TheVariants.{New, Damaged}
 use Rattle.gq_stock.specs.declared.run.Run.{Run}
 use Rattle.gq_stock.specs.declared.session.Session.{Session}
 use Rattle.gq_depot.specs.Depots.{place_in, StandsIn}
-use Rattle.gq_depot.specs.declared.limits.TheConstants.{MOST_CHUNK, MOST_LISTED}
+use Rattle.gq_depot.specs.declared.limits.TheConstants.{MOST_CHUNK, MOST_GONE, MOST_LISTED}
 use Rattle.gq_depot.specs.declared.answer.ChunkAnswer.{ChunkAnswer}
 use Rattle.gq_depot.specs.declared.answer.ChunkAnswer.TheVariants as Told
 use Rattle.gq_depot.specs.declared.answer.ListedChunk.{ListedChunk}
@@ -102,17 +102,29 @@ abbrev pub ForgotAt : (new : Depot) → (place s : ℕ) → Run → ChunkAnswer 
 ForgotAt new place s run (Told.Forgot s' floor run') = (s' ≡ s) × (run' ≡ run) × In new.stock.sessions.items place (λ session. floor ≡ (book_of session.chunks).floor)
 ForgotAt new place s run _ = ⊥
 
+-- while chunks are lacked no more runs of numbers are forgotten than so many
+abbrev pub is_full : Depot → Run → Bool
+is_full depot run = depot.lacks && (nat_le run.first run.last && nat_le MOST_GONE (length depot.gone.items))
+
+abbrev pub ForgetIn : (is_full : Bool) → (new : Depot) → (place s floor : ℕ) → Run → ChunkAnswer → Type 0
+ForgetIn true new place s floor run answer = answer ≡ Told.Lacking s floor
+ForgetIn false new place s floor run answer = ForgotAt new place s run answer
+
 -- no number above the floor is forgotten
 abbrev pub ForgetTellsBy : (is_within : Bool) → Depot → (s floor : ℕ) → Run → (new : Depot) → ChunkAnswer → Type 0
 ForgetTellsBy false depot s floor run new answer = answer ≡ Told.Bad
-ForgetTellsBy true depot s floor run new answer = BySession depot s (answer ≡ Told.NoSession s floor) (λ place. ForgotAt new place s run answer)
+ForgetTellsBy true depot s floor run new answer = BySession depot s (answer ≡ Told.NoSession s floor) (λ place. ForgetIn (is_full depot run) new place s floor run answer)
 
 abbrev pub ForgetTells : Depot → (s floor : ℕ) → Run → (new : Depot) → ChunkAnswer → Type 0
 ForgetTells depot s floor run new answer = ForgetTellsBy (nat_le run.last floor) depot s floor run new answer
 
+abbrev pub ForgetGivesIn : (is_full : Bool) → (s floor : ℕ) → Run → Option ChunkFact → Type 0
+ForgetGivesIn true s floor run fact = fact ≡ None
+ForgetGivesIn false s floor run fact = fact ≡ Some (Forgot s floor run)
+
 abbrev pub ForgetGivesBy : (is_within : Bool) → Depot → (s floor : ℕ) → Run → Option ChunkFact → Type 0
 ForgetGivesBy false depot s floor run fact = fact ≡ None
-ForgetGivesBy true depot s floor run fact = BySession depot s (fact ≡ None) (λ place. fact ≡ Some (Forgot s floor run))
+ForgetGivesBy true depot s floor run fact = BySession depot s (fact ≡ None) (λ place. ForgetGivesIn (is_full depot run) s floor run fact)
 
 abbrev pub ForgetGives : Depot → (s floor : ℕ) → Run → Option ChunkFact → Type 0
 ForgetGives depot s floor run fact = ForgetGivesBy (nat_le run.last floor) depot s floor run fact

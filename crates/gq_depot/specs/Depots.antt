@@ -1,17 +1,19 @@
 -- What a server has of a tenant's chunks, and what a fact makes of it.
-use Rattle.std.specs.Prelude.{◌≡◌, ℕ, ◌-◌, Bool, true, false, ◌==◌, ◌&&◌, nat_le, List, [], ◌∷◌, length, max, Option, Some, None, option_map, slice_get, if◌then◌else◌, ⊤}
+use Rattle.std.specs.Prelude.{◌≡◌, ℕ, ◌-◌, Bool, true, false, ◌==◌, ◌&&◌, ◌||◌, nat_le, List, [], ◌∷◌, length, max, Option, Some, None, option_map, slice_get, if◌then◌else◌, ⊤}
 use Rattle.gq_shelf.specs.Notes.{Noted}
 use Rattle.gq_shelf.specs.Places.{long_at}
 use Rattle.gq_shelf.specs.declared.place.Place.{Place}
 use Rattle.gq_ledger.specs.Ledgers.{book_of}
 use Rattle.gq_ledger.specs.Steps.{Book, with_at}
-use Rattle.gq_stock.specs.Forgetting.{is_in_any}
+use Rattle.std.specs.List.{list_any}
+use Rattle.gq_stock.specs.Forgetting.{is_in, is_in_any}
 use Rattle.gq_stock.specs.Sure.{PlaceIsSure}
 use Rattle.gq_stock.specs.declared.chunk.Chunk.{Chunk}
 use Rattle.gq_stock.specs.declared.run.Run.{Run}
 use Rattle.gq_stock.specs.declared.session.Session.{Session}
 use Rattle.gq_depot.specs.declared.limits.TheConstants.{MOST_CHUNK}
 use Rattle.gq_depot.specs.declared.depot.Depot.{Depot}
+use Rattle.gq_depot.specs.declared.gone.Gone.{Gone}
 use Rattle.gq_depot.specs.declared.fact.ChunkFact.{ChunkFact}
 use Rattle.gq_depot.specs.declared.fact.ChunkFact.TheVariants.{Put, Forgot, Filled}
 
@@ -20,9 +22,10 @@ pub record Placed : Type 0 where
   pub place : Place
   pub is_sure : Bool
 
--- the chunks of a tenant's sessions, by the places of the sessions from 0, and whether the server lacks some
+-- the chunks of a tenant's sessions, by the places of the sessions from 0, whether the server lacks some, and which numbers were forgotten since it does
 pub record Standing : Type 0 where
   pub books : ℕ → Book Placed
+  pub gone : (place number : ℕ) → Bool
   pub lacks : Bool
 
 -- ---- what there is
@@ -42,24 +45,33 @@ book_in (Some session) = placed (book_of session.chunks)
 abbrev pub place_in : List Session → ℕ → Option ℕ
 place_in sessions s = if nat_le 1 s && nat_le s (length sessions) then Some (s - 1) else None
 
+-- whether the number of the session at the place k is one of these
+abbrev pub is_gone : List Gone → (k n : ℕ) → Bool
+is_gone gone k n = list_any (λ one. (k == one.place) && is_in n one.run) gone
+
 abbrev pub standing_of : Depot → Standing
-standing_of depot = record { books = λ k. book_in (slice_get depot.stock.sessions.items k); lacks = depot.lacks }
+standing_of depot = record { books = λ k. book_in (slice_get depot.stock.sessions.items k); gone = λ k n. depot.lacks && is_gone depot.gone.items k n; lacks = depot.lacks }
 
 -- ---- what a fact makes of it
 
 abbrev pub forgotten : Book Placed → ℕ → Run → Book Placed
 forgotten b floor run = record { at = λ n. if is_in_any n (run ∷ []) then None else b.at n; floor = max b.floor floor }
 
+-- the same, and the numbers of the run, where chunks are lacked
+abbrev pub gone_after : Standing → (place : ℕ) → Run → (k n : ℕ) → Bool
+gone_after it place run k n = it.gone k n || (it.lacks && ((k == place) && is_in n run))
+
 abbrev pub after_fact : Option ChunkFact → Standing → Standing
 after_fact None it = it
-after_fact (Some (Put s n is_sure place)) it = record { books = λ k. if k == s - 1 then with_at (it.books k) n (Some (record { place = place; is_sure = is_sure })) else it.books k; lacks = it.lacks }
-after_fact (Some (Forgot s floor run)) it = record { books = λ k. if k == s - 1 then forgotten (it.books k) floor run else it.books k; lacks = it.lacks }
-after_fact (Some Filled) it = record { books = it.books; lacks = false }
+after_fact (Some (Put s n is_sure place)) it = record { books = λ k. if k == s - 1 then with_at (it.books k) n (Some (record { place = place; is_sure = is_sure })) else it.books k; gone = it.gone; lacks = it.lacks }
+after_fact (Some (Forgot s floor run)) it = record { books = λ k. if k == s - 1 then forgotten (it.books k) floor run else it.books k; gone = gone_after it (s - 1) run; lacks = it.lacks }
+after_fact (Some Filled) it = record { books = it.books; gone = λ k n. false; lacks = false }
 
--- the same is under each number of each session, each floor is the same, and so is whether the server lacks chunks
+-- the same is under each number of each session, each floor is the same, and so is whether the server lacks chunks, and what was forgotten since
 pub record IsSame (a b : Standing) : Type 0 where
   pub at : (k n : ℕ) → (a.books k).at n ≡ (b.books k).at n
   pub floor : (k : ℕ) → (a.books k).floor ≡ (b.books k).floor
+  pub gone : (k n : ℕ) → a.gone k n ≡ b.gone k n
   pub lacks : a.lacks ≡ b.lacks
 
 -- The depot is what the fact, if there is one, makes of the other. It has the same sessions, and the tenant may have the same there.
@@ -70,7 +82,7 @@ pub record LeadsTo (old : Depot) (fact : Option ChunkFact) (new : Depot) : Type 
 
 -- nothing was ever there
 abbrev pub bare : (lacks : Bool) → Standing
-bare lacks = record { books = λ k. record { at = λ n. None; floor = 0 }; lacks = lacks }
+bare lacks = record { books = λ k. record { at = λ n. None; floor = 0 }; gone = λ k n. false; lacks = lacks }
 
 -- ---- facts that are read
 

@@ -1,4 +1,6 @@
 pub mod Depots
 pub mod Answers
+pub mod Filling
+pub mod Seeking
 pub mod Tenants
 pub mod Laws

@@ -8,6 +8,8 @@ use Rattle.gq_depot.specs.declared.answer.Answered.{Answered}
 use Rattle.gq_depot.specs.declared.answer.ChunkAnswer.{ChunkAnswer}
 use Rattle.gq_depot.specs.declared.depot.Depot.{Depot}
 use Rattle.gq_depot.specs.declared.fact.ChunkFact.{ChunkFact}
+use Rattle.gq_depot.specs.Filling.{Fills}
+use Rattle.gq_depot.specs.declared.filling.Filling.{Filling}
 use Rattle.gq_depot.specs.declared.request.ChunkRequest.{ChunkRequest}
 
 -- The tenant, of whom the server had the one depot and has the other, asked this, and this came of it, where this is noted of the shelf then. No other tenant plays
@@ -22,6 +24,17 @@ pub record Step (noted : Noted) (losses : ℕ) (old : Depot) (request : ChunkReq
 -- it is so of the tenant at this place
 abbrev pub TakesOwn : Noted → (losses : ℕ) → List Depot → (tenant : ℕ) → ChunkRequest → Answered → List Depot → Type 0
 TakesOwn noted losses olds tenant request answered news = (old new : Depot) → slice_get olds tenant ≡ Some old → slice_get news tenant ≡ Some new → Step noted losses old request answered new
+
+-- This was done for the tenant, of whom the server had the one depot and has the other, and this fact came of it. No other tenant plays a part.
+pub record FillStep (noted : Noted) (old : Depot) (filling : Filling) (fact : Option ChunkFact) (new : Depot) : Type 0 where
+  pub fills : (written : Extent → List ℕ) → Fills (IsClean written noted) written old filling fact
+  pub leads : LeadsTo old fact new
+  pub sure : FactIsSure fact noted
+  pub reads : ReadsFact (length old.stock.sessions.items) fact
+
+-- it is so of the tenant at this place
+abbrev pub FillsOwn : Noted → List Depot → (tenant : ℕ) → Filling → Option ChunkFact → List Depot → Type 0
+FillsOwn noted olds tenant filling fact news = (old new : Depot) → slice_get olds tenant ≡ Some old → slice_get news tenant ≡ Some new → FillStep noted old filling fact new
 
 -- what this tenant has is what the fact, if there is one, makes of what it had
 abbrev pub LeadsOwn : List Depot → (tenant : ℕ) → Option ChunkFact → List Depot → Type 0

@@ -54,6 +54,11 @@ pub enum ChunkAnswer {
         floor: u64,
         run: Run,
     },
+    /// The server lacks chunks of the tenant, and no more forgotten numbers are noted until it is given them. Nothing was forgotten.
+    Lacking {
+        session: u32,
+        floor: u64,
+    },
     /// The chunks above this number, the first of them or all.
     Listed {
         session: u32,

@@ -1,6 +1,6 @@
 //! What comes of each request.
 
-ghost use Rattle.std.specs.Prelude.{◌≡◌, ◌≢◌, ◌+◌, ◌<◌, ◌≤◌, ℕ, List, Some, None, not, length, IfOk, IfErr, IsSome, option_map, slice_get};
+ghost use Rattle.std.specs.Prelude.{◌≡◌, ◌≢◌, ◌+◌, ◌<◌, ◌≤◌, ℕ, List, Some, None, not, length, IfOk, IfErr, OnOk, IsSome, option_map, slice_get};
 ghost use Rattle.gq_shelf.specs.Notes.{IsClean, GoesOn};
 ghost use Rattle.gq_shelf.specs.declared.extent.Extent.{Extent};
 ghost use Rattle.gq_ledger.specs.Ledgers.{book_of};
@@ -9,7 +9,8 @@ ghost use Rattle.gq_depot.specs.Answers.{ListedAs};
 
 use crate::depot::{run_bytes, same_place};
 use crate::{
-    Answered, ChunkAnswer, ChunkFact, ChunkRequest, Depot, ListedChunk, MOST_CHUNK, MOST_LISTED,
+    Answered, ChunkAnswer, ChunkFact, ChunkRequest, Depot, ListedChunk, MOST_CHUNK, MOST_GONE,
+    MOST_LISTED,
 };
 use bytes::Bytes;
 use gq_ledger::Long;
@@ -54,7 +55,7 @@ impl Depot {
     ghost use Rattle.gq_stock.specs.Held.{held_by};
     ghost use Rattle.gq_stock.specs.Stocks.{DamagedIn};
     ghost use Rattle.gq_depot.specs.Depots.{LeadsTo, StandsIn, FactIsSure, ReadsFact};
-    ghost use Rattle.gq_depot.specs.Answers.{In, is_told, KeptAt, KeepTells, KeepGives, FoundAt, GetTells, GivesFor, told_if, ForgotAt, ForgetTells, ForgetGives, ListedAt, ListTells, RoomTells, Tells, Gives, DamageIs};
+    ghost use Rattle.gq_depot.specs.Answers.{In, is_told, KeptAt, KeepTells, KeepGives, FoundAt, GetTells, GivesFor, told_if, is_full, ForgotAt, ForgetIn, ForgetTells, ForgetGivesIn, ForgetGives, ListedAt, ListTells, RoomTells, Tells, Gives, DamageIs};
 
     /// The fact of the chunk of this number, in the session at this place, which a start needs. Where memory is wanting nothing is made.
     pub fn fact_at(&self, place: usize, session: u32, number: u64) -> Result<ChunkFact, OutOfMemory>
@@ -74,7 +75,7 @@ impl Depot {
     }
 
     // The floor of the session at this place.
-    fn floor_at(&self, place: usize) -> u64
+    pub(crate) fn floor_at(&self, place: usize) -> u64
         requires { place < length self.now.stock.sessions.items }
         ensures { In self.now.stock.sessions.items place (λ session. result ≡ (book_of session.chunks).floor) }
     {
@@ -94,6 +95,7 @@ impl Depot {
         ensures gives { IfOk result (λ fact. In self.old.stock.sessions.items place (λ s. GivesFor told (book_of s.chunks) session number fact)) }
         ensures stock { self.new.stock ≡ self.old.stock }
         ensures lacks { self.new.lacks ≡ self.old.lacks }
+        ensures gone { self.new.gone.items ≡ self.old.gone.items }
     {
         if told != Keeping::New {
             return Ok(None);
@@ -281,54 +283,84 @@ impl Depot {
         Ok(answer)
     }
 
-    // Numbers of the session at this place are forgotten.
+    // Numbers of the session at this place are forgotten. Where memory is wanting the depot is given up.
     pub(crate) fn forget_at(
         &mut self,
         place: usize,
         session: u32,
         floor: u64,
         run: Run,
-    ) -> ChunkAnswer
+    ) -> Result<ChunkAnswer, OutOfMemory>
         requires there { place < length self.old.stock.sessions.items }
         requires number { session ≡ place + 1 }
         requires within { run.last ≤ floor }
-        ensures tells { ForgotAt self.new place session run result }
-        ensures leads { LeadsTo self.old (Some (ChunkFact.Forgot session floor run)) self.new }
+        ensures tells { IfOk result (λ answer. ForgotAt self.new place session run answer) }
+        ensures leads { OnOk result (LeadsTo self.old (Some (ChunkFact.Forgot session floor run)) self.new) }
     {
+        self.note_gone(place, run)?;
         let gone = run_bytes(&self.stock.sessions[place], run);
         self.in_journal = self.in_journal.saturating_sub(gone);
         self.stock.sessions[place].forget(floor, &[run]);
-        ChunkAnswer::Forgot {
+        Ok(ChunkAnswer::Forgot {
             session,
             floor: self.floor_at(place),
             run,
-        }
+        })
     }
 
-    // Numbers are forgotten, of which none may be above the floor.
-    fn forget(&mut self, session: u32, floor: u64, run: Run) -> Answered
-        ensures tells { ForgetTells self.old session floor run self.new result.answer }
-        ensures gives { ForgetGives self.old session floor run result.fact }
-        ensures leads { LeadsTo self.old result.fact self.new }
-        ensures reads { ReadsFact (length self.old.stock.sessions.items) result.fact }
+    // Whether the run can't be noted: it has numbers, the server lacks chunks, and as many runs are noted as may be.
+    fn is_noted_full(&self, run: Run) -> bool
+        ensures { result ≡ is_full self.now run }
     {
-        if run.last > floor {
-            return only(ChunkAnswer::Bad);
+        self.lacks && run.first <= run.last && self.gone.len() >= MOST_GONE
+    }
+
+    // Numbers of the session at this place are forgotten, if they can be noted where chunks are lacked.
+    fn forget_in(
+        &mut self,
+        place: usize,
+        session: u32,
+        floor: u64,
+        run: Run,
+    ) -> Result<Answered, OutOfMemory>
+        requires there { place < length self.old.stock.sessions.items }
+        requires number { session ≡ place + 1 }
+        requires within { run.last ≤ floor }
+        ensures tells { IfOk result (λ a. ForgetIn (is_full self.old run) self.new place session floor run a.answer) }
+        ensures gives { IfOk result (λ a. ForgetGivesIn (is_full self.old run) session floor run a.fact) }
+        ensures leads { IfOk result (λ a. LeadsTo self.old a.fact self.new) }
+        ensures reads { IfOk result (λ a. ReadsFact (length self.old.stock.sessions.items) a.fact) }
+    {
+        if self.is_noted_full(run) {
+            return Ok(only(ChunkAnswer::Lacking { session, floor }));
         }
-        let Some(place) = self.place_of(session) else {
-            return only(ChunkAnswer::NoSession {
-                session,
-                number: floor,
-            });
-        };
-        Answered {
-            answer: self.forget_at(place, session, floor, run),
+        Ok(Answered {
+            answer: self.forget_at(place, session, floor, run)?,
             fact: Some(ChunkFact::Forgot {
                 session,
                 floor,
                 run,
             }),
+        })
+    }
+
+    // Numbers are forgotten, of which none may be above the floor.
+    fn forget(&mut self, session: u32, floor: u64, run: Run) -> Result<Answered, OutOfMemory>
+        ensures tells { IfOk result (λ a. ForgetTells self.old session floor run self.new a.answer) }
+        ensures gives { IfOk result (λ a. ForgetGives self.old session floor run a.fact) }
+        ensures leads { IfOk result (λ a. LeadsTo self.old a.fact self.new) }
+        ensures reads { IfOk result (λ a. ReadsFact (length self.old.stock.sessions.items) a.fact) }
+    {
+        if run.last > floor {
+            return Ok(only(ChunkAnswer::Bad));
         }
+        let Some(place) = self.place_of(session) else {
+            return Ok(only(ChunkAnswer::NoSession {
+                session,
+                number: floor,
+            }));
+        };
+        self.forget_in(place, session, floor, run)
     }
 
     // The numbers of the session at this place.
@@ -416,7 +448,7 @@ impl Depot {
                 session,
                 floor,
                 run,
-            } => Ok(self.forget(session, floor, run)),
+            } => Ok(self.forget(session, floor, run)?),
             ChunkRequest::List { session, after } => Ok(only(self.list(alloc, session, after)?)),
             ChunkRequest::Room => Ok(only(self.room(losses))),
         }

@@ -1,9 +1,11 @@
 //! The chunks of a tenant at a server.
 
-ghost use Rattle.std.specs.Prelude.{◌≡◌, ◌+◌, ◌-◌, ◌<◌, ◌≤◌, Some, length, MatchOption, IfOk, IfSome};
+ghost use Rattle.std.specs.Prelude.{◌≡◌, ◌+◌, ◌-◌, ◌<◌, ◌≤◌, ℕ, Some, length, MatchOption, IfOk, IfSome, OnOk};
 ghost use Rattle.gq_shelf.specs.Places.{long_at};
 
-use gq_memory::{GrowBytes, OutOfMemory};
+use crate::Gone;
+use crate::gone::covers;
+use gq_memory::{GrowBytes, GrowVec, OutOfMemory};
 use gq_shelf::Place;
 use gq_stock::{Run, Session, Stock};
 use std::alloc::Global;
@@ -18,6 +20,8 @@ pub struct Depot {
     pub stock: Stock,
     /// Whether the server lacks chunks of the tenant.
     pub lacks: bool,
+    /// What was forgotten since it lacks some.
+    pub gone: Vec<Gone>,
     /// How many bytes the chunks take in a journal that is written anew, or somewhat less.
     pub in_journal: u64,
 }
@@ -67,7 +71,7 @@ pub(crate) fn run_bytes(session: &Session, run: Run) -> u64 {
 
 impl Depot {
     ghost use Rattle.gq_stock.specs.Stocks.{used_in};
-    ghost use Rattle.gq_depot.specs.Depots.{place_in, standing_of, bare, IsSame};
+    ghost use Rattle.gq_depot.specs.Depots.{place_in, standing_of, gone_after, bare, IsSame};
 
     /// So many sessions, which have nothing.
     pub fn new(
@@ -85,6 +89,7 @@ impl Depot {
         Ok(Depot {
             stock: Stock::new(alloc, sessions, allowed)?,
             lacks,
+            gone: Vec::new(alloc),
             in_journal: 0,
         })
     }
@@ -108,8 +113,20 @@ impl Depot {
         requires { place < length self.old.stock.sessions.items }
         ensures stock { self.new.stock ≡ self.old.stock }
         ensures lacks { self.new.lacks ≡ self.old.lacks }
+        ensures gone { self.new.gone.items ≡ self.old.gone.items }
     {
         let more = bytes_at(&self.stock.sessions[place], number);
         self.in_journal = self.in_journal.saturating_add(more);
+    }
+    // Notes that numbers of the session at this place are forgotten, where the server lacks chunks. Where memory is wanting the depot is given up.
+    pub(crate) fn note_gone(&mut self, place: usize, run: Run) -> Result<(), OutOfMemory>
+        ensures stock { self.new.stock ≡ self.old.stock }
+        ensures lacks { self.new.lacks ≡ self.old.lacks }
+        ensures gone { OnOk result ((k n : ℕ) → (standing_of self.new).gone k n ≡ gone_after (standing_of self.old) place run k n) }
+    {
+        if self.lacks && run.first <= run.last && !covers(self.gone.as_slice(), place, run) {
+            self.gone.grow(Gone { place, run })?;
+        }
+        Ok(())
     }
 }

@@ -4,7 +4,7 @@ ghost use Rattle.std.specs.Prelude.{◌≡◌, ◌<◌, true, Some, length, IfOk
 ghost use Rattle.gq_shelf.specs.Notes.{GoesOn};
 ghost use Rattle.gq_stock.specs.Finding.{IsRefused};
 
-use crate::{Answered, ChunkFact, ChunkRequest, Depot};
+use crate::{Answered, ChunkFact, ChunkRequest, Depot, Filling};
 use gq_memory::OutOfMemory;
 use gq_shelf::{Shelf, ShelfFault};
 use std::alloc::Global;
@@ -21,7 +21,7 @@ pub struct Depots<S: Shelf + Drop> {
 }
 
 impl<S: Shelf + Drop> Depots<S> {
-    ghost use Rattle.gq_depot.specs.Tenants.{ApartFrom, TakesOwn, LeadsOwn, ReadsOwn, DamageOf};
+    ghost use Rattle.gq_depot.specs.Tenants.{ApartFrom, TakesOwn, FillsOwn, LeadsOwn, ReadsOwn, DamageOf};
 
     /// What comes of the tenant's request. What is told of it and kept of it hangs on this tenant's chunks alone, and no other tenant's change. It is refused
     /// where memory is wanting, or the shelf refuses a read or a put; all is given up then.
@@ -43,6 +43,27 @@ impl<S: Shelf + Drop> Depots<S> {
         let depot = &mut self.depots[tenant];
         let answered = depot.answer(alloc, &mut self.shelf, self.losses, request)?;
         Ok(answered)
+    }
+
+    /// Does this for the tenant. What comes of it hangs on this tenant's chunks alone, and no other tenant's change. It is refused where memory is wanting, or the
+    /// shelf refuses a put; all is given up then.
+    pub fn fill(
+        &mut self,
+        alloc: Global,
+        tenant: usize,
+        filling: Filling,
+    ) -> Result<Option<ChunkFact>, ShelfFault>
+        requires { tenant < length self.old.depots.items }
+        ensures own { IfOk result (λ fact. FillsOwn (S.noted self.new.shelf) self.old.depots.items tenant filling fact self.new.depots.items) }
+        ensures apart { ApartFrom tenant self.old.depots.items self.new.depots.items }
+        ensures tenants { length self.new.depots.items ≡ length self.old.depots.items }
+        ensures losses { self.new.losses ≡ self.old.losses }
+        ensures refused { IfErr result (λ fault. IsRefused fault (S.noted self.old.shelf) (S.noted self.new.shelf)) }
+        ensures goes_on { GoesOn (S.noted self.old.shelf) (S.noted self.new.shelf) }
+    {
+        let lacking = &mut self.depots[tenant];
+        let fact = lacking.fill(alloc, &mut self.shelf, filling)?;
+        Ok(fact)
     }
 
     /// The tenant's depot reads a fact of an earlier run. False: it reads none such; nothing changes then. Where memory is wanting all is given up.

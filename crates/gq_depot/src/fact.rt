@@ -14,7 +14,8 @@ pub enum ChunkFact {
         is_sure: bool,
         place: Place,
     },
-    /// The session's numbers of the run are forgotten, and the floor is at this number or higher.
+    /// The session's numbers of the run are forgotten, and the floor is at this number or higher. While the server lacks chunks of the tenant, what a peer
+    /// gives of them is passed over.
     Forgot {
         session: u32,
         floor: u64,

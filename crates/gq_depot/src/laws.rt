@@ -1,13 +1,13 @@
-//! What holds of any requests of any tenants, as clauses of functions that do nothing.
+//! What holds of any requests of any tenants, and of what peers give, as clauses of functions that do nothing.
 
 ghost use Rattle.gq_depot.specs.Laws.{Apart, FactsRemake};
 
-/// Whatever all tenants asked: what one of them was told, and what is kept of it, is what comes of its own requests alone.
+/// Whatever all tenants asked, and peers gave: what one of them was told, and what is kept of it, is what comes of its own requests and of what was given of it.
 pub fn apart()
     ensures { Apart }
 {}
 
-/// What a tenant has is what the facts of its requests make of what it had. So a start that reads these makes the same again.
+/// What a tenant has is what the facts of its requests, and of what was given of it, make of what it had. So a start that reads these makes the same again.
 pub fn facts_remake()
     ensures { FactsRemake }
 {}

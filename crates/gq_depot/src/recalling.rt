@@ -39,11 +39,12 @@ impl Depot {
         Ok(())
     }
 
-    // Reads that the server lacks nothing any more.
-    fn fill(&mut self)
+    // The server lacks nothing any more.
+    pub(crate) fn lack_nothing(&mut self)
         ensures { LeadsTo self.old (Some ChunkFact.Filled) self.new }
     {
         self.lacks = false;
+        self.gone.clear();
     }
 
     /// Reads a fact of an earlier run. False: it names a session that the tenant has not, a content that is too long, or numbers above the floor that are
@@ -80,11 +81,11 @@ impl Depot {
                 if run.last > floor {
                     return Ok(false);
                 }
-                let _told = self.forget_at(place, session, floor, run);
+                let _told = self.forget_at(place, session, floor, run)?;
                 Ok(true)
             }
             ChunkFact::Filled => {
-                self.fill();
+                self.lack_nothing();
                 Ok(true)
             }
         }

@@ -227,6 +227,50 @@ fn lacks_chunks_until_it_is_filled(rt: HostRuntime) {
     assert!(rt; !it.lacks_some());
 }
 
+// What a start needs is this.
+fn needs(rt: &impl Abort, alloc: Global, machine: &ChunkMachine<MemoryShelf>, lines: &[u8]) {
+    let mut facts = Vec::new(alloc);
+    assert!(rt; machine.put_needed(&mut facts).is_ok());
+    assert!(rt; facts.as_slice() == lines);
+}
+
+#[test]
+fn notes_what_is_forgotten_until_it_is_filled(rt: HostRuntime) {
+    let alloc = rt.alloc();
+    let mut machine = machine(&rt, alloc, 65);
+    let it = &mut machine;
+    tells(
+        &rt,
+        alloc,
+        it,
+        "65 ann forget 1 9 5 6",
+        "ann 65 forgot 1 9 5 6\n",
+        "forgot ann 1 9 5 6\n",
+    );
+    tells(
+        &rt,
+        alloc,
+        it,
+        "65 ann forget 1 9 6 6",
+        "ann 65 forgot 1 9 6 6\n",
+        "forgot ann 1 9 6 6\n",
+    );
+    reads(&rt, it, "chunk ann 1 7 1 =abc");
+    needs(
+        &rt,
+        alloc,
+        it,
+        b"forgot ann 1 9 1 0\nforgot ann 1 9 5 6\nchunk ann 1 7 1 =abc\n",
+    );
+    reads(&rt, it, "filled ann");
+    needs(
+        &rt,
+        alloc,
+        it,
+        b"forgot ann 1 9 1 0\nchunk ann 1 7 1 =abc\nfilled ann\n",
+    );
+}
+
 #[test]
 fn tells_lines_of_chunks_apart(rt: HostRuntime) {
     assert!(rt; matches!(taker_of(b"0 ann keep 1 5 ~a"), Taker::Second));

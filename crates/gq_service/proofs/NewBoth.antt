@@ -1,5 +1,5 @@
 -- Registers and chunks that were never there.
-use Rattle.std.proofs.Common.{◌≡◌, ◌∙◌, ℕ, List, length, Bool, true, refl, sym, ap, subst, Option, Some, None}
+use Rattle.std.proofs.Common.{◌≡◌, ◌∙◌, ℕ, List, length, Bool, true, false, refl, sym, ap, subst, Option, Some, None}
 use Rattle.std.specs.Prelude.{Ok, Err, ◌&&◌, nat_lt, slice_get}
 use Rattle.std.proofs.lemmas.Bool.{and_parts, and_from}
 use Rattle.gq_desk.specs.CheckedPlan.{CheckedPlan, row_at}
@@ -69,6 +69,7 @@ chunks_are_of setup number read m own new = record {
       record {
         sessions_are = b.sessions_are ∙ ap (λ (p : CheckedPlan). (row_at p t).sessions) (sym new.plan_is);
         fit = none_too_long (lacks_at_first number (room_before (setup_read read) t) (room_read (Ok setup) t)) (standing_of depot) b.nothing;
+        gone = λ k n is. absurd (let e : true ≡ false = sym is ∙ b.nothing.gone k n in cc);
       };
 }
 

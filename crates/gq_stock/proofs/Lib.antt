@@ -7,3 +7,4 @@ pub mod Numbers
 pub mod Acts
 pub mod Sessions
 pub mod Restarts
+pub mod Giving

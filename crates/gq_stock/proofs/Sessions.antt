@@ -39,10 +39,10 @@ pub room_kept : (used free allowed after taken : ℕ) → after ≡ used + taken
 room_kept used free allowed after taken is within room = omega arith
 
 -- the session that is at the place, and the one that is put there
-at_place : (sessions : List Session) (i : ℕ) (d old : Session) → i < length sessions → d ≡ get_or sessions i d → slice_get sessions i ≡ Some old → old ≡ d
+pub at_place : (sessions : List Session) (i : ℕ) (d old : Session) → i < length sessions → d ≡ get_or sessions i d → slice_get sessions i ≡ Some old → old ≡ d
 at_place sessions i d old lt is was = same_Some old d (sym was ∙ (slice_get-get_or sessions i d lt ∙ ap (λ (s : Session). Some s) (sym is)))
 
-put_there : (sessions : List Session) (i : ℕ) (new now : Session) → i < length sessions → slice_get (set sessions i new) i ≡ Some now → now ≡ new
+pub put_there : (sessions : List Session) (i : ℕ) (new now : Session) → i < length sessions → slice_get (set sessions i new) i ≡ Some now → now ≡ new
 put_there sessions i new now lt is =
     let within : i < length (set sessions i new) = omega (arith, length-set sessions i new) in
     same_Some now new (sym is ∙ (slice_get-get_or (set sessions i new) i new within ∙ ap (λ (s : Session). Some s) (get_or-set_same sessions i new new lt)))

@@ -1,5 +1,5 @@
 -- The chunks of a tenant's sessions.
-use Rattle.std.specs.Prelude.{◌≡◌, ℕ, Bool, List, Some, None, slice_get}
+use Rattle.std.specs.Prelude.{◌≡◌, ℕ, Bool, true, List, Some, None, slice_get}
 use Rattle.std.specs.List.{sum_by}
 use Rattle.gq_shelf.specs.declared.extent.Extent.{Extent}
 use Rattle.gq_ledger.specs.Ledgers.{book_of, all_bytes}
@@ -18,6 +18,10 @@ used_in sessions = sum_by (λ session. all_bytes session.chunks) sessions
 -- The session at this place was asked to keep a content.
 abbrev pub KeptIn : (Extent → List ℕ) → List Session → (place n : ℕ) → List ℕ → Bool → (free : ℕ) → Keeping → List Session → Type 0
 KeptIn written olds place n bytes is_sure free told news = (old new : Session) → slice_get olds place ≡ Some old → slice_get news place ≡ Some new → KeptAs (contents written (book_of old.chunks)) n bytes is_sure free told (contents written (book_of new.chunks))
+
+-- The session at this place has the content under the number, and tells it.
+abbrev pub GivenIn : (Extent → List ℕ) → List Session → (place n : ℕ) → List ℕ → Type 0
+GivenIn written sessions place n bytes = (session : Session) → slice_get sessions place ≡ Some session → (contents written (book_of session.chunks)).at n ≡ Some (record { bytes = bytes; is_sure = true })
 
 -- The session at this place has what it had.
 abbrev pub StaysIn : List Session → (place : ℕ) → List Session → Type 0

@@ -13,7 +13,7 @@ use gq_ledger::Verdict;
 use gq_shelf::{Place, Shelf, ShelfFault};
 
 /// A chunk of so many bytes or fewer is kept in memory and in the journal first.
-pub const MOST_FRESH: usize = 262_144;
+pub const MOST_FRESH: usize = 16_384;
 
 /// What comes of a content that is to be kept.
 #[derive(Clone, Copy, PartialEq, Eq)]

@@ -39,7 +39,8 @@ impl Session {
     ghost use Rattle.gq_ledger.specs.Steps.{Leads, Gives};
     ghost use Rattle.gq_stock.specs.Held.{contents};
     ghost use Rattle.gq_stock.specs.Moving.{MovedAs, IsBehind, NoneIsRead};
-    ghost use Rattle.gq_stock.specs.Sure.{IsSureOf};
+    ghost use Rattle.gq_stock.specs.Keeping.{ChangesOnly};
+    ghost use Rattle.gq_stock.specs.Sure.{IsSureOf, IsLongOf};
 
     /// Puts the chunk under the number, in place of what is there. False: it would be more bytes in all than 64 bits tell, and nothing changes. Nor does it
     /// where memory is refused.
@@ -69,6 +70,8 @@ impl Session {
         ensures given { (written : Extent → List ℕ) → IfOk result (λ is_given. is_given ≡ true → IsClean written (S.noted shelf.new) → Leads (contents written (book_of self.old.chunks)) (Gives number (record { bytes = bytes; is_sure = true })) (contents written (book_of self.new.chunks))) }
         ensures sure { IfOk result (λ is_given. is_given ≡ true → IsSureOf ((book_of self.new.chunks).at number) (S.noted shelf.new)) }
         ensures used { IfOk result (λ is_given. is_given ≡ true → all_bytes self.new.chunks + bytes_under self.old.chunks number ≡ all_bytes self.old.chunks + length bytes) }
+        ensures alone { IfOk result (λ is_given. is_given ≡ true → ChangesOnly (book_of self.old.chunks) number (book_of self.new.chunks)) }
+        ensures long { IfOk result (λ is_given. is_given ≡ true → IsLongOf ((book_of self.new.chunks).at number) (length bytes)) }
         ensures same { IfOk result (λ is_given. is_given ≡ false → book_of self.new.chunks ≡ book_of self.old.chunks) }
         ensures much { IfOk result (λ is_given. is_given ≡ false → 2 ^ 64 ≤ all_bytes self.old.chunks + length bytes) }
         ensures refused { IfErr result (λ fault. IsRefused fault (S.noted shelf.old) (S.noted shelf.new)) }

@@ -1,6 +1,6 @@
 //! The chunks of one tenant at a server.
 
-ghost use Rattle.std.specs.Prelude.{◌≡◌, ◌≢◌, All, List, ◌+◌, ◌-◌, ◌<◌, ◌≤◌, ◌^◌, ℕ, Some, length, max, min, IfOk, IfErr, OnErr, slice_get};
+ghost use Rattle.std.specs.Prelude.{◌≡◌, ◌≢◌, All, true, false, List, ◌+◌, ◌-◌, ◌<◌, ◌≤◌, ◌^◌, ℕ, Some, length, max, min, IfOk, IfErr, OnErr, slice_get};
 ghost use Rattle.gq_shelf.specs.Notes.{IsClean, GoesOn};
 ghost use Rattle.gq_shelf.specs.declared.extent.Extent.{Extent};
 
@@ -22,7 +22,7 @@ pub struct Stock {
 impl Stock {
     ghost use Rattle.gq_stock.specs.Finding.{IsRefused};
     ghost use Rattle.gq_stock.specs.Keeping.{taken_of};
-    ghost use Rattle.gq_stock.specs.Stocks.{used_in, KeptIn, ChangesIn, DamagedIn, SureIn, LongIn, StaysIn, IsEmpty};
+    ghost use Rattle.gq_stock.specs.Stocks.{used_in, KeptIn, GivenIn, ChangesIn, DamagedIn, SureIn, LongIn, StaysIn, IsEmpty};
 
     /// So many sessions, which have nothing.
     pub fn new(alloc: Global, sessions: u32, allowed: u64) -> Result<Stock, OutOfMemory>
@@ -92,5 +92,34 @@ impl Stock {
         let session = &mut self.sessions[place];
         let _used = session.used();
         session.keep(shelf, number, bytes, is_sure, free)
+    }
+    /// Puts the content that a peer gives under the number of the session at this place, in place of what is there. No other session changes. If it lies on the shelf
+    /// it was made sure of there. False: it would be more bytes in all than 64 bits tell, and nothing changes. It is refused where memory is wanting, or the shelf refuses
+    /// a put. Nothing changes then.
+    pub fn give<S: Shelf>(
+        &mut self,
+        shelf: &mut S,
+        place: usize,
+        number: u64,
+        bytes: Bytes,
+    ) -> Result<bool, ShelfFault>
+        requires there { place < length self.old.sessions.items }
+        requires short { length bytes < 2 ^ 32 }
+        ensures given { (written : Extent → List ℕ) → IfOk result (λ is_given. is_given ≡ true → IsClean written (S.noted shelf.new) → GivenIn written self.new.sessions.items place number bytes) }
+        ensures alone { IfOk result (λ is_given. is_given ≡ true → ChangesIn self.old.sessions.items place number self.new.sessions.items) }
+        ensures same { IfOk result (λ is_given. is_given ≡ false → StaysIn self.old.sessions.items place self.new.sessions.items) }
+        ensures much { IfOk result (λ is_given. is_given ≡ false → 2 ^ 64 ≤ used_in self.old.sessions.items + length bytes) }
+        ensures sessions { length self.new.sessions.items ≡ length self.old.sessions.items }
+        ensures others { (other : ℕ) → other ≢ place → slice_get self.new.sessions.items other ≡ slice_get self.old.sessions.items other }
+        ensures sure { IfOk result (λ is_given. is_given ≡ true → SureIn self.new.sessions.items place number (S.noted shelf.new)) }
+        ensures long { IfOk result (λ is_given. is_given ≡ true → LongIn self.new.sessions.items place number (length bytes)) }
+        ensures refused { IfErr result (λ fault. IsRefused fault (S.noted shelf.old) (S.noted shelf.new)) }
+        ensures unchanged { OnErr result (StaysIn self.old.sessions.items place self.new.sessions.items) }
+        ensures allowed { self.new.allowed ≡ self.old.allowed }
+        ensures goes_on { GoesOn (S.noted shelf.old) (S.noted shelf.new) }
+    {
+        let session = &mut self.sessions[place];
+        let is_given = session.give(shelf, number, bytes)?;
+        Ok(is_given)
     }
 }

@@ -12,10 +12,10 @@ returns-clause-gives g c written clean = gives_by written c.args.self.now.stock.
 
 pub returns-clause-leads : goal.returns-clause-leads
 returns-clause-leads g c =
-    let mid : Depot = record { stock = c.keep.new.self; lacks = c.args.self.now.lacks; in_journal = 0 } in
+    let mid : Depot = record { stock = c.keep.new.self; lacks = c.args.self.now.lacks; gone = c.args.self.now.gone; in_journal = 0 } in
     leads_on c.args.self.now mid c.fact_of.new.self c.in_ok-fact.fact
-    (leads_by c.args.self.now mid c.args.place c.args.session c.args.number c.in_ok-told.told c.in_ok-fact.fact c.requires.number c.requires.there c.in_ok-told.ensures.sessions c.in_ok-told.ensures.allowed refl c.in_ok-told.ensures.others (c.in_ok-told.ensures.alone, c.in_ok-told.ensures.stays) c.in_ok-fact.ensures.gives)
-    c.in_ok-fact.ensures.stock c.in_ok-fact.ensures.lacks
+    (leads_by c.args.self.now mid c.args.place c.args.session c.args.number c.in_ok-told.told c.in_ok-fact.fact c.requires.number c.requires.there c.in_ok-told.ensures.sessions c.in_ok-told.ensures.allowed refl refl c.in_ok-told.ensures.others (c.in_ok-told.ensures.alone, c.in_ok-told.ensures.stays) c.in_ok-fact.ensures.gives)
+    c.in_ok-fact.ensures.stock c.in_ok-fact.ensures.lacks c.in_ok-fact.ensures.gone
 
 pub returns-clause-sure : goal.returns-clause-sure
 returns-clause-sure g c = sure_by c.keep.new.self.sessions.items c.args.place c.args.session c.args.number c.in_ok-told.told c.in_ok-fact.fact _ (omega (arith, c.requires.there, c.in_ok-told.ensures.sessions)) c.in_ok-told.ensures.sure c.in_ok-fact.ensures.gives

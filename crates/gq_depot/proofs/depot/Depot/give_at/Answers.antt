@@ -1,0 +1,29 @@
+use Rattle.std.proofs.Common.{◌<◌, length, Some, refl, arith}
+use Rattle.gq_depot.specs.declared.depot.Depot.{Depot}
+use Rattle.gq_stock.specs.declared.keeping.Keeping.TheVariants.{New}
+use Rattle.gq_depot.proofs.Standing.{give_leads, stands_still, put_given, sure_by, reads_by}
+use Rattle.gq_depot.proofs.depot.Depot.give_at.Goals as goal
+
+pub returns-clause-gives : goal.returns-clause-gives
+returns-clause-gives g c written clean =
+    let within : c.args.place < length c.give.new.self.sessions.items = omega (arith, c.requires.there, c.in_ok-is_given.ensures.sessions) in
+    put_given written c.give.new.self.sessions.items c.args.place c.args.session c.args.number c.args.bytes c.in_ok-fact.fact within (c.in_ok-is_given.ensures.given written c.if-not-is_given.false clean)
+    (stands_still c.give.new.self c.note.new.self.stock c.args.place c.args.session c.args.number c.in_ok-fact.fact c.note.ensures.stock c.in_ok-fact.ensures)
+
+pub returns-clause-leads : goal.returns-clause-leads
+returns-clause-leads g c =
+    let mid : Depot = record { stock = c.give.new.self; lacks = c.args.self.now.lacks; gone = c.args.self.now.gone; in_journal = 0 } in
+    give_leads c.args.self.now mid c.note.new.self c.args.place c.args.session c.args.number c.in_ok-fact.fact c.requires.number c.requires.there c.in_ok-is_given.ensures.sessions c.in_ok-is_given.ensures.allowed refl refl c.in_ok-is_given.ensures.others
+    (c.in_ok-is_given.ensures.alone c.if-not-is_given.false) c.note.ensures.stock c.note.ensures.lacks c.note.ensures.gone
+    (stands_still c.give.new.self c.note.new.self.stock c.args.place c.args.session c.args.number c.in_ok-fact.fact c.note.ensures.stock c.in_ok-fact.ensures)
+
+pub returns-clause-sure : goal.returns-clause-sure
+returns-clause-sure g c =
+    let within : c.args.place < length c.give.new.self.sessions.items = omega (arith, c.requires.there, c.in_ok-is_given.ensures.sessions) in
+    sure_by c.give.new.self.sessions.items c.args.place c.args.session c.args.number New (Some c.in_ok-fact.fact) _ within (λ same. c.in_ok-is_given.ensures.sure c.if-not-is_given.false)
+    (stands_still c.give.new.self c.note.new.self.stock c.args.place c.args.session c.args.number c.in_ok-fact.fact c.note.ensures.stock c.in_ok-fact.ensures)
+
+pub returns-clause-reads : goal.returns-clause-reads
+returns-clause-reads g c =
+    reads_by c.give.new.self.sessions.items c.args.place c.args.session c.args.number _ New (Some c.in_ok-fact.fact) c.requires.number c.requires.there c.in_ok-is_given.ensures.sessions c.requires.long (λ same. c.in_ok-is_given.ensures.long c.if-not-is_given.false)
+    (stands_still c.give.new.self c.note.new.self.stock c.args.place c.args.session c.args.number c.in_ok-fact.fact c.note.ensures.stock c.in_ok-fact.ensures)
