@@ -101,6 +101,12 @@ BUGS = {
     "gateways outlive who sees to them": ("test_several.py Several.test_ends", "several.py", "        ctypes.CDLL(None).prctl(WITH_PARENT, signal.SIGTERM)\n", ""),
     "a gateway of several is anybody's": ("test_several.py Several.test_users", "several.py", "            os.setuid(user.pw_uid)\n", ""),
     "lines that are wrong end what runs": ("test_several.py Several.test_lines_that_change", "several.py", "            tell(f\"{fault}; the gateways stay as they were\")\n            return\n", "            raise\n"),
+    "a part of a list counts in place of a later one": ("test_in_chunks.py Many.test_completed_and_read", "part_lists.py", "{number: each for group in self.lists for number, each in self.listed(group).items()} | self.in_line", "self.in_line | {number: each for group in self.lists for number, each in self.listed(group).items()}"),
+    "a completion makes all lists anew": ("test_in_chunks.py Many.test_completed_and_read", "part_lists.py", "if listed and list(chosen", "if False and list(chosen"),
+    "a list is taken that names more": ("test_in_chunks.py Many.test_some_of_them_are_chosen", "part_lists.py", "list(chosen[at : at + len(listed[1])]) == listed[1]", "True"),
+    "a range reads all": ("test_in_chunks.py Through.test_ranges", "reading.py", "contents.cuts(parts, first, end))) as found:\n                yield from found\n", "contents.cuts(parts, 0, held.content.size))) as found:\n                yield b\"\".join(found)[first:end]\n"),
+    "what an earlier gateway left stays": ("test_in_chunks.py Steps.test_put", "store.py", "            self.writer.sweep_chunks()\n", ""),
+    "what was replaced is never forgotten": ("test_in_chunks.py Many.test_given_up", "store.py", "        self.writer.forget_gone(self.forget_after)\n", ""),
     "a client that leaves is a fault": ("test_malformed.py Malformed.test_a_client_that_leaves", "connections.py", " or isinstance(exc, (ConnectionError, RequestPayloadError)):", ":"),
 }
 

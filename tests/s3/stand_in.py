@@ -4,7 +4,7 @@
     stand_in.py PLAN FOLDER
 
 It opens FOLDER/socket and writes NAME.ini for each tenant, as `./grid` does. Nothing is kept, and nothing is lost. At SIGHUP it reads the plan again, and tenants have the
-volumes of that. A line `0 counts` is told how many requests of each kind came since the last one.
+volumes of that. A line `0 counts` is told how many requests of each kind came since the last one. Tenants with a line `chunks` in the plan have chunks too.
 """
 
 import asyncio
@@ -15,12 +15,16 @@ import re
 import signal
 import sys
 
+sys.path.insert(0, os.path.join(os.path.dirname(os.path.abspath(__file__)), "..", "chunks"))
+from servers import VERBS, Server
+
 
 class Tenant:
     def __init__(self, sessions, share, most):
         self.sessions, self.share, self.most = sessions, share, most
         self.volumes, self.files, self.last, self.told = [], {}, {}, {}
         self.counts = collections.Counter()
+        self.chunks = None  # a node that keeps some
 
     def plan(self):
         return f"plan 1 0 {self.sessions} {self.share} {self.most} " + " ".join(f"{files}.{blocks}" for files, blocks in self.volumes)
@@ -33,7 +37,18 @@ def tenants_of(text):
             found[words[1]] = Tenant(int(words[3]), int(words[2]), int(words[5]))
         elif words[1:2] == ["open"]:
             found[words[0]].volumes.append((int(words[2]), int(words[3])))
+        elif words[1:2] == ["chunks"]:
+            found[words[0]].chunks = Server(0, 1024 * int(words[2]))
     return found
+
+
+def about_chunks(tenant, body):
+    """What the node tells of chunks; None where it was asked for something else."""
+    verb = body.split(b" ", 1)[0]
+    if verb not in (*VERBS, b"room"):
+        return None
+    tenant.counts[verb.decode()] += 1
+    return tenant.chunks.take(body) if tenant.chunks else b"refused bad"
 
 
 def answer(tenant, body):
@@ -93,9 +108,11 @@ async def main(plan, folder):
                 for tenant in tenants.values():
                     tenant.counts.clear()
                 continue
-            to, name, body = line.decode().rstrip("\n").split(" ", 2)
-            if to == "0" and name in tenants and re.match("[a-z]", body) and (told := answer(tenants[name], body)):
-                writer.write(f"{name} 0 {told}\n".encode())
+            to, name, body = line.rstrip(b"\n").split(b" ", 2)
+            name = name.decode()
+            if to == b"0" and name in tenants and re.match(b"[a-z]", body):
+                told = about_chunks(tenants[name], body) or (answer(tenants[name], body.decode()) or "").encode()
+                writer.write(b"%b 0 %b\n" % (name.encode(), told) if told else b"")
 
     def read_again():
         with open(plan) as text:
@@ -106,7 +123,7 @@ async def main(plan, folder):
     await asyncio.start_unix_server(serve, path, limit=1 << 23)
     for name in tenants:
         with open(os.path.join(folder, f"{name}.ini"), "w") as out:
-            out.write(f"[gridfs]\ntenant = {name}\nsocket = {path}\n")
+            out.write(f"[gridfs]\ntenant = {name}\nsocket = {path}\n" + "grid = 1x1\n" * bool(tenants[name].chunks))
     print("up", flush=True)
     await asyncio.Event().wait()
 

@@ -232,7 +232,8 @@ def parser() -> argparse.ArgumentParser:
             "--delete": dict(is_given, help="remove what is in the target and not in the source")})  # fmt: skip
     word("status", status, "tell which nodes answer, and what the tenant has used of its room")
     word("sweep", sweep, "forget names that were taken away, and find room that dead commands left taken; of all sessions that nobody uses",
-         **{"--catch-up": dict(is_given, help="after damage: first let pages that are older than others ask for catch up")})  # fmt: skip
+         **{"--catch-up": dict(is_given, help="after damage: first let pages that are older than others ask for catch up"),
+            "--erase": dict(is_given, help="write each slot that no name needs empty at every column, so that no node keeps an older copy")})  # fmt: skip
     # What lies below names: the numbered files themselves.
     word("write", write, "write a numbered file; what names stand on can be spoilt so", volume=volume, file=number, path=source)
     word("read", read, "tell a numbered file's content", volume=volume, file=number, path=target)
@@ -333,13 +334,18 @@ def stat(opened: Opened | OpenedFleet, args: argparse.Namespace) -> None:
 def sweep(opened: Opened | OpenedFleet, args: argparse.Namespace) -> None:
     names = opened.names()
     caught_up = names.catch_up() if args.catch_up else 0
-    swept = names.sweep()
+    swept = names.sweep(args.erase)
     text = f"removals: {swept.forgotten} forgotten, {swept.left} left; slots: {swept.emptied} emptied"
+    value = {key: each for key, each in vars(swept).items() if key not in ("chunks", "silent") or each}
+    if swept.chunks:
+        text += f"; chunks: {swept.chunks} forgotten"
+    if swept.silent:
+        text += f"; nodes at the places {listed(swept.silent)} are silent: chunks may be left there"
     if args.catch_up:
         text = f"pages: {caught_up} caught up; {text}"
     if swept.absent:
         text += f"; {'sessions' if len(swept.absent) > 1 else 'session'} {listed(swept.absent)} could not be had"
-    tell(args, vars(swept) | ({"caught_up": caught_up} if args.catch_up else {}), text)
+    tell(args, value | ({"caught_up": caught_up} if args.catch_up else {}), text)
 
 
 def write(opened: Opened, args: argparse.Namespace) -> None:

@@ -4,14 +4,18 @@ import base64
 import binascii
 import hashlib
 import re
-from collections.abc import Iterable, Iterator
+from collections.abc import Iterable, Iterator, Sequence
 from dataclasses import dataclass
 from itertools import chain
+
+from .runs import Run, parse_run
 
 NUMBER = r"(?:0|[1-9][0-9]*)"
 RUNS = rf"{NUMBER}(?:-{NUMBER})?(?:,{NUMBER}(?:-{NUMBER})?)*"
 STRANDS = rf"{NUMBER}:{RUNS}(?:;{NUMBER}:{RUNS})*"
-PART = rf"[1-9][0-9]* [A-Za-z0-9_-]{{43}} {NUMBER} {STRANDS}"
+RUN = rf"{NUMBER}\.{NUMBER}:{NUMBER}(?:\+{NUMBER})?"
+CHUNKS = rf"(?:{NUMBER}\*)?{RUN}(?:;{RUN})*"
+PART = rf"[1-9][0-9]* [A-Za-z0-9_-]{{43}} (?:{NUMBER} {STRANDS}|{CHUNKS})"
 MOST_FILES = 4_194_304  # of a tenant: no slot has so great a number
 BESIDE = re.compile(r".*/=([A-Za-z0-9_-]{43})", re.DOTALL)
 CONTENT = re.compile(rf"-|@([A-Za-z0-9_-]*)|({PART}(?:&{PART})*)")
@@ -88,7 +92,7 @@ class Inline:
     """A content that stands in the line itself."""
 
     content: bytes
-    parts: "tuple[InSlots, ...]" = ()
+    parts: "tuple[Part, ...]" = ()
 
     @property
     def size(self) -> int:
@@ -136,10 +140,66 @@ class InSlots:
 
 
 @dataclass(frozen=True)
-class Joined:
-    """Contents in slots, of several puts of one session, one behind the other: one content."""
+class InChunks:
+    """A content in chunks, each as long as one may be, but for the last one."""
 
-    parts: tuple[InSlots, ...]
+    size: int
+    digest: str
+    runs: tuple[Run, ...]
+
+    @property
+    def pieces(self) -> int:
+        return sum(run.count for run in self.runs)
+
+    @property
+    def parts(self) -> "tuple[InChunks, ...]":
+        return (self,)
+
+    def order(self) -> Iterator[tuple[int, int]]:
+        """It is in no slots."""
+        return iter(())
+
+    def text(self) -> str:
+        return f"{self.size} {self.digest} {';'.join(run.text() for run in self.runs)}"
+
+
+@dataclass(frozen=True)
+class PartList:
+    """Contents of so many bytes in all, one behind the other, that a list names: its text of `length` bytes is in chunks, and has this digest."""
+
+    size: int
+    digest: str
+    length: int
+    runs: tuple[Run, ...]
+
+    @property
+    def pieces(self) -> int:
+        """Of the list."""
+        return sum(run.count for run in self.runs)
+
+    @property
+    def parts(self) -> "tuple[PartList, ...]":
+        return (self,)
+
+    @property
+    def list(self) -> InChunks:
+        return InChunks(self.length, self.digest, self.runs)
+
+    def order(self) -> Iterator[tuple[int, int]]:
+        return iter(())
+
+    def text(self) -> str:
+        return f"{self.size} {self.digest} {self.length}*{';'.join(run.text() for run in self.runs)}"
+
+
+Part = InSlots | InChunks | PartList
+
+
+@dataclass(frozen=True)
+class Joined:
+    """Contents of several puts of one session, one behind the other: one content."""
+
+    parts: tuple[Part, ...]
 
     @property
     def size(self) -> int:
@@ -161,13 +221,19 @@ class Joined:
         return "&".join(part.text() for part in self.parts)
 
 
-Content = Inline | InSlots | Joined
+Content = Inline | InSlots | InChunks | PartList | Joined
 
 
-def parse_part(text: str) -> InSlots:
-    size, digest, put, strands = text.split(" ")
-    found = InSlots(int(size), digest, int(put), tuple(map(parse_strand, strands.split(";"))))
-    if found.pieces > found.size:  # (each has a byte at least)
+def parse_part(text: str) -> Part:
+    size, digest, *where = text.split(" ")
+    if len(where) == 2:
+        put, strands = where
+        found: Part = InSlots(int(size), digest, int(put), tuple(map(parse_strand, strands.split(";"))))
+    else:
+        length, star, runs = where[0].rpartition("*")
+        places = tuple(map(parse_run, runs.split(";")))
+        found = PartList(int(size), digest, int(length), places) if star else InChunks(int(size), digest, places)
+    if found.pieces > (found.length if isinstance(found, PartList) else found.size):  # (each has a byte at least)
         raise ValueError(text)
     return found
 
@@ -183,6 +249,15 @@ def content_of(inline: str | None, parts: str | None) -> Content | None:
     return Joined(tuple(map(parse_part, parts.split("&"))))
 
 
-def parts_of(contents: Iterable[Content | None]) -> Iterator[InSlots]:
-    """What these contents say of slots."""
+def parts_of(contents: Iterable[Content | None]) -> Iterator[Part]:
     return (part for content in contents if content for part in content.parts)
+
+
+def slots_of(contents: Iterable[Content | None]) -> Iterator[InSlots]:
+    """What these contents say of slots."""
+    return (part for part in parts_of(contents) if isinstance(part, InSlots))
+
+
+def joined(parts: Sequence[Part]) -> Content:
+    """One content of these."""
+    return Inline(b"") if not parts else parts[0] if len(parts) == 1 else Joined(tuple(parts))

@@ -17,7 +17,7 @@ from collections.abc import Callable, Collection, Iterable, Iterator
 from dataclasses import dataclass, field, replace
 
 from .answers import Tag
-from .contents import Content, InSlots, parts_of
+from .contents import Content, InSlots, Part, parts_of, slots_of
 
 
 @dataclass(frozen=True, order=True)
@@ -51,6 +51,7 @@ class Line:
     content: Content | None
     words: str = ""
     copied: Copied | None = None
+    text: str = field(default="", init=False, compare=False, repr=False)  # as it stands in a page, once that is known
 
     @property
     def since(self) -> int:
@@ -105,7 +106,11 @@ class Page:
 
     def parts(self) -> Iterator[InSlots]:
         """What lines say of contents in slots."""
-        return parts_of(line.content for line in self.lines)
+        return slots_of(line.content for line in self.lines)
+
+    def in_chunks(self) -> set[Part]:
+        """The contents in chunks, and the lists of such, that lines name."""
+        return {part for part in parts_of(line.content for line in self.lines) if not isinstance(part, InSlots)}
 
     def puts(self) -> set[int]:
         """The puts whose slots lines name."""

@@ -238,10 +238,11 @@ class FleetFiles:
         except ClientError as fault:
             return fault
 
-    def sweep(self) -> Swept:
-        found = [self.grid(grid).sweep() for grid in self.map.grids]
+    def sweep(self, erase: bool = False) -> Swept:
+        found = [self.grid(grid).sweep(erase) for grid in self.map.grids]
         forgotten, left, emptied = (sum(counts) for counts in zip(*((each.forgotten, each.left, each.emptied) for each in found)))
-        return Swept(forgotten, left, emptied, sorted({number for each in found for number in each.absent}))
+        absent = sorted({number for each in found for number in each.absent})
+        return Swept(forgotten, left, emptied, absent, sum(each.chunks for each in found), tuple(sorted({place for each in found for place in each.silent})))
 
     def catch_up(self) -> int:
         return sum(self.grid(grid).catch_up() for grid in self.map.grids)

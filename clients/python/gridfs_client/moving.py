@@ -22,7 +22,7 @@ from dataclasses import replace
 from . import core, ways
 from .answers import Tag
 from .buckets import Bucket, Held, held_of
-from .contents import Content, Inline, InSlots, Joined
+from .contents import Content, Inline, Part, joined
 from .core import Version
 from .errors import BadSettings, Damaged, NoRoom, Refused, SessionTaken
 from .fleet import FleetFiles, ground_of, sign, spool
@@ -272,7 +272,7 @@ class Mover:
         """What a name holds, in its place at the new grid: each part by itself, so that it has the same parts. None where a slot holds something else by now."""
         if isinstance(held.content, Inline):
             return target.placed(bucket, held.name, Source(held.content.content), lambda: held.words)
-        parts: list[InSlots] = []
+        parts: list[Part] = []
         try:
             for part in held.content.parts:
                 with spool() as room:
@@ -280,13 +280,13 @@ class Mover:
                         self.unplace(target, bucket, parts)
                         return None
                     room.seek(0)
-                    parts.append(target.in_slots(bucket, held.name, Source(room), lambda: held.words))
+                    parts.append(target.in_place(bucket, held.name, Source(room), lambda: held.words))
         except NoRoom:
             self.unplace(target, bucket, parts)
             raise
         return joined(parts)
 
-    def unplace(self, target: NamedFiles, bucket: Bucket, parts: list[InSlots]) -> None:
+    def unplace(self, target: NamedFiles, bucket: Bucket, parts: list[Part]) -> None:
         if parts:
             target.unplace(bucket, joined(parts))
 
@@ -334,10 +334,6 @@ def clear(files: NamedFiles, page: int, move: Move) -> int:
 def original(version: Version) -> Version:
     """The version of which a line is a copy, by whichever moves it came."""
     return replace(version, move=0)
-
-
-def joined(parts: list[InSlots]) -> Content:
-    return parts[0] if len(parts) == 1 else Joined(tuple(parts))
 
 
 def raise_number(files: NamedFiles, page: int, highest: int) -> None:

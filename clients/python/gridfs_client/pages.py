@@ -5,6 +5,8 @@
     7 1830 DIGEST 12 1:0-1,4 NAME     the same of so many bytes, put 12 of this session, in these slots
     7 {WORDS} 1830 DIGEST .. NAME     the same with words of whoever put it
     7 1830 DIGEST 12 1:0&90 .. NAME   contents in slots one behind the other, of several puts of this session: one content
+    7 1830 DIGEST 0.1:90+2 NAME       contents in chunks: at column 0, of session 1, number 90 and two more
+    7 1830 DIGEST 99*0.1:93 NAME      contents of so many bytes that a list of 99 bytes names, which is in chunks
     8 - NAME                          at this version the name was removed
     7@east.2>3.40 @aGVsbG8 NAME       a copy: session 2 of this grid chose the version, and it came by move 3, with number 40 of the page
     >3 0-32767 west                   a signpost: by move 3 the names of these slices went on to this grid
@@ -69,6 +71,13 @@ def length_of_lines(lines: Iterable[Line]) -> int:
 
 
 def line_text(line: Line) -> str:
+    """The line as it stands in a page. It is made once, since each change writes its page whole."""
+    if not line.text:
+        object.__setattr__(line, "text", written(line))
+    return line.text
+
+
+def written(line: Line) -> str:
     words = f"{{{line.words}}} " if line.words else ""
     copied = "@{0.grid}.{0.session}>{0.move}.{0.since}".format(line.copied) if line.copied else ""
     return f"{line.version}{copied} {words}{line.content.text() if line.content else '-'} {line.name}\n"
@@ -80,7 +89,9 @@ def parse_line(text: str) -> Line:
         raise ValueError(text)
     version, grid, session, move, since, words, _, inline, parts, name = found.groups()
     copied = Copied(int(session), grid, int(move), int(since)) if grid else None
-    return Line(name, int(version), content_of(inline, parts), words or "", copied)
+    line = Line(name, int(version), content_of(inline, parts), words or "", copied)
+    object.__setattr__(line, "text", f"{text}\n")
+    return line
 
 
 def parse_signpost(text: str) -> Signpost:

@@ -206,6 +206,12 @@ class Settings:
 
     def carrier(self) -> Carrier:
         """What carries the tenant's lines. CarrierFault where it can't be had."""
+        shape = self.shape()
+        carrier = self.new_carrier()
+        carrier.shape = shape
+        return carrier
+
+    def new_carrier(self) -> Carrier:
         tenant, patience = self.tenant, self.seconds("timeout")
         if "via" in self.values:
             return ProcessCarrier(tenant, shlex.split(self.values["via"]))

@@ -1,9 +1,10 @@
 """How a grid is, as a tenant can see it: which nodes answer, and what the tenant has used of its room."""
 
+from dataclasses import asdict
 from typing import Any
 
 from .grid import Nodes, Shape, listed
-from .usage import Usage
+from .usage import ColumnUsage, Usage
 
 
 def nodes_value(nodes: Nodes) -> dict[str, Any]:
@@ -45,7 +46,7 @@ def usage_value(usage: Usage | None, left_out: str | None) -> dict[str, Any]:
         "slots": {"used": usage.slots_taken, "free": usage.slots_free, "without_a_name": usage.slots_without_a_name},
         "bytes": {"used": usage.bytes_used, "free": usage.bytes_free},
         "left_out": None,
-    }
+    } | ({"chunks": [asdict(column) for column in usage.columns]} if usage.columns else {})
 
 
 def picture(nodes: Nodes, shape: Shape) -> list[str]:
@@ -83,5 +84,12 @@ def usage_lines(usage: Usage | None, left_out: str | None) -> list[str]:
         f"names: {usage.names}",
         f"pages: {usage.pages}, the fullest at {page.percent} percent (page {page.page} of session {page.session}, {page.bytes} of {page.most} bytes)",
         f"slots: {usage.slots_taken} used{f', of which {unnamed} are freed when room is wanted' if unnamed else ''}, {usage.slots_free} free",
-        f"bytes: {usage.bytes_used} used, {usage.bytes_free} free",
+        f"bytes: {usage.bytes_used} used, {usage.bytes_free} free{' in slots' * bool(usage.columns)}",
+        *map(column_line, usage.columns),
     ]
+
+
+def column_line(column: ColumnUsage) -> str:
+    line = f"chunks in column {column.column}: {column.used} bytes used of {column.allowed}"
+    line += f"; {counted('node', list(column.silent))} did not answer" if column.silent else ""
+    return line + (f"; chunks are lacking at {counted('node', list(column.lacking))}" if column.lacking else "")

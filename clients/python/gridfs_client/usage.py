@@ -1,8 +1,9 @@
 """What a tenant's names take of its room, and what is left."""
 
+from collections.abc import Iterator
 from dataclasses import dataclass
 
-from .contents import parts_of
+from .contents import slots_of
 from .layout import Layout
 from .names import NamedFiles
 from .pages import length_of_lines
@@ -24,6 +25,17 @@ class Fullest:
 
 
 @dataclass(frozen=True)
+class ColumnUsage:
+    """The bytes of chunks at the fullest node of a column, and those that the tenant may have there; its nodes that did not answer, and those that lack chunks."""
+
+    column: int
+    used: int
+    allowed: int
+    silent: tuple[int, ...]
+    lacking: tuple[int, ...]
+
+
+@dataclass(frozen=True)
 class Usage:
     """The names with their bytes, the pages, and the slots with the bytes that free ones have room for. A slot is taken as long as its session's
     table says so. Some that are taken hold no name's content: it is being written, or was replaced or left by a client that died. Where room is
@@ -37,6 +49,7 @@ class Usage:
     slots_taken: int
     slots_without_a_name: int
     slots_free: int
+    columns: tuple[ColumnUsage, ...] = ()  # where the tenant has room for chunks
 
 
 def usage_of(files: NamedFiles) -> Usage:
@@ -54,7 +67,22 @@ def usage_of(files: NamedFiles) -> Usage:
         slots_taken=sum(map(len, taken.values())),
         slots_without_a_name=sum((session, slot) not in named for session, slots in taken.items() for slot in slots),
         slots_free=len(free),
+        columns=tuple(column_usages(files)),
     )
+
+
+def column_usages(files: NamedFiles) -> Iterator[ColumnUsage]:
+    """What nodes tell of room for chunks, by column; nothing where the tenant has none."""
+    if files.writer.contents is None or not (rooms := files.writer.contents.rooms()):
+        return
+    chunks = files.writer.contents.chunks
+    for column in range(chunks.shape.columns):
+        places = chunks.shape.column(column)
+        known = {place: rooms[place] for place in places if place in rooms}
+        silent = tuple(chunks.node_at(place) for place in places if place not in rooms)
+        lacking = tuple(chunks.node_at(place) for place, room in known.items() if room.lacks)
+        every = list(known.values())
+        yield ColumnUsage(column, max((room.used for room in every), default=0), min((room.allowed for room in every), default=0), silent, lacking)
 
 
 def taken_slots(files: NamedFiles) -> dict[int, frozenset[int]]:
@@ -70,7 +98,7 @@ def taken_slots(files: NamedFiles) -> dict[int, frozenset[int]]:
 def named_slots(files: NamedFiles) -> set[tuple[int, int]]:
     """Session and number of each slot that has a piece of what a name holds."""
     contents = (held.content for bucket in files.writer.buckets.values() for held in bucket.names())
-    return {choice for part in parts_of(contents) for choice in part.order()}
+    return {choice for part in slots_of(contents) for choice in part.order()}
 
 
 def fullest_page(files: NamedFiles, layout: Layout) -> Fullest:

@@ -1,12 +1,16 @@
-"""What the one client of a session writes: its journals, its pages and its slots."""
+"""What the one client of a session writes: its journals, its pages, its slots and its chunks."""
+
+import time
 
 from collections.abc import Collection, Iterable
 from contextlib import suppress
 
 from . import ways
 from .buckets import Bucket
+from .contents import InSlots, Part
 from .core import Line, Page
-from .errors import Unanswered
+from .errors import Damaged, Unanswered
+from .in_chunks import Gone, contents_of
 from .layout import Layout
 from .pages import length_of_lines, length_of_signposts
 from .sessions import Files
@@ -24,6 +28,9 @@ class Writer:
         self.keeper = self.keeper_type(session, layout)
         self.lenders: dict[int, SlotKeeper] = {}  # of other sessions that this client has
         self.buckets: dict[int, Bucket] = {}
+        self.contents = contents_of(session)  # in chunks, where it may have some
+        self.gone: dict[int, set[Part]] = {}  # of each page, what is in chunks and no line names any more
+        self.gone_since = 0.0
         self.ground: ways.Ground | None = None
 
     def bucket(self, page: int) -> Bucket:
@@ -38,12 +45,29 @@ class Writer:
         """Announces and carries a journal, and notes the slots that its page doesn't name any more: once that was carried, no page that does is seen
         again."""
         before = bucket.change(journal)
+        self.not_named(bucket.number, before.in_chunks() - journal.in_chunks())
         self.keeper.release(before.slots(self.me) - journal.slots(self.me))
         ended = before.puts() - journal.puts()
         self.release_puts(ended)
         if any(strand.session != self.me for part in before.parts() if part.put in ended for strand in part.strands):
             with suppress(Unanswered):
                 self.keeper.flush()  # so that those who lent slots can see it
+
+    def not_named(self, page: int, parts: Iterable[Part]) -> None:
+        """Of these contents no line of a page names those that are in chunks any more, and none that could still be seen."""
+        if gone := {part for part in parts if not isinstance(part, InSlots)}:
+            self.gone_since = self.gone_since if self.gone else time.monotonic()
+            self.gone.setdefault(page, set()).update(gone)
+
+    def forget_gone(self, least: float = 0) -> None:
+        """Has nodes forget the chunks of contents that no line names any more, where that is so for so many seconds."""
+        if self.contents and time.monotonic() - self.gone_since >= least and (self.gone or self.contents.chunks.unneeded):
+            gone, self.gone = self.gone, {}
+            for page, parts in gone.items():
+                journal = self.bucket(page).client.journal
+                if journal is not None:  # (else a change got no answer: a sweep finds them)
+                    self.contents.not_needed(parts, journal.in_chunks())
+            self.contents.forget()
 
     def release_puts(self, puts: Iterable[int]) -> None:
         """These puts need no slots of others any more."""
@@ -80,6 +104,19 @@ class Writer:
             puts |= bucket.journal.puts()
         self.keeper.retain(slots, puts)
         self.keeper.flush()
+
+    def sweep_chunks(self) -> tuple[int, set[int]]:
+        """Has nodes forget the chunks that no page of the session names, all of which were just carried: how many there were, and the places of nodes that did
+        not answer."""
+        if self.contents is None or not self.contents.rooms():
+            return 0, set()
+        try:
+            return self.contents.sweep(part for page in self.journals() for part in page.in_chunks())
+        except Gone:
+            raise Damaged(f"session {self.me}: a list that a page names is gone") from None
+
+    def journals(self) -> Iterable[Page]:
+        return (self.bucket(page).journal for page in range(self.layout.pages))
 
     def release(self, choices: Iterable[tuple[int, int]]) -> None:
         """Slots (session, number) that no line was ever to name are needed no more."""

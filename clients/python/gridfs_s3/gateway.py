@@ -305,7 +305,7 @@ class Gateway:
     def expect_room(self, size: int) -> None:
         """507 InsufficientStorage for what would have no room if nothing else were there. (What has none now is seen once it is here.)"""
         pools = list(self.grids.pools.values())
-        if all(pool.is_open for pool in pools) and size > max(pool.slot_bytes for pool in pools):
+        if all(pool.is_open for pool in pools) and size > max(pool.most_bytes for pool in pools):
             raise S3Error("InsufficientStorage", "The tenant has no room for so long a content.")
 
     async def document(self, asked: Asked, name: str, is_of_content: bool = True) -> Element:

@@ -21,7 +21,8 @@ quoted as in a URL:
     b    of what a bucket was given: when the bucket was made       v    of a bucket: whether its versions are Enabled or Suspended
     d    the version is a marker of a removal                      o    of a version whose words were changed: NUMBER.SESSION of what was there first
     p    of an upload: NUMBER.MD5.SIZE.SECONDS of each part, with / between: MD5 is in base64url, SECONDS are since the upload was begun. Behind that
-         .CHECKSUM, where one is kept, in base64url, and its .ALGORITHM, where that is another one than was named. (Earlier uploads have NUMBER.MD5.SIZE.TIME,
+         .CHECKSUM, where one is kept, in base64url, and its .ALGORITHM, where that is another one than was named. Parts that lists name have that there,
+         between { and } (part_lists.py). (Earlier uploads have NUMBER.MD5.SIZE.TIME,
          with , between and MD5 in hexadecimal)
 """
 
@@ -134,11 +135,15 @@ def number_of(values: Values, key: str) -> int:
 
 def parts_of(values: Values) -> list[Part]:
     """The parts of an upload. Damaged where a word has no form."""
-    words = [word for word in re.split("[,/]", values.get("p", "")) if word]
-    found = [PART.fullmatch(word) or OLD_PART.fullmatch(word) for word in words]
-    if not all(found):
+    return [part_in(word, values) for word in re.split("[,/]", values.get("p", "")) if word]
+
+
+def part_in(word: str, values: Values) -> Part:
+    """The part of an upload that a word tells. Damaged where it has no form."""
+    found = PART.fullmatch(word) or OLD_PART.fullmatch(word)
+    if not found:
         raise Damaged("the words of an upload have no form")
-    return [part_of(each, values) for each in found if each]
+    return part_of(found, values)
 
 
 def part_of(found: re.Match[str], values: Values) -> Part:
@@ -151,14 +156,15 @@ def part_of(found: re.Match[str], values: Values) -> Part:
 
 def words_of(parts: Iterable[Part], values: Values) -> str:
     """These parts as the words of an upload have them: few letters for each, and none that words quote, since all of them stand in one line."""
-    words = []
-    for part in parts:
-        word = f"{part.number}.{to_base64(bytes.fromhex(part.md5))}.{part.size}.{max(0, part.time - number_of(values, 'i')) // 1_000}"
-        if part.checksum:
-            word += f".{part.checksum.value.rstrip('=').translate(PLAIN)}"
-            word += "" if part.checksum.algorithm == named_in(values) else f".{part.checksum.algorithm}"
-        words.append(word)
-    return "/".join(words)
+    return "/".join(word_of(part, values) for part in parts)
+
+
+def word_of(part: Part, values: Values) -> str:
+    word = f"{part.number}.{to_base64(bytes.fromhex(part.md5))}.{part.size}.{max(0, part.time - number_of(values, 'i')) // 1_000}"
+    if part.checksum:
+        word += f".{part.checksum.value.rstrip('=').translate(PLAIN)}"
+        word += "" if part.checksum.algorithm == named_in(values) else f".{part.checksum.algorithm}"
+    return word
 
 
 def named_in(values: Values) -> str:

@@ -5,13 +5,15 @@ from collections.abc import Callable, Generator, Iterator, Sequence
 from contextlib import closing
 from dataclasses import dataclass
 from functools import partial
+from itertools import groupby
 
 from gridfs_client.answers import Row
 from gridfs_client.buckets import Bucket, Held, held_of
-from gridfs_client.contents import Inline, InSlots, digest_in_hex
+from gridfs_client.contents import Inline, InSlots, Part, digest_in_hex
 from gridfs_client.errors import Damaged, Replaced, Unanswered
+from gridfs_client.in_chunks import Gone
 from gridfs_client.layout import Layout
-from gridfs_client.names import BEGINNINGS, NamedFiles, read_piece
+from gridfs_client.names import BEGINNINGS, NamedFiles, read_piece, where_of
 from gridfs_client.pieces import head, without_head
 from gridfs_client.sessions import Files
 from gridfs_client.ways import Ground
@@ -100,8 +102,12 @@ class Reader(NamedFiles):
             yield from bucket.names()
 
     def spans(self, held: Held) -> Iterator[Span]:
+        """The pieces of what is in slots."""
         begin = 0
         for part in held.content.parts:
+            if not isinstance(part, InSlots):
+                begin += part.size
+                continue
             left = part.size
             for place, (session, number) in enumerate(part.order()):
                 slots = self.layout.slots(session)
@@ -120,6 +126,35 @@ class Reader(NamedFiles):
         if isinstance(held.content, Inline):
             yield held.content.content[first:end]
             return
+        if any(isinstance(part, InSlots) for part in held.content.parts):
+            yield from self.content_in_order(held, first, end)
+        else:
+            yield from self.in_chunks(held, held.content.parts, first, end)
+
+    def content_in_order(self, held: Held, first: int, end: int) -> Generator[bytes, None, None]:
+        """The same of a content of which some parts are in slots: parts in chunks, and between them those that are in slots together."""
+        begin = 0
+        for is_in_slots, parts in groupby(held.content.parts, lambda part: isinstance(part, InSlots)):
+            some = list(parts)
+            behind = begin + sum(part.size for part in some)
+            if begin < end and behind > first:
+                if is_in_slots:
+                    yield from self.in_slots_between(held, max(begin, first), min(behind, end))
+                else:
+                    yield from self.in_chunks(held, some, first - begin, end - begin)
+            begin = behind
+
+    def in_chunks(self, held: Held, parts: Sequence[Part], first: int, end: int) -> Generator[bytes, None, None]:
+        contents = self.chunk_contents(held.name)
+        try:
+            with closing(contents.read_cuts(contents.cuts(parts, first, end))) as found:
+                yield from found
+        except Gone:
+            raise Replaced(f"{held.name}: replaced while it was read") from None
+        except Damaged as fault:
+            raise Damaged(f"{held.name}: {fault}") from None
+
+    def in_slots_between(self, held: Held, first: int, end: int) -> Generator[bytes, None, None]:
         wanted = [span for span in self.spans(held) if span.begin < end and span.begin + span.length > first]
         digest, seen = hashlib.sha256(), 0
         with closing(self.pieces(wanted)) as found:
@@ -170,5 +205,5 @@ class Reader(NamedFiles):
                 return held, parts, next(parts, b"")
             except Replaced:
                 if not self.bucket(name).reread(held.version.session):
-                    raise Damaged(f"{name}: its slots don't hold it") from None
+                    raise Damaged(f"{name}: {where_of(held.content)} don't hold it") from None
         raise Replaced(f"{name}: replaced each of {BEGINNINGS} times while it was read")

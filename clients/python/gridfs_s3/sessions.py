@@ -92,6 +92,9 @@ class Pool:
             others = self.claims.told()
             raise SessionTaken(f"other clients use all sessions that the settings name{': ' * bool(others)}{others}")
         self.carrier, self.sessions = carrier, told.sessions
+        contents = next((worker.store.writer.contents for worker in self.workers.values()), None)
+        if contents:
+            contents.chunks.ask_rooms(SOON)
 
     def add(self, carrier: Carrier, number: int, home: int) -> Worker | None:
         """A worker of a session, or one that is there by this carrier; None where another client has it."""
@@ -178,9 +181,11 @@ class Pool:
         return self.is_open and len(self.workers) == self.sessions
 
     @property
-    def slot_bytes(self) -> int:
-        """What all slots of all sessions have room for."""
-        return sum(slot.room for session in range(1, self.sessions + 1) for slot in self.layout.slots(session))
+    def most_bytes(self) -> int:
+        """What all slots of all sessions have room for; or all columns, where there is room for chunks."""
+        contents = [worker.store.writer.contents for worker in self.workers.values()]
+        in_chunks = max((each.chunks.allowed() for each in contents if each), default=0)
+        return in_chunks or sum(slot.room for session in range(1, self.sessions + 1) for slot in self.layout.slots(session))
 
     def renew(self, worker: Worker) -> None:
         """Forgets all that the worker knows of files; its pages are settled anew, by and by."""
@@ -599,8 +604,8 @@ class Pool:
         while True:
             await asyncio.sleep(TIDY)
             for number in list(self.workers):
-                keeper = self.workers[number].store.writer.keeper
-                if self.is_idle(self.workers[number]) and keeper.table and keeper.table.lent:
+                store = self.workers[number].store
+                if self.is_idle(self.workers[number]) and store.wants_recall():
                     try:
                         await self.run(await self.lease(number), Store.recall)
                     except ClientError:

@@ -2,7 +2,7 @@
 
 import threading
 import time
-from collections.abc import Iterator
+from collections.abc import Iterable, Iterator
 from contextlib import contextmanager
 from dataclasses import replace
 from typing import cast
@@ -194,6 +194,9 @@ class SharedWriter(Writer):
 
     def has_settled_all(self) -> bool:
         return len(self.carried) == self.layout.pages
+
+    def journals(self) -> Iterable[Page]:
+        return self.shared.index.pages_of(self.me) if self.has_settled_all() else super().journals()
 
     def find_room(self) -> None:
         """Where all pages of the session are as this client carried them they are not looked at again: the index has them. Else many are not looked at at

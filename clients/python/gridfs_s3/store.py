@@ -9,10 +9,11 @@ from typing import IO, Protocol, cast
 
 from gridfs_client.answers import Tag
 from gridfs_client.buckets import Bucket, Held
-from gridfs_client.contents import Content, Inline, InSlots, Joined
+from gridfs_client.contents import Content, Inline, InSlots, PartList
+from gridfs_client.contents import Part as At
 from gridfs_client.core import Line, Version
 from gridfs_client.ends import End
-from gridfs_client.errors import CarrierFault, ClientError, Damaged, NoRoom, NoSuchName, SessionTaken, Unanswered
+from gridfs_client.errors import CarrierFault, ClientError, NoRoom, NoSuchName, SessionTaken, Unanswered
 from gridfs_client.fleet import sign, spool
 from gridfs_client.fleet_map import Move
 from gridfs_client.moving import clear
@@ -26,7 +27,8 @@ from gridfs_client.writers import Writer
 
 from .checksums import Checksum
 from .errors import S3Error
-from .places import Part, Values, number_of, of_words, parts_of, to_words, upload_name, words_of
+from .part_lists import Uploaded, for_object, uploaded
+from .places import Part, Values, number_of, of_words, parts_of, to_words, upload_name
 from .reading import Reader
 from .shared import Shared
 from .trips import Elsewhere
@@ -36,6 +38,7 @@ Condition = Callable[[Held | None], None]  # judges what a name holds, right bef
 AGAIN = 60.0  # seconds until a page that is full is swept again, and all pages of a session are searched for room
 MANY_AGAIN = 0.25  # seconds until a page is swept again that has many removals again
 MANY_PARTS = 30  # of an upload, from which on it is their list that finds no room in a page
+LINES = 8  # of an upload that a page has room for, before parts in chunks go into lists
 STAMP = "0" * 13  # as long as a time is
 
 
@@ -297,10 +300,16 @@ class Store(Reader):
         """Has this session's lines go from a page that can, and says that it was made beside the removals of others."""
         return self.writer.tidy(self.writer.bucket(page))
 
+    def wants_recall(self) -> bool:
+        """Whether slots are lent, or chunks are named no more."""
+        table, contents = self.writer.keeper.table, self.writer.contents
+        return bool(table and table.lent or self.writer.gone or contents and contents.chunks.unneeded)
+
     def recall(self) -> None:
-        """Finds slots that were lent to contents that are gone."""
+        """Finds slots that were lent to contents that are gone, and has chunks forgotten that are for some time."""
         self.writer.keeper.recall()
         self.writer.keeper.flush()
+        self.writer.forget_gone(self.forget_after)
 
     def end(self) -> End | None:
         """Where the session came to its end, where nothing is under way into its pages."""
@@ -330,9 +339,10 @@ class Store(Reader):
             self.writer.find_room()
             self.writer.keeper.recall()
             self.writer.keeper.write(self.writer.keeper.needed())  # (also where nothing is freed: so no pending write of the table takes effect later)
+            self.writer.sweep_chunks()
 
     # Uploads in parts. All of an upload is one line of this session, on the page of the object to be: so one change of that page brings the object
-    # with the slots of the parts, and has the upload go.
+    # with the slots or chunks of the parts, and has the upload go.
 
     def begin_upload(self, bucket_name: str, object_name: str, values: Values) -> str:
         """Begins an upload; its ID, which has the number of this session."""
@@ -360,25 +370,29 @@ class Store(Reader):
     def bring(self, name: str, held: Held) -> Held:
         """Puts an upload that is at an earlier grid anew, with the same parts."""
         assert self.trip
-        source, words = self.trip.grid(held.version.grid), values_beside(held)
+        source, words = cast(Store, self.trip.grid(held.version.grid)), values_beside(held)
 
         def is_the_same(now: Held | None) -> None:
             if not now or now.version != held.version:
                 raise Elsewhere(self.grid)
 
         def placed(bucket: Bucket, _: Held | None) -> Content:
-            parts: list[InSlots] = []
+            parts = Uploaded(words, self.writer.contents)
             try:
-                for part in held.content.parts:
-                    with spool() as room:
-                        if source.copy_part(held, part, room) is not None:
-                            raise Elsewhere(self.grid)  # (it was replaced meanwhile)
-                        room.seek(0)
-                        parts.append(self.in_slots(bucket, name, Source(room), lambda: self.words_at(lambda: words, STAMP)))
+                for part, where in source.uploaded(held):
+                    parts.in_line[part.number] = part, None
+                    if where:
+                        with spool() as room:
+                            if source.copy_part(held, where, room) is not None:
+                                raise Elsewhere(self.grid)  # (it was replaced meanwhile)
+                            room.seek(0)
+                            parts.in_line[part.number] = part, self.in_place(bucket, name, Source(room), lambda: "x" * 64)
+                    parts.keep_short(self.layout.page_room // LINES)
             except BaseException:
-                self.unplace(bucket, joined(parts))
+                self.unplace(bucket, parts.content())
                 raise
-            return joined(parts)
+            words["p"] = parts.words()
+            return parts.content()
 
         return self.change(name, placed, lambda: words, is_the_same)
 
@@ -394,17 +408,22 @@ class Store(Reader):
             self.expect_own(found_upload(held))
             body.checksum(algorithm)  # (which is computed from here on)
             source = Source(cast(IO[bytes], body))
-            added: InSlots | None = None
+            added: At | None = None
             if source.size:
-                added = self.in_slots(bucket, name, source, lambda: "x" * 64)
+                added = self.in_place(bucket, name, source, lambda: "x" * 64)
             else:
                 source.expect_end()
-            now_held = found_upload(bucket.held(name))
-            parts = {part.number: (part, slots) for part, slots in self.uploaded(now_held)}
-            parts[number] = Part(number, body.digest(), added.size if added else 0, now, body.checksum(algorithm)), added
-            values.update(values_beside(now_held))
-            values["p"] = words_of((parts[each][0] for each in sorted(parts)), values)
-            return joined([parts[each][1] for each in sorted(parts)])
+            try:
+                now_held = found_upload(bucket.held(name))
+                parts = uploaded(now_held, self.writer.contents)
+                parts.in_line[number] = Part(number, body.digest(), added.size if added else 0, now, body.checksum(algorithm)), added
+                values.update(values_beside(now_held))
+                parts.keep_short(self.layout.page_room // LINES)
+            except BaseException:
+                self.unplace(bucket, added)
+                raise
+            values["p"] = parts.words()
+            return parts.content()
 
         try:
             self.change(name, placed, lambda: values)
@@ -415,19 +434,21 @@ class Store(Reader):
             raise NoLine(f"the list of this upload's parts is full with {count - 1:,}, since it stands in one page; longer parts are wanted") from None
         return body.digest()
 
-    def uploaded(self, held: Held) -> list[tuple[Part, InSlots | None]]:
+    def uploaded(self, held: Held) -> list[tuple[Part, At | None]]:
         """The parts of an upload in ascending order, each with where it stands."""
-        parts, slots = parts_of(of_words(held.words)), held.content.parts
-        if [part.size for part in parts if part.size] != [each.size for each in slots]:
-            raise Damaged("the words of an upload are of other parts than it has")
-        rest = iter(slots)
-        return [(part, next(rest) if part.size else None) for part in parts]
+        return uploaded(held, self.writer.contents).all()
 
-    def complete(self, name: str, target: Target, values: Values, chosen: Sequence[InSlots | None], condition: Condition | None) -> Held:
+    def complete(self, name: str, target: Target, values: Values, chosen: Sequence[At | None], condition: Condition | None) -> Held:
         """Gives the object the parts as they are, and has the upload go, in one change. Over several grids the upload stays, and has to be removed: another grid
-        may still have an older line of it. (Both lines are in one page, so slots that one of them names stay.)"""
+        may still have an older line of it. (Both lines are in one page, so what one of them names stays.)"""
         besides = frozenset[str]() if self.trip else frozenset([name])
-        return self.change(target.name, lambda *_: joined(chosen), lambda: values, condition, besides, target.about)
+
+        def placed(bucket: Bucket, _: Held | None) -> Content:
+            held = bucket.held(name)
+            lists = [each for each in held.content.parts if isinstance(each, PartList)] if held else []
+            return for_object([each for each in chosen if each], lists, self.writer.contents)
+
+        return self.change(target.name, placed, lambda: values, condition, besides, target.about)
 
     # What there is room for
 
@@ -447,8 +468,3 @@ def found_upload(held: Held | None) -> Held:
     if not held:
         raise S3Error("NoSuchUpload")
     return held
-
-
-def joined(parts: Sequence[InSlots | None]) -> Content:
-    found = [part for part in parts if part]
-    return Inline(b"") if not found else found[0] if len(found) == 1 else Joined(tuple(found))

@@ -16,7 +16,7 @@ from .errors import S3Error, tell
 from .gateway import Operations
 from .markup import Element, document, element, many
 from .objects import HELPERS, LONGEST_PUT, MANY, Objects, algorithm_wanted, brought_by
-from .places import Object, Part, name_of, named_in, of_words, parts_of, upload_name
+from .places import Object, Part, name_of, named_in, of_words, upload_name
 from .requests import Asked, answer, iso
 from .sessions import now_ms
 from .store import Body, Store
@@ -209,10 +209,14 @@ class Uploads(Operations):
         await self.gateway.need_bucket(asked.bucket)
         most, after = asked.number("max-parts", 1_000, 1_000), asked.number("part-number-marker", 0, 99_999)
         name = self.name_of(asked)
-        held = await self.gateway.look(name, lambda store: store.upload(name))
-        expect_key(asked, held)
+
+        def look(store: Store) -> tuple[Held, list[Part]]:
+            held = store.upload(name)
+            expect_key(asked, held)
+            return held, [part for part, _ in store.uploaded(held) if part.number > after]
+
+        held, parts = await self.gateway.look(name, look)
         words = of_words(held.words)
-        parts = [part for part in parts_of(words) if part.number > after]
         rows = [
             many(
                 "Part",

@@ -1,0 +1,85 @@
+"""What is asked of nodes about chunks, and what they tell, as bytes of lines (docs/CHUNKS.md)."""
+
+import codecs
+from dataclasses import dataclass
+
+MOST_CHUNK = 1 << 20  # bytes
+ROOM = 0, 0  # by which an answer about room is known; others by a session and a number
+WORDS = frozenset((b"kept", b"got", b"none", b"lacks", b"damaged", b"forgot", b"chunks", b"room"))
+REFUSALS = frozenset((b"differs", b"below", b"room"))
+ESCAPED = ((b"\\s", b" "), (b"\\n", b"\n"), (b"\\b", b"\\"))  # in a content behind `=`; the backslash is the last one
+
+
+@dataclass(frozen=True)
+class ChunkTold:
+    """What a node told: a word, by what it is known whose answer it is, and the numbers behind that; what else some words have."""
+
+    node: int
+    word: str
+    key: tuple[int, int] = ROOM
+    numbers: tuple[int, ...] = ()
+    content: bytes = b""
+    rows: tuple[tuple[int, int], ...] = ()  # of a list: numbers, each with its size
+    is_end: bool = False  # of a list that tells all
+
+
+def content_word(content: bytes) -> bytes:
+    """A content as a word: the bytes themselves, of which three are written as Python writes them."""
+    return b"~" + content.replace(b"\\", b"\\\\").replace(b"\n", b"\\n").replace(b" ", b"\\040")
+
+
+def content_in(word: bytes) -> bytes:
+    """The content that a word is; a ValueError where it is none."""
+    if word.startswith(b"~"):
+        content: bytes = codecs.escape_decode(word[1:])[0] if b"\\" in word else word[1:]  # type: ignore[assignment]
+        return content
+    if not word.startswith(b"="):
+        raise ValueError(word[:1])
+    content = word[1:]
+    for text, byte in ESCAPED:
+        content = content.replace(text, byte)
+    return content
+
+
+def keep(session: int, number: int, content: bytes) -> bytes:
+    return b"keep %d %d %b" % (session, number, content_word(content))
+
+
+def parse_list(node: int, words: list[bytes]) -> ChunkTold:
+    session, after, floor, *rows = words
+    is_end = rows[-1:] == [b"end"]
+    found = (row.split(b".") for row in (rows[:-1] if is_end else rows))
+    return ChunkTold(node, "chunks", (int(session), int(after)), (int(floor),), rows=tuple((int(number), int(size)) for number, size in found), is_end=is_end)
+
+
+def parse_chunk(node: int, body: bytes) -> ChunkTold | None:
+    """What a body tells of chunks; None where it is of something else. `refused bad` may be of anything: it is also told of room."""
+    verb, _, rest = body.partition(b" ")
+    try:
+        if verb == b"got":
+            *head, word = rest.split(b" ")
+            session, number, size, first = map(int, head)
+            return ChunkTold(node, "got", (session, number), (size, first), content_in(word))
+        if verb == b"refused":
+            verb, _, rest = rest.partition(b" ")
+            if verb == b"bad" and not rest:
+                return ChunkTold(node, "bad")
+            if verb not in REFUSALS:
+                return None
+            verb = b"refused " + verb
+        elif verb not in WORDS:
+            return None
+        words = rest.split(b" ")
+        if verb == b"chunks":
+            return parse_list(node, words)
+        numbers = tuple(map(int, words))
+        if verb == b"room":
+            return ChunkTold(node, "room", ROOM, numbers) if len(numbers) == 4 else None
+        if verb == b"forgot":
+            session, floor, first, _ = numbers
+            return ChunkTold(node, "forgot", (session, first), (floor,))
+        session, number, *more = numbers
+        wanted = 0 if verb in (b"none", b"lacks", b"damaged", b"refused differs") else 1
+        return ChunkTold(node, verb.decode(), (session, number), tuple(more)) if len(more) == wanted else None
+    except ValueError:
+        return None

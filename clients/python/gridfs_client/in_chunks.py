@@ -1,0 +1,225 @@
+"""Contents of names in chunks, of one session: written, read, and forgotten once no line names them."""
+
+import hashlib
+from collections import deque
+from collections.abc import Callable, Collection, Generator, Iterable, Iterator
+from contextlib import closing, suppress
+from dataclasses import dataclass
+from typing import cast
+
+from .carriers import Carrier
+from .chunk_lines import MOST_CHUNK
+from .chunks import ROOM_LASTS, Chunks, Rooms, Wanted
+from .contents import InChunks, InSlots, PartList, Part, digest_in_hex, parse_part, to_base64
+from .errors import CarrierFault, Damaged, NoRoom, Unanswered
+from .runs import Place, Run, runs_of
+from .sessions import Files, Session
+from .streams import Source
+
+MOST_LISTS = 64  # that are remembered
+MOST_LENGTH = 1 << 26  # bytes of a list
+
+
+class Gone(Exception):
+    """A chunk was forgotten: what names it has been replaced, or removed."""
+
+
+@dataclass(frozen=True)
+class Cut:
+    """The bytes of a content from the first to before the end."""
+
+    part: InChunks
+    first: int
+    end: int
+
+    @property
+    def is_whole(self) -> bool:
+        return (self.first, self.end) == (0, self.part.size)
+
+
+class ChunkContents:
+    """The contents of a session in chunks."""
+
+    most = MOST_CHUNK  # fewer in tests
+
+    def __init__(self, chunks: Chunks):
+        self.chunks = chunks
+        self.lists: dict[PartList, tuple[tuple[Part, str], ...]] = {}
+
+    def rooms(self) -> Rooms:
+        """What nodes have room for; nothing where the tenant may have no chunks."""
+        return self.chunks.rooms()
+
+    # Writing
+
+    def expect_room(self, name: str, size: int | None) -> int:
+        """The column for a content of so many bytes. NoRoom where all columns together have too little; Unanswered where none is wholly up."""
+        for lasts in (ROOM_LASTS, 0):  # (as it was told last, and then as it is)
+            rooms = self.chunks.rooms(lasts)
+            usable = self.chunks.usable(rooms)
+            column = self.chunks.column_for(rooms, size or 1, min(size or 1, self.most))
+            if column is not None and sum(usable.values()) >= (size or 1):
+                return column
+        if usable:
+            told = ", ".join(f"column {each} has {free}" for each, free in usable.items())
+            raise NoRoom(f"{name}: no room: {size or 'some'} bytes are wanted, and {told} free")
+        raise Unanswered(f"session {self.chunks.number}: no column of nodes that give room for chunks is wholly up")
+
+    def put(self, source: Source, column: int, progress: Callable[[int, int | None], None]) -> InChunks:
+        """The content in chunks, which no line names yet. NoRoom, Unanswered, and faults of the source."""
+        digest, size = hashlib.sha256(), 0
+        count = None if source.size is None else -(-source.size // self.most)
+
+        def pieces() -> Iterator[bytes]:
+            nonlocal size
+            left = source.size
+            while left is None or left:
+                piece = source.read(self.most) if left is None else source.read_exactly(min(left, self.most))
+                if not piece:
+                    return
+                left = None if left is None else left - len(piece)
+                digest.update(piece)
+                size += len(piece)
+                yield piece
+            source.expect_end()
+
+        runs = self.chunks.keep(pieces(), column, lambda done: progress(done, count))
+        return InChunks(size, to_base64(digest.digest()), runs)
+
+    def put_list(self, entries: Iterable[tuple[Part, str]], column: int) -> PartList:
+        """A list of contents in chunks, each with a word or none beside it, which no line names yet."""
+        entries = tuple(entries)
+        text = "".join(f"{part.text()}{f' {word}' if word else ''}\n" for part, word in entries).encode()
+        at = self.put(Source(text), column, lambda *_: None)
+        return self.remember(PartList(sum(part.size for part, _ in entries), at.digest, at.size, at.runs), entries)
+
+    def remember(self, listed: PartList, entries: tuple[tuple[Part, str], ...]) -> PartList:
+        if len(self.lists) >= MOST_LISTS:
+            del self.lists[next(iter(self.lists))]
+        self.lists[listed] = entries
+        return listed
+
+    # Reading
+
+    def wanted(self, part: InChunks, first: int, end: int) -> Iterator[Wanted]:
+        """The chunks that have the bytes from the first to before the end."""
+        places = (place for run in part.runs for place in run.places())
+        for at, place in enumerate(places):
+            begin = at * self.most
+            size = min(self.most, part.size - begin)
+            if begin + size > first and begin < end:
+                from_here = max(0, first - begin)
+                yield Wanted(place, size, from_here, min(size, end - begin) - from_here)
+
+    def read(self, part: InChunks) -> Generator[bytes, None, None]:
+        """All bytes of a content, as `read_cuts` gives them."""
+        return self.read_cuts([Cut(part, 0, part.size)])
+
+    def read_cuts(self, cuts: Iterable[Cut]) -> Generator[bytes, None, None]:
+        """What is cut from these contents, one after another; the last bytes of one that is read whole once its digest was found right. Gone where a chunk was
+        forgotten; Damaged."""
+        coming = deque[Cut]()
+
+        def wanted() -> Iterator[Wanted]:
+            for cut in cuts:
+                if cut.part.pieces != -(-cut.part.size // self.most):
+                    raise Damaged("as many chunks as are named don't hold so many bytes")
+                if any(run.column >= self.chunks.shape.columns for run in cut.part.runs):
+                    raise Damaged(f"it is in a column that a grid of {self.chunks.shape.columns} has not: is `grid` right?")
+                coming.append(cut)
+                yield from self.wanted(cut.part, cut.first, cut.end)
+
+        digest, read = hashlib.sha256(), 0
+        with closing(self.chunks.get(wanted())) as found:
+            for piece in found:
+                if piece is None:
+                    raise Gone
+                cut = coming[0]
+                read += len(piece)
+                if cut.is_whole:
+                    digest.update(piece)
+                if read == cut.end - cut.first:
+                    if cut.is_whole and digest.hexdigest() != digest_in_hex(cut.part.digest):
+                        raise Damaged("its chunks don't hold it")
+                    digest, read = hashlib.sha256(), 0
+                    coming.popleft()
+                yield piece
+
+    def cuts(self, parts: Iterable[Part], first: int, end: int) -> Iterator[Cut]:
+        """What has the bytes from the first to before the end, of contents that are in chunks, one behind the other. Lists are read as they are come to."""
+        begin = 0
+        for part in parts:
+            if begin < end and begin + part.size > first and part.size:
+                if isinstance(part, PartList):
+                    yield from self.cuts((each for each, _ in self.entries(part)), first - begin, end - begin)
+                elif isinstance(part, InChunks):
+                    yield Cut(part, max(0, first - begin), min(part.size, end - begin))
+            begin += part.size
+
+    def entries(self, listed: PartList) -> tuple[tuple[Part, str], ...]:
+        """What a list names, each with its word. Gone, Damaged."""
+        if listed not in self.lists:
+            if listed.length > MOST_LENGTH:
+                raise Damaged("the list of its parts is too long")
+            try:
+                lines = b"".join(self.read(listed.list)).decode().splitlines()
+                entries = tuple((parse_part(" ".join(words[:3])), " ".join(words[3:])) for words in (line.split(" ") for line in lines))
+            except (ValueError, IndexError):
+                raise Damaged("the list of its parts has no form") from None
+            if sum(part.size for part, _ in entries) != listed.size or any(not isinstance(part, InChunks) for part, _ in entries):
+                raise Damaged("the list of its parts has another length")
+            self.remember(listed, entries)
+        return self.lists[listed]
+
+    # Forgetting
+
+    def runs_in(self, parts: Iterable[Part]) -> Iterator[Run]:
+        """All chunks that these need: those of lists, and of what they name. Gone, Damaged."""
+        for part in parts:
+            if isinstance(part, PartList):
+                yield from self.runs_in(each for each, _ in self.entries(part))
+            if not isinstance(part, InSlots):
+                yield from part.runs
+
+    def not_needed(self, gone: Collection[Part], named: Collection[Part]) -> None:
+        """Notes what a page named and names no more, but for what it names still. (Where a list can't be read, a sweep finds what it named.)"""
+        try:
+            stay = {place for run in self.runs_in(named) for place in run.places()} if any(isinstance(part, PartList) for part in (*gone, *named)) else set()
+            runs = self.runs_in(sorted((part for part in gone if part not in named), key=lambda part: part.text()))
+            self.chunks.not_needed(runs_of(place for run in runs for place in run.places() if place not in stay) if stay else runs)
+        except (Gone, Damaged, Unanswered):
+            pass
+
+    def forget(self) -> None:
+        """Has nodes forget what was noted, as far as they answer soon."""
+        with suppress(CarrierFault):
+            self.chunks.forget_unneeded()
+
+    def sweep(self, named: Iterable[Part]) -> tuple[int, set[int]]:
+        """Has nodes forget all chunks of the session but those that its journals name, all of which it has carried. How many there were, and the places of nodes
+        that did not answer. Nothing that an earlier client sent is kept any more. Damaged, Gone: a list that is named can't be read, and nothing is forgotten."""
+        chunks = self.chunks
+        stay = {place for run in self.runs_in(named) for place in run.places()}
+        chunks.begin_above(0)
+        floor, every = chunks.last, set(range(chunks.told.nodes))
+        up = chunks.raise_floors(chunks.number, floor, every, chunks.pace.timeout / 2)
+        orphans = set[Place]()
+        for place in sorted(up):
+            column = place % chunks.shape.columns
+            try:
+                orphans |= {(column, chunks.number, number) for number in chunks.numbers_at(place, chunks.number)} - stay
+            except Unanswered:
+                every.add(place)
+                up = up - {place}
+        chunks.unneeded.clear()
+        chunks.forget(runs_of(sorted(orphans)), chunks.pace.timeout / 2, floor)
+        return len(orphans), every - up
+
+
+def contents_of(session: Files) -> ChunkContents | None:
+    """The contents in chunks of a session, where it is said how its nodes are arranged."""
+    carrier: Carrier | None = getattr(session, "carrier", None)  # (registers in memory have none)
+    if carrier is None or carrier.told is None or carrier.shape is None or carrier.shape.nodes != carrier.told.nodes:
+        return None
+    return ChunkContents(Chunks(carrier, carrier.told, session.number, carrier.shape, lambda: cast(Session, session).pace))
+

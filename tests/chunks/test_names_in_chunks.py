@@ -1,0 +1,397 @@
+"""Names whose contents are in chunks, step by step: what a client leaves that dies at each of its steps, and what another one sees."""
+
+import io
+import itertools
+import os
+import random
+import unittest
+from unittest import mock
+
+from memory_with_chunks import SHORT, Killed, World
+from servers import Servers
+
+from gridfs_client import BadSettings, Damaged, NamedFiles, NoRoom, NoSuchName, Replaced, Unanswered
+from gridfs_client.contents import InChunks, InSlots, PartList, parse_part
+from gridfs_client.pages import parse_line
+from gridfs_client.status import usage_lines, usage_value
+from gridfs_client.usage import usage_of
+from registers import Stream
+
+LONG, OLD, NEW = os.urandom(350), os.urandom(210), os.urandom(SHORT)
+
+
+def kill_at(step):
+    def at_step(now):
+        if now == step:
+            raise Killed
+
+    return at_step
+
+
+def content_or_none(files, name):
+    try:
+        return files.get(name)[0]
+    except NoSuchName:
+        return None
+
+
+def content_of(files, name):
+    return files.bucket(name).held(name).content
+
+
+class Names(unittest.TestCase):
+    def setUp(self):
+        self.world = World()
+        self.servers = self.world.servers
+
+    def swept(self):
+        """All sessions are swept: just what is named is kept, at each server."""
+        files = self.world.client(1, others=(2,))
+        swept = files.sweep()
+        self.assertEqual(self.world.kept(), self.world.named())
+        for place, server in self.servers.at.items():
+            if not server.lacks:
+                self.assertEqual({key for key in server.chunks}, {key for column, *key in self.world.named() if column == place % 2 for key in [tuple(key)]})
+        return swept
+
+    def test_put_get_and_remove(self):
+        files = self.world.client(1)
+        for content in (LONG, b"", b"short", OLD, io.BytesIO(LONG), Stream(LONG), Stream(b"x" * 2 * SHORT), b"y" * 3 * SHORT):
+            entry = files.put("name", content)
+            told = content if isinstance(content, bytes) else content.getvalue()
+            self.assertEqual(self.world.client(2).get("name"), (told, entry))
+            self.assertEqual(entry.pieces, 0 if len(told) <= 64 else -(-len(told) // SHORT))
+            files.close()
+            self.assertEqual(self.world.kept(), self.world.named())
+        self.assertIsInstance(content_of(files, "name"), InChunks)
+        self.assertEqual([each.size for each in self.world.client(2).names()], [3 * SHORT])
+        files.remove("name")
+        self.assertIsNone(content_or_none(self.world.client(2), "name"))
+        self.assertTrue(self.world.kept())
+        files.close()
+        self.assertFalse(self.world.kept())
+
+    def test_the_line(self):
+        files = self.world.client(1)
+        files.put("name", LONG)
+        part = content_of(files, "name")
+        self.assertRegex(part.text(), r"\A350 [\w-]{43} [01]\.1:\d+\+3\Z")
+        for each in (part, PartList(9_000, "A" * 43, 77, part.runs), InChunks(3, "A" * 43, (*part.runs[:0], *parse_part(f"3 {'A' * 43} 0.1:7;1.16:9;7.2:0").runs))):
+            self.assertEqual(parse_part(each.text()), each)
+            self.assertEqual(parse_line(f"7 {each.text()} 1:0 a name").content, each)
+            self.assertEqual(parse_line(f"7 {each.text()} 1:0 a name").name, "1:0 a name")
+        for text in (f"2 {'A' * 43} 0.1:7+2", f"2 {'A' * 43} 0.1:18446744073709551615+1", f"9 {'A' * 43} 1*0.1:7+1"):
+            self.assertRaises(ValueError, parse_part, text)
+
+    def test_dies_at_each_step_of_a_put(self):
+        for step in itertools.count(1):
+            self.setUp()
+            self.world.client(1).put("name", OLD)
+            files, other = self.world.client(1, kill_at(step)), self.world.client(2)
+            try:
+                files.put("name", LONG)
+                files.close()
+                is_done = True
+            except Killed:
+                is_done = False
+            seen = other.get("name")[0]
+            self.assertIn(seen, (LONG,) if is_done else (OLD, LONG))
+            files.session.carrier.die()
+            self.world.surface()
+            again = self.world.client(1)
+            again.put("other", NEW)
+            seen = other.get("name")[0]
+            self.assertIn(seen, (LONG,) if is_done else (OLD, LONG))
+            self.swept()
+            self.world.lines_come()
+            self.assertEqual(other.get("name")[0], seen)
+            self.assertEqual(other.get("other")[0], NEW)
+            self.swept()
+            if is_done:
+                break
+        self.assertGreater(step, 15)
+
+    def test_dies_at_each_step_of_a_removal_or_a_sweep(self):
+        for what in ("remove", "sweep"):
+            for step in itertools.count(1):
+                self.setUp()
+                first = self.world.client(1)
+                first.put("name", OLD)
+                first.put("name", LONG)
+                first.put("stays", NEW)
+                self.servers.at[0].chunks[1, 5] = b"orphan"
+                files = self.world.client(1, kill_at(step), others=(2,))
+                try:
+                    files.remove("name") if what == "remove" else files.sweep()
+                    files.close()
+                    is_done = True
+                except Killed:
+                    is_done = False
+                files.session.carrier.die()
+                other = self.world.client(2)
+                self.assertIn(content_or_none(other, "name"), (LONG, None) if what == "remove" else (LONG,))
+                self.world.surface()
+                self.world.client(1).put("last", OLD)
+                self.swept()
+                self.world.lines_come()
+                self.assertIn(content_or_none(other, "name"), (LONG, None) if what == "remove" else (LONG,))
+                self.assertEqual((other.get("stays")[0], other.get("last")[0]), (NEW, OLD))
+                self.swept()
+                if is_done:
+                    break
+            self.assertGreater(step, 10)
+
+    def test_a_sweep_finds_what_is_at_one_server_alone(self):
+        self.world.client(1).put("name", LONG)
+        for place, server in self.servers.at.items():
+            server.chunks[2, 100 + place] = b"orphan"
+            server.chunks[1, 100 + place] = b"orphan"
+        self.assertEqual(self.swept().chunks, 8)
+        self.assertEqual(self.world.client(2).get("name")[0], LONG)
+
+    def test_a_sweep_while_a_node_is_silent(self):
+        self.world.client(1).put("name", LONG)
+        for server in self.servers.at.values():
+            server.chunks[1, 7] = b"orphan"
+        self.servers.at[3].is_up = False
+        swept = self.world.client(1, others=(2,)).sweep()
+        self.assertEqual((swept.chunks, swept.silent), (2, (3,)))
+        self.servers.at[3].is_up = True
+        self.swept()
+
+    def test_slots_are_read_and_freed(self):
+        with mock.patch.object(Servers, "take", lambda *_: b"refused bad"):
+            files = self.world.client(1)
+            files.put("name", OLD)
+            files.put("stays", OLD)
+            self.assertIsInstance(content_of(files, "name"), InSlots)
+            free = len(files.writer.keeper.free())
+        files = self.world.client(1)
+        self.assertEqual(self.world.client(2).get("name")[0], OLD)
+        files.put("name", LONG)
+        files.close()
+        self.assertIsInstance(content_of(files, "name"), InChunks)
+        self.assertGreater(len(files.writer.keeper.free()), free)
+        self.assertEqual(self.world.client(2).get("name")[0], LONG)
+        self.assertEqual(self.world.client(2).get("stays")[0], OLD)
+
+    def test_a_node_is_silent_amid_a_put(self):
+        self.servers.at[2].is_up = False  # column 0 is not wholly up
+        files = self.world.client(1)
+        files.put("name", LONG)
+        self.assertEqual({run.column for run in content_of(files, "name").runs}, {1})
+        self.servers.at[2].is_up = True
+        carrier = files.session.carrier
+        count = 0
+
+        def at_line(node, body):
+            nonlocal count
+            count += body.startswith(b"keep")
+            self.servers.at[3].is_up = count < 6
+            return True
+
+        carrier.at_line = at_line
+        files.writer.contents.chunks.ahead.asked = float("-inf")
+        files.writer.contents.chunks.column_for = lambda rooms, size, least, but=(): 0 if 1 in but else 1
+        content = os.urandom(12 * SHORT)
+        files.put("name", content)
+        self.assertIn(0, {run.column for run in content_of(files, "name").runs})
+        self.assertEqual(self.world.client(2).get("name")[0], content)
+        carrier.at_line = lambda node, body: True
+        self.servers.at[3].is_up = True
+        files.close()
+        self.swept()
+
+    def test_no_column_is_up_or_has_room(self):
+        files = self.world.client(1)
+        self.servers.at[0].is_up = self.servers.at[1].is_up = False
+        with self.assertRaisesRegex(Unanswered, "no column"):
+            files.put("name", LONG)
+        self.servers.at[0].is_up = self.servers.at[1].is_up = True
+        for server in self.servers.at.values():
+            server.allowed = 300
+        files = self.world.client(1)
+        with self.assertRaisesRegex(NoRoom, "no room: 700 bytes are wanted, and column 0 has 300, column 1 has 300 free"):
+            files.put("name", bytes(700))
+        files.put("name", bytes(400))  # (which takes both)
+        self.assertEqual({run.column for run in content_of(files, "name").runs}, {0, 1})
+        with self.assertRaisesRegex(NoRoom, "no room: 700 bytes"):
+            files.put("name", Stream(bytes(700)))
+        files.put("name", b"short")
+        files.close()  # (from then on there is room again)
+        files.put("name", bytes(400))
+        self.assertEqual(self.world.client(2).get("name")[0], bytes(400))
+        self.assertEqual(self.world.kept(), self.world.named())
+
+    def test_the_page_is_full(self):
+        files = self.world.client(1)
+        with self.assertRaisesRegex(NoRoom, "page 0 of session 1 has no room"):
+            for number in range(100):
+                files.put(f"name {number}", LONG)
+        files.close()
+        self.assertEqual(self.world.kept(), self.world.named())
+
+    def test_a_source_that_changes(self):
+        files = self.world.client(1)
+
+        class Shorter(io.BytesIO):
+            told_size = 400
+
+        with self.assertRaisesRegex(Exception, "shorter"):
+            files.put("name", Shorter(bytes(350)))
+        Shorter.told_size = 250
+        with self.assertRaisesRegex(Exception, "longer"):
+            files.put("name", Shorter(bytes(350)))
+        files.close()
+        self.assertFalse(self.world.kept())
+
+    def test_a_get_that_a_forget_overtakes(self):
+        writer = self.world.client(1)
+        writer.put("name", OLD)
+        reader = self.world.client(2)
+        state = []
+
+        def at_line(node, body):
+            if body.startswith(b"get") and len(state) < 3:
+                state.append(os.urandom(250 + len(state)))
+                writer.put("name", state[-1])
+                writer.close()
+            return True
+
+        reader.session.carrier.at_line = at_line
+        self.assertEqual(reader.get("name")[0], state[2])
+        state.clear()
+        reader.session.carrier.at_line = lambda node, body: at_line(node, body) if not state.clear() else True
+        with self.assertRaisesRegex(Replaced, "replaced each of 20 times"):
+            reader.get("name")
+
+    def test_other_bytes_are_never_told(self):
+        files = self.world.client(1)
+        files.put("name", LONG)
+        place = next(iter(content_of(files, "name").runs[0].places()))
+        for server in self.servers.at.values():
+            if place[1:] in server.chunks:
+                server.chunks[place[1:]] = b"z" * SHORT
+        with self.assertRaisesRegex(Damaged, "name: its chunks don't hold it"):
+            self.world.client(2).get("name")
+
+    def test_a_named_chunk_that_nobody_has(self):
+        files = self.world.client(1)
+        files.put("name", LONG)
+        for server in self.servers.at.values():
+            server.chunks.clear()
+        with self.assertRaisesRegex(Damaged, "name: its chunks don't hold it"):
+            self.world.client(2).get("name")
+
+    def test_a_lost_node(self):
+        files = self.world.client(1)
+        files.put("name", LONG)
+        for place in (0, 1):
+            self.servers.lose(place)
+        other = self.world.client(2)
+        self.assertEqual(other.get("name")[0], LONG)
+        other.put("name", OLD)
+        other.put("other", NEW)
+        self.assertEqual(self.world.client(1).get("name")[0], OLD)
+        other.close()
+        files.close()
+        self.swept()
+        self.assertEqual(self.world.client(1).get("other")[0], NEW)
+
+    def test_how_nodes_are_arranged_is_not_said(self):
+        self.world.client(1).put("name", LONG)
+        self.servers.shape = None
+        other = self.world.client(2)
+        with self.assertRaisesRegex(BadSettings, "name is in chunks: `grid` has to say"):
+            other.get("name")
+        other.put("other", OLD)
+        self.assertIsInstance(content_of(other, "other"), InSlots)
+
+    def test_the_status_tells_room_by_column(self):
+        files = self.world.client(1)
+        files.put("name", LONG)
+        self.servers.lose(0)
+        self.servers.at[3].is_up = False
+        usage = usage_of(self.world.client(2))
+        lines = [line for line in usage_lines(usage, None) if line.startswith("chunks")]
+        column = files.bucket("name").held("name").content.runs[0].column
+        used = [0, 0]
+        used[column] = len(LONG)
+        end = ["; chunks are lacking at node 64", "; node 3 did not answer"]
+        self.assertEqual(lines, [f"chunks in column {each}: {used[each]} bytes used of {64 << 20}{end[each]}" for each in (0, 1)])
+        self.assertEqual(usage_value(usage, None)["chunks"][1], {"column": 1, "used": used[1], "allowed": 64 << 20, "silent": (3,), "lacking": ()})
+
+    def test_what_is_replaced_can_be_read_for_a_while(self):
+        files = self.world.client(1)
+        files.put("name", OLD)
+        files.put("name", LONG)
+        files.put("other", LONG)
+        self.assertGreater(len(self.world.kept()), len(self.world.named()))
+        files.forget_after = 0
+        files.put("last", NEW)
+        self.assertEqual(self.world.kept(), self.world.named())
+
+
+class Lists(unittest.TestCase):
+    """A line that names a list of contents."""
+
+    def setUp(self):
+        self.world = World()
+        self.files = self.world.client(1)
+        self.contents = self.files.writer.contents
+        self.parts = [self.put_part(os.urandom(size)) for size in (150, 10, 99, 300)]
+
+    def put_part(self, content):
+        from gridfs_client.streams import Source
+
+        return self.contents.put(Source(content), 0, lambda *_: None), content
+
+    def commit(self, name, parts):
+        listed = self.contents.put_list(((part, f"{{{at}}}") for at, (part, _) in enumerate(parts)), 1)
+        bucket = self.files.bucket(name)
+        bucket.look()
+        self.files.commit(bucket, name, listed)
+        return listed
+
+    def test_read_and_forgotten(self):
+        listed = self.commit("name", self.parts)
+        other = self.world.client(2)
+        self.assertEqual(other.get("name")[0], b"".join(content for _, content in self.parts))
+        self.assertEqual([word for _, word in other.writer.contents.entries(listed)], ["{0}", "{1}", "{2}", "{3}"])
+        self.world.client(1, others=(2,)).sweep()
+        self.assertEqual(self.world.kept(), self.world.named())
+        self.assertEqual(other.get("name")[0], b"".join(content for _, content in self.parts))
+        # A list of some of them takes its place: the others go, and these stay.
+        self.files = self.world.client(1)
+        self.contents = self.files.writer.contents
+        self.commit("name", self.parts[1:3])
+        self.files.close()
+        self.assertEqual(self.world.kept(), self.world.named())
+        self.assertEqual(self.world.client(2).get("name")[0], b"".join(content for _, content in self.parts[1:3]))
+        self.files = self.world.client(1)
+        self.files.remove("name")
+        self.files.close()
+        self.assertFalse(self.world.kept())
+
+    def test_no_list(self):
+        from gridfs_client.streams import Source
+
+        for text in (b"x", b"3 x 0.1:7\n", b"9 " + b"A" * 43 + b" 0.1:7\n", self.parts[0][0].text().encode() + b"\n"):
+            at = self.contents.put(Source(text), 0, lambda *_: None)
+            with self.assertRaises(Damaged):
+                self.contents.entries(PartList(10, at.digest, at.size, at.runs))
+
+    def test_a_list_that_is_gone_lets_a_sweep_forget_nothing(self):
+        listed = self.commit("name", self.parts)
+        for server in self.world.servers.at.values():
+            for place in listed.runs[0].places():
+                server.chunks.pop(place[1:], None)
+            server.chunks[1, 7] = b"orphan"
+        with self.assertRaises(Damaged):
+            self.world.client(1, others=(2,)).sweep()
+        self.assertIn((0, 1, 7), self.world.kept())
+
+
+if __name__ == "__main__":
+    random.seed(1)
+    unittest.main()

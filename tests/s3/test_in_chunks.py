@@ -1,0 +1,278 @@
+"""Objects in chunks: the gateway's objects over registers and nodes in memory, which die at each step; uploads of many parts; and through a gateway what a range
+reads, what a part and a completion keep, and what a gateway that is killed leaves."""
+
+import itertools
+import os
+import random
+import sys
+import time
+import unittest
+from unittest import mock
+
+HERE = os.path.dirname(os.path.abspath(__file__))
+sys.path[:0] = [HERE, os.path.join(HERE, "..", "chunks"), os.path.join(HERE, "..", "names")]
+import code_of_s3  # noqa: F401  (which says where the code is)
+import endpoint
+from bodies_in_memory import Body
+from memory_with_chunks import Killed, World
+
+from gridfs_client import OneByOne
+from gridfs_client.contents import Joined, PartList
+from gridfs_client.in_chunks import ChunkContents
+from gridfs_s3.errors import S3Error
+from gridfs_s3.part_lists import Uploaded
+from gridfs_s3.places import upload_name
+from gridfs_s3.shared import Shared
+from gridfs_s3.store import Store
+from gridfs_s3.versions import Target
+
+NAME, BUCKET, MIB = "bucket/key", "bucket", 1 << 20
+OLD, PARTS = os.urandom(330), [os.urandom(250), os.urandom(10), os.urandom(400)]
+
+
+def new_world():
+    return World(sessions=2, pages=1, page_blocks=64, slots=4)
+
+
+def store(world, number=1, at_step=None):
+    def kind(session, layout, helpers=tuple, team=None):
+        found = Store(session, layout, Shared())
+        found.team, found.forget_after = OneByOne(), 0
+        return found
+
+    return world.client(number, at_step, kind)
+
+
+def put(objects, name, content):
+    return objects.put_object(name, Body(content), lambda: {"m": "x"})
+
+
+def content_of(objects, name=NAME, first=0, end=None):
+    held = objects.look(name)
+    return held and b"".join(objects.content(held, first, held.content.size if end is None else end))
+
+
+def put_part(objects, upload, number, content):
+    return objects.put_part(upload_name(BUCKET, upload, NAME), number, Body(content), 5)
+
+
+def complete(objects, upload, wanted=None):
+    name = upload_name(BUCKET, upload, NAME)
+    found = {part.number: where for part, where in objects.uploaded(objects.upload(name))}
+    return objects.complete(name, Target(NAME), {"m": "joined", "n": "3"}, [found[number] for number in wanted or sorted(found)], None)
+
+
+def kill_at(step):
+    def at_step(now):
+        if now == step:
+            raise Killed
+
+    return at_step
+
+
+class Steps(unittest.TestCase):
+    def expect_rest(self, world):
+        """Once a gateway begins anew, nodes have what lines name and nothing else."""
+        for number in (1, 2):
+            objects = store(world, number)
+            objects.settle(0)
+            objects.free_slots()
+        self.assertEqual(world.kept(), world.named())
+
+    def each_step(self, prepare, change, least):
+        for step in itertools.count(1):
+            world = new_world()
+            words = prepare(store(world))
+            objects, done = store(world, 1, kill_at(step)), False
+            try:
+                change(objects, words)
+                objects.recall()
+                done = True
+            except Killed:
+                objects.session.carrier.die()
+            yield world, words, done
+            world.surface()
+            self.expect_rest(world)
+            seen = content_of(store(world, 2))
+            world.lines_come()
+            self.assertEqual(content_of(store(world, 2)), seen)
+            self.expect_rest(world)
+            if done:
+                break
+        self.assertGreater(step, least)
+
+    def test_put(self):
+        new = os.urandom(450)
+        for world, _, done in self.each_step(lambda objects: put(objects, NAME, OLD), lambda objects, _: put(objects, NAME, new), 15):
+            self.assertIn(content_of(store(world, 2)), (new,) if done else (OLD, new))
+
+    def begun(self, objects):
+        put(objects, NAME, OLD)
+        upload = objects.begin_upload(BUCKET, NAME, {})
+        for number, part in enumerate(PARTS, 1):
+            put_part(objects, upload, number, part)
+        return upload
+
+    def test_a_part(self):
+        new = os.urandom(333)
+        for world, upload, done in self.each_step(self.begun, lambda objects, upload: put_part(objects, upload, 2, new), 12):
+            self.assertEqual(content_of(store(world, 2)), OLD)
+            if done:
+                complete(store(world), upload)
+                self.assertEqual(content_of(store(world, 2)), PARTS[0] + new + PARTS[2])
+
+    def test_a_completion(self):
+        whole = b"".join(PARTS)
+        for world, upload, done in self.each_step(self.begun, complete, 4):
+            seen = content_of(store(world, 2))
+            self.assertIn(seen, (whole,) if done else (OLD, whole))
+            if done:
+                self.assertIsInstance(store(world, 2).look(NAME).content, Joined)
+                self.assertRaises(S3Error, store(world, 2).upload, upload_name(BUCKET, upload, NAME))
+
+    def test_an_abort(self):
+        for world, upload, done in self.each_step(self.begun, lambda objects, upload: objects.delete(upload_name(BUCKET, upload, NAME)), 4):
+            self.assertEqual(content_of(store(world, 2)), OLD)
+
+
+class Many(unittest.TestCase):
+    """An upload of so many parts that lists name them."""
+
+    COUNT = 400
+
+    def setUp(self):
+        self.enterContext(mock.patch.object(ChunkContents, "most", 10_000))
+        self.world = World(sessions=2, pages=1, page_blocks=256, slots=4)
+        self.objects = store(self.world)
+        self.upload = self.objects.begin_upload(BUCKET, NAME, {})
+        self.parts = {number: os.urandom(random.Random(number).choice((1, 60, 100, 130))) for number in range(1, self.COUNT + 1)}
+        draw = random.Random(5)
+        for number in sorted(self.parts, key=lambda number: number + draw.randrange(20)):  # (as by several at once)
+            put_part(self.objects, self.upload, number, self.parts[number])
+
+    def test_completed_and_read(self):
+        name, parts = upload_name(BUCKET, self.upload, NAME), self.parts
+        listed = store(self.world, 2)
+        self.assertEqual([part.number for part, _ in listed.uploaded(listed.upload(name))], list(parts))
+        self.assertLess(len(self.objects.upload(name).content.text()), 8_000)
+        parts[300] = os.urandom(90)  # (which counts in place of that of its list)
+        with mock.patch.object(Uploaded, "keep_short"):
+            put_part(self.objects, self.upload, 300, parts[300])
+        lists = set(self.objects.upload(name).content.parts)
+        sent = len(self.objects.session.carrier.sent)
+        complete(self.objects, self.upload)
+        keeps = [body for _, body in self.objects.session.carrier.sent[sent:] if body.startswith(b"keep")]
+        self.assertLess(len(keeps), 2 * 8)  # (of one list anew, and of what is left)
+        self.assertEqual(sum(isinstance(each, PartList) and each in lists for each in self.objects.look(NAME).content.parts), 1)
+        held, whole = self.objects.look(NAME), b"".join(parts.values())
+        self.assertTrue(any(isinstance(each, PartList) for each in held.content.parts))
+        self.assertEqual(held.content.size, len(whole))
+        other = store(self.world, 2)
+        self.assertEqual(content_of(other), whole)
+        for first, end in ((0, 1), (5, 6), (len(whole) - 1, len(whole)), (10_000, 10_450), (0, len(whole) - 1), (9_990, 25_010)):
+            self.assertEqual(content_of(other, NAME, first, end), whole[first:end])
+        self.objects.recall()
+        self.assertEqual(self.world.kept(), self.world.named())
+        self.assertEqual(content_of(store(self.world, 2)), whole)
+        self.objects.delete(NAME)
+        self.objects.recall()
+        self.assertFalse(self.world.kept())
+
+    def test_a_range_reads_the_list_and_the_chunks_that_it_touches(self):
+        complete(self.objects, self.upload)
+        other = store(self.world, 2)
+        whole = content_of(other)
+        sent = len(other.session.carrier.sent)
+        self.assertEqual(content_of(other, NAME, 20_000, 20_100), whole[20_000:20_100])
+        gets = [body for _, body in other.session.carrier.sent[sent:] if body.startswith(b"get")]
+        self.assertLess(len(gets), 102)  # (so many parts may have that many bytes)
+        self.assertEqual(sum(int(body.split()[4]) for body in gets), 100)
+
+    def test_some_of_them_are_chosen(self):
+        wanted = [number for number in self.parts if number % 3]
+        complete(self.objects, self.upload, wanted)
+        self.objects.recall()
+        self.assertEqual(content_of(store(self.world, 2)), b"".join(self.parts[number] for number in wanted))
+        self.assertEqual(self.world.kept(), self.world.named())
+
+    def test_few_of_them_are_chosen(self):
+        complete(self.objects, self.upload, [5, 390])
+        self.objects.recall()
+        self.assertEqual(content_of(store(self.world, 2)), self.parts[5] + self.parts[390])
+        self.assertEqual(self.world.kept(), self.world.named())
+
+    def test_given_up(self):
+        self.objects.delete(upload_name(BUCKET, self.upload, NAME))
+        self.objects.recall()
+        self.assertFalse(self.world.kept())
+
+    def test_a_part_without_bytes(self):
+        put_part(self.objects, self.upload, self.COUNT + 1, b"")
+        put_part(self.objects, self.upload, 1, b"")
+        complete(self.objects, self.upload)
+        self.assertEqual(content_of(store(self.world, 2)), b"".join(list(self.parts.values())[1:]))
+
+
+class Through(unittest.TestCase):
+    """A gateway over a stand-in with room for chunks."""
+
+    def setUp(self):
+        self.room = self.enterContext(endpoint.stand_in(os.path.join(HERE, "plan-with-chunks")))
+        (self.gateway,) = self.enterContext(endpoint.gateways(self.room))
+        self.client = self.gateway.client()
+        self.client.create_bucket(Bucket="bucket")
+
+    def counts(self):
+        return endpoint.counts(self.room)
+
+    def get(self, key, **words):
+        return self.client.get_object(Bucket="bucket", Key=key, **words)["Body"].read()
+
+    def test_ranges(self):
+        content = os.urandom(9 * MIB + 5)
+        self.counts()
+        self.client.put_object(Bucket="bucket", Key="key", Body=content)
+        self.assertEqual(self.counts()["keep"], 10)
+        self.assertEqual(self.get("key"), content)
+        self.assertEqual(self.counts()["get"], 10)
+        for first, last, count in ((0, 0, 1), (MIB - 1, MIB, 2), (5 * MIB, 6 * MIB - 1, 1), (9 * MIB, 9 * MIB + 4, 1)):
+            self.assertEqual(self.get("key", Range=f"bytes={first}-{last}"), content[first : last + 1])
+            self.assertEqual(self.counts()["get"], count)
+
+    def test_parts_and_their_completion(self):
+        upload, parts = self.client.create_multipart_upload(Bucket="bucket", Key="key")["UploadId"], [os.urandom(2 * MIB + 7) for _ in range(3)]
+        self.counts()
+        told = [self.client.upload_part(Bucket="bucket", Key="key", UploadId=upload, PartNumber=number, Body=part) for number, part in enumerate(parts, 1)]
+        self.assertEqual(self.counts()["keep"], 9)
+        chosen = [{"PartNumber": number, "ETag": each["ETag"]} for number, each in enumerate(told, 1)]
+        self.client.complete_multipart_upload(Bucket="bucket", Key="key", UploadId=upload, MultipartUpload={"Parts": chosen})
+        self.assertNotIn("keep", self.counts())
+        self.assertEqual(self.get("key"), b"".join(parts))
+        self.assertEqual(self.get("key", Range=f"bytes={2 * MIB}-{4 * MIB + 20}"), b"".join(parts)[2 * MIB : 4 * MIB + 21])
+
+    def test_many_parts(self):
+        upload, count = self.client.create_multipart_upload(Bucket="bucket", Key="key")["UploadId"], 150
+        told = [self.client.upload_part(Bucket="bucket", Key="key", UploadId=upload, PartNumber=number, Body=b"%d " % number * 20)["ETag"] for number in range(1, count + 1)]
+        listed = self.client.list_parts(Bucket="bucket", Key="key", UploadId=upload, MaxParts=100)
+        self.assertEqual(([each["ETag"] for each in listed["Parts"]], listed["IsTruncated"]), (told[:100], True))
+        chosen = [{"PartNumber": number, "ETag": each} for number, each in enumerate(told, 1)]
+        self.client.complete_multipart_upload(Bucket="bucket", Key="key", UploadId=upload, MultipartUpload={"Parts": chosen})
+        self.assertEqual(self.get("key"), b"".join(b"%d " % number * 20 for number in range(1, count + 1)))
+
+    def test_what_a_killed_gateway_leaves(self):
+        self.client.put_object(Bucket="bucket", Key="key", Body=os.urandom(3 * MIB))
+        content = os.urandom(2 * MIB)
+        self.client.put_object(Bucket="bucket", Key="key", Body=content)  # (the old one is to be forgotten after a minute)
+        self.gateway.kill()
+        self.counts()
+        self.gateway.start()
+        until, forgotten = time.monotonic() + 60, 0
+        while forgotten < 9 and time.monotonic() < until:  # (a floor for each session, and a run)
+            time.sleep(0.2)
+            forgotten += self.counts().get("forget", 0)
+        self.assertGreaterEqual(forgotten, 9)
+        self.assertEqual(self.get("key"), content)
+
+
+if __name__ == "__main__":
+    unittest.main()
