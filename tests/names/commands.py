@@ -418,6 +418,9 @@ def served(program):
     """A grid for clients, in the folder `grid`."""
     with open("plan", "w", encoding="ascii") as out:
         out.write(PLAN)
+    for tenant in "ann", "bob":
+        with contextlib.suppress(FileNotFoundError):
+            os.unlink(f"grid/{tenant}.ini")  # of an earlier one
     with open("told", "wb") as told:
         words = [os.path.join(TOP, "grid"), "--program", program, "--plan", "plan", "grid"]
         grid = subprocess.Popen(words, stdin=subprocess.DEVNULL, stdout=told, stderr=told)
@@ -431,6 +434,38 @@ def served(program):
     finally:
         grid.terminate()
         grid.wait()
+
+
+SECRET, LATER = b"what-column-1-has", b"what-column-0-has"
+
+
+def told_by_journals(program, what):
+    """The numbers of the nodes, none of which runs, whose journals have this, once they were written anew."""
+    found = []
+    for number in range(4):
+        journal = f"grid/node{number}.journal"
+        subprocess.run([program, "node", "--plan", "grid/plan", "--journal", journal, "--anew", str(number)], check=True, capture_output=True, stdin=subprocess.DEVNULL)
+        with open(journal, "rb") as file:
+            found += [number] * (what in file.read())
+    return found
+
+
+def try_erasing(program):
+    """A slot that nodes of one column have as it was, and those of the other one as it became: a sweep leaves the older copy, and one that erases leaves none."""
+    commands = Commands({})
+    with served(program):
+        for session, content in ("2", SECRET), ("1", LATER):
+            commands.held("write", commands.run("write", "4", "0", "-", given=content, GRIDFS_SESSION=session)[0], 0)
+    commands.held("both are in journals", [told_by_journals(program, each) for each in (SECRET, LATER)], [[1, 3], [0, 2]])
+    with served(program):
+        commands.held("sweep", json.loads(commands.run("sweep", "--json")[1])["emptied"], 1)
+        commands.held("what is told", commands.run("read", "4", "0")[1], b"")
+    commands.held("a sweep", [told_by_journals(program, each) for each in (SECRET, LATER)], [[1, 3], []])
+    with served(program):
+        status, told, why = commands.run("sweep", "--erase")
+        commands.held("sweep --erase", (status, told, why), (0, b"removals: 0 forgotten, 0 left; slots: 192 emptied\n", ""))
+    commands.held("a sweep that erases", [told_by_journals(program, each) for each in (SECRET, LATER)], [[], []])
+    return f"{commands.tried} compared: erasing", commands.wrong
 
 
 PARTS = (

@@ -29,12 +29,16 @@ class History:
         self.time += 1
         return self.time
 
+    def content(self, size):
+        """A content that no other operation puts."""
+        return f"{self.serial} ".encode().ljust(size, b"x")
+
     def do(self, client, files, draw):
         """One operation of a client."""
         kind = draw.choices(("put", "get", "remove", "names"), self.weights)[0]
         name, begin, key = draw.choice(self.names), self.moment(), object()
         self.serial += 1
-        value = f"{self.serial} ".encode().ljust(draw.choice(self.sizes), b"x") if kind == "put" else None
+        value = self.content(draw.choice(self.sizes)) if kind == "put" else None
         if kind in ("put", "remove"):
             self.pending[key] = (name, Operation(True, value, begin))
         try:

@@ -240,13 +240,13 @@ def in_a_room(job):
     return part, counted, wrong, time.monotonic() - begun
 
 
-def told(results):
+def told(results, of="names"):
     """Tells what came of jobs; how much is wrong."""
     count = 0
     for part, counted, wrong, seconds in results:
-        print(f"names: {part}: {counted}; {seconds:.0f} seconds", flush=True)
+        print(f"{of}: {part}: {counted}; {seconds:.0f} seconds", flush=True)
         for fault in wrong:
-            print(f"names: {part}: {fault}", file=sys.stderr, flush=True)
+            print(f"{of}: {part}: {fault}", file=sys.stderr, flush=True)
         count += len(wrong)
     return count
 
