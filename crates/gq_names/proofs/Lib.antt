@@ -8,6 +8,7 @@ pub mod Moves
 pub mod Tellings
 pub mod Endings
 pub mod Steps
+pub mod Contents
 pub mod Counting
 pub mod Onward
 pub mod Since
@@ -17,3 +18,4 @@ pub mod Sweeping
 pub mod Alone
 pub mod Clearing
 pub mod WorkedSweep
+pub mod WorkedContents

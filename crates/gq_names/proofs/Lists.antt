@@ -6,6 +6,7 @@ use Rattle.gq_tag.specs.declared.Tag.{Tag}
 use Rattle.gq_tag.specs.declared.StoredCopy.{StoredCopy}
 use Rattle.gq_tag.specs.Tag.{first_tag, first_copy, is_less, newer_of}
 use Rattle.gq_names.specs.Names.{Page, all_below, behind, greatest_of, greatest_number}
+use Rattle.gq_names.specs.Contents.{Each}
 use Rattle.gq_names.specs.Laws.{IsRisen, Rises}
 use Rattle.gq_tag.proofs.Order.{IsAtMost, at_most_refl, at_most_trans, at_most_from, less_at_most, at_most_less, newer_of-left, newer_of-right}
 
@@ -35,10 +36,6 @@ pub rises_trans : (x y z : Page) → Rises x y → Rises y z → Rises x z
 rises_trans x y z h k name = risen_trans (x.line name) (y.line name) (z.line name) (h name) (k name)
 
 -- ---- lists
-
-abbrev pub Each : {A : Type 0} → (A → Type 0) → List A → Type 0
-Each P [] = ⊤
-Each P (x ∷ xs) = P x × Each P xs
 
 pub each_at : {A : Type 0} (P : A → Type 0) (xs : List A) (i : ℕ) (x : A) → Each P xs → slice_get xs i ≡ Some x → P x
 each_at P [] i x each at = absurd (let bad : None ≡ Some x = at in cc)

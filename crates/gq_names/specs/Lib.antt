@@ -1,4 +1,5 @@
 pub mod Names
+pub mod Contents
 pub mod Laws
 pub mod Completing
 pub mod Sweeping

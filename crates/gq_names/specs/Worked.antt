@@ -1,10 +1,13 @@
--- Two worked cases, computed: so the laws speak of runs in which something is told, and of sweeps in which something is forgotten.
+-- Worked cases, computed: so the laws speak of runs in which something is told, of sweeps in which something is forgotten, and of contents that
+-- are replaced.
 use Rattle.std.specs.Prelude.{◌≡◌, ℕ, List, [], ◌∷◌, ◌++◌, Bool, true, false, ◌==◌, Some, None}
+use Rattle.std.specs.List.{list_any}
 use Rattle.gq_tag.specs.declared.Tag.{Tag}
 use Rattle.gq_tag.specs.Tag.{first_copy}
 use Rattle.gq_laws.specs.declared.ops.Kind.TheVariants.{Write as Writes, Read as Reads}
 use Rattle.gq_tag.specs.declared.StoredCopy.{StoredCopy}
 use Rattle.gq_names.specs.Names.{Setting, World, Step, Enters, PageLate, Begins, Tidies, Sees, Chooses, ClientWrites, Asks, Finds, Tells, shown, world_after, operations_of}
+use Rattle.gq_names.specs.Contents.{Contents, Deed, Does, Keeps, Forgets, AllMay, new_state, state_after}
 use Rattle.gq_names.specs.Sweeping.{Turn, AreTurns, IsRound, after_turns}
 
 -- two sessions; the name 7 is watched
@@ -103,3 +106,23 @@ pub record IsSweepWorked : Type 0 where
   -- and page 0
   pub older : shown ((world_after two steps_removed).session 0).page 7 ≡ record { tag = version 1 0; bytes = 65 ∷ [] }
   pub gone : shown ((after_turns two (world_after two steps_removed) first_round).session 0).page 7 ≡ first_copy
+
+-- ---- contents that are replaced
+
+-- a byte is the number of a content, and session 0 puts all
+abbrev pub by_number : Contents
+by_number = record { names = λ bytes content. list_any (λ b. b == content) bytes; owner = λ content. 0; nothing = λ content i. false }
+
+-- session 0 puts a content under the name, and carries it
+abbrev pub puts : (content : ℕ) → List Deed
+puts content = Keeps content ∷ Does (Begins 0 7 (content ∷ [])) ∷ Does (Sees 0 1) ∷ Does (Chooses 0 0 no_one no_one) ∷ Does (ClientWrites 0 true) ∷ Does (ClientWrites 0 true) ∷ []
+
+-- a content is put and replaced by another one; then it is forgotten, and somebody gets the other one
+abbrev pub deeds_worked : List Deed
+deeds_worked = puts 65 ++ (puts 66 ++ Forgets 65 ∷ Does (Asks 5) ∷ Does (Finds 5 0) ∷ Does (Finds 5 1) ∷ Does (Tells 5) ∷ [])
+
+pub record AreContentsWorked : Type 0 where
+  -- all keep the rules
+  pub may : AllMay two by_number new_state deeds_worked
+  pub told : ((state_after two new_state deeds_worked).world.op 2).kind ≡ Reads (Some (66 ∷ []))
+  pub forgotten : (state_after two new_state deeds_worked).forgotten 65 ≡ true
