@@ -1,3 +1,4 @@
 pub mod Standing
 pub mod Tenants
 pub mod Settling
+pub mod Memory

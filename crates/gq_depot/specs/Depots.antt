@@ -1,5 +1,5 @@
 -- What a server has of a tenant's chunks, and what a fact makes of it.
-use Rattle.std.specs.Prelude.{◌≡◌, ℕ, ◌-◌, Bool, true, false, ◌==◌, ◌&&◌, ◌||◌, nat_le, List, [], ◌∷◌, length, max, Option, Some, None, option_map, slice_get, if◌then◌else◌, ⊤}
+use Rattle.std.specs.Prelude.{◌≡◌, ◌≤◌, ℕ, ◌-◌, Bool, true, false, ◌==◌, ◌&&◌, ◌||◌, nat_le, List, [], ◌∷◌, length, max, Option, Some, None, option_map, slice_get, if◌then◌else◌, ⊤}
 use Rattle.gq_shelf.specs.Notes.{Noted}
 use Rattle.gq_shelf.specs.Places.{long_at}
 use Rattle.gq_shelf.specs.declared.place.Place.{Place}
@@ -8,7 +8,9 @@ use Rattle.gq_ledger.specs.Steps.{Book, with_at}
 use Rattle.std.specs.List.{list_any}
 use Rattle.gq_stock.specs.Forgetting.{is_in, is_in_any}
 use Rattle.gq_stock.specs.Sure.{PlaceIsSure}
+use Rattle.gq_stock.specs.Stocks.{fresh_in}
 use Rattle.gq_stock.specs.declared.chunk.Chunk.{Chunk}
+use Rattle.gq_stock.specs.declared.limits.TheConstants.{MOST_FRESH_BYTES}
 use Rattle.gq_stock.specs.declared.run.Run.{Run}
 use Rattle.gq_stock.specs.declared.session.Session.{Session}
 use Rattle.gq_depot.specs.declared.limits.TheConstants.{MOST_CHUNK}
@@ -79,6 +81,14 @@ pub record LeadsTo (old : Depot) (fact : Option ChunkFact) (new : Depot) : Type 
   pub standing : IsSame (standing_of new) (after_fact fact (standing_of old))
   pub sessions : length new.stock.sessions.items ≡ length old.stock.sessions.items
   pub allowed : new.stock.allowed ≡ old.stock.allowed
+
+-- how many bytes of the tenant's contents are in memory
+abbrev pub in_memory : Depot → ℕ
+in_memory depot = fresh_in depot.stock.sessions.items
+
+-- There are no more of them than so many, or than there were.
+abbrev pub StaysWithin : (old new : Depot) → Type 0
+StaysWithin old new = in_memory new ≤ max (in_memory old) MOST_FRESH_BYTES
 
 -- nothing was ever there
 abbrev pub bare : (lacks : Bool) → Standing

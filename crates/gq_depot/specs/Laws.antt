@@ -1,7 +1,7 @@
 -- What holds of any requests of any tenants, and of what peers give.
 use Rattle.std.specs.Prelude.{◌≡◌, ℕ, Bool, true, false, ◌==◌, List, [], ◌∷◌, length, Option, Some, slice_get}
 use Rattle.gq_shelf.specs.Notes.{Noted}
-use Rattle.gq_depot.specs.Depots.{Standing, standing_of, after_fact, IsSame}
+use Rattle.gq_depot.specs.Depots.{Standing, standing_of, after_fact, IsSame, StaysWithin}
 use Rattle.gq_depot.specs.Tenants.{Step, FillStep, ApartFrom}
 use Rattle.gq_depot.specs.declared.answer.Answered.{Answered}
 use Rattle.gq_depot.specs.declared.depot.Depot.{Depot}
@@ -72,3 +72,9 @@ after_all (did ∷ before) it = after_fact (fact_of did.deed) (after_all before 
 
 abbrev pub FactsRemake : Type 0
 FactsRemake = (losses : ℕ) (first now : Depot) (dids : List Did) → RanAlone losses first dids now → IsSame (standing_of now) (after_all dids (standing_of first))
+
+-- ---- memory
+
+-- after any run no more bytes of contents are in memory than so many, or than there were
+abbrev pub MemoryIsBounded : Type 0
+MemoryIsBounded = (losses : ℕ) (first now : Depot) (dids : List Did) → RanAlone losses first dids now → StaysWithin first now

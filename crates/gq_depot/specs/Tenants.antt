@@ -3,7 +3,7 @@ use Rattle.std.specs.Prelude.{◌≡◌, ◌≢◌, ℕ, Bool, List, Option, Som
 use Rattle.gq_shelf.specs.Notes.{Noted, IsClean}
 use Rattle.gq_shelf.specs.declared.extent.Extent.{Extent}
 use Rattle.gq_depot.specs.Answers.{Tells, Gives, DamageIs}
-use Rattle.gq_depot.specs.Depots.{LeadsTo, FactIsSure, ReadsFact, reads_fact}
+use Rattle.gq_depot.specs.Depots.{LeadsTo, FactIsSure, ReadsFact, StaysWithin, reads_fact}
 use Rattle.gq_depot.specs.declared.answer.Answered.{Answered}
 use Rattle.gq_depot.specs.declared.answer.ChunkAnswer.{ChunkAnswer}
 use Rattle.gq_depot.specs.declared.depot.Depot.{Depot}
@@ -20,6 +20,7 @@ pub record Step (noted : Noted) (losses : ℕ) (old : Depot) (request : ChunkReq
   pub leads : LeadsTo old answered.fact new
   pub sure : FactIsSure answered.fact noted
   pub reads : ReadsFact (length old.stock.sessions.items) answered.fact
+  pub memory : StaysWithin old new
 
 -- it is so of the tenant at this place
 abbrev pub TakesOwn : Noted → (losses : ℕ) → List Depot → (tenant : ℕ) → ChunkRequest → Answered → List Depot → Type 0
@@ -31,6 +32,7 @@ pub record FillStep (noted : Noted) (old : Depot) (filling : Filling) (fact : Op
   pub leads : LeadsTo old fact new
   pub sure : FactIsSure fact noted
   pub reads : ReadsFact (length old.stock.sessions.items) fact
+  pub memory : StaysWithin old new
 
 -- it is so of the tenant at this place
 abbrev pub FillsOwn : Noted → List Depot → (tenant : ℕ) → Filling → Option ChunkFact → List Depot → Type 0

@@ -13,7 +13,6 @@ use crate::{
     MOST_LISTED,
 };
 use bytes::Bytes;
-use gq_ledger::Long;
 use gq_memory::{GrowVec, OutOfMemory};
 use gq_shelf::{Shelf, ShelfFault};
 use gq_stock::{Found, Keeping, Run, Session};
@@ -43,7 +42,7 @@ fn listed(
         }
         chunks.grow(ListedChunk {
             number,
-            size: chunk.len(),
+            size: chunk.place.len() as u64,
         })?;
         last = number;
     }
@@ -54,7 +53,7 @@ impl Depot {
     ghost use Rattle.gq_stock.specs.Finding.{FoundAs};
     ghost use Rattle.gq_stock.specs.Held.{held_by};
     ghost use Rattle.gq_stock.specs.Stocks.{DamagedIn};
-    ghost use Rattle.gq_depot.specs.Depots.{LeadsTo, StandsIn, FactIsSure, ReadsFact};
+    ghost use Rattle.gq_depot.specs.Depots.{LeadsTo, StandsIn, FactIsSure, ReadsFact, StaysWithin, in_memory};
     ghost use Rattle.gq_depot.specs.Answers.{In, is_told, KeptAt, KeepTells, KeepGives, FoundAt, GetTells, GivesFor, told_if, is_full, ForgotAt, ForgetIn, ForgetTells, ForgetGivesIn, ForgetGives, ListedAt, ListTells, RoomTells, Tells, Gives, DamageIs};
 
     /// The fact of the chunk of this number, in the session at this place, which a start needs. Where memory is wanting nothing is made.
@@ -122,6 +121,7 @@ impl Depot {
         ensures leads { IfOk result (λ a. LeadsTo self.old a.fact self.new) }
         ensures sure { IfOk result (λ a. FactIsSure a.fact (S.noted shelf.new)) }
         ensures reads { IfOk result (λ a. ReadsFact (length self.old.stock.sessions.items) a.fact) }
+        ensures memory { IfOk result (λ a. StaysWithin self.old self.new) }
         ensures damaged { IfOk result (λ a. DamageIs self.old (S.noted shelf.old) (S.noted shelf.new) a.answer) }
         ensures refused { IfErr result (λ fault. IsRefused fault (S.noted shelf.old) (S.noted shelf.new)) }
         ensures goes_on { GoesOn (S.noted shelf.old) (S.noted shelf.new) }
@@ -158,6 +158,7 @@ impl Depot {
         ensures leads { IfOk result (λ a. LeadsTo self.old a.fact self.new) }
         ensures sure { IfOk result (λ a. FactIsSure a.fact (S.noted shelf.new)) }
         ensures reads { IfOk result (λ a. ReadsFact (length self.old.stock.sessions.items) a.fact) }
+        ensures memory { IfOk result (λ a. StaysWithin self.old self.new) }
         ensures damaged { IfOk result (λ a. DamageIs self.old (S.noted shelf.old) (S.noted shelf.new) a.answer) }
         ensures refused { IfErr result (λ fault. IsRefused fault (S.noted shelf.old) (S.noted shelf.new)) }
         ensures goes_on { GoesOn (S.noted shelf.old) (S.noted shelf.new) }
@@ -296,6 +297,7 @@ impl Depot {
         requires within { run.last ≤ floor }
         ensures tells { IfOk result (λ answer. ForgotAt self.new place session run answer) }
         ensures leads { OnOk result (LeadsTo self.old (Some (ChunkFact.Forgot session floor run)) self.new) }
+        ensures no_more { OnOk result (in_memory self.new ≤ in_memory self.old) }
     {
         self.note_gone(place, run)?;
         let gone = run_bytes(&self.stock.sessions[place], run);
@@ -330,6 +332,7 @@ impl Depot {
         ensures gives { IfOk result (λ a. ForgetGivesIn (is_full self.old run) session floor run a.fact) }
         ensures leads { IfOk result (λ a. LeadsTo self.old a.fact self.new) }
         ensures reads { IfOk result (λ a. ReadsFact (length self.old.stock.sessions.items) a.fact) }
+        ensures memory { IfOk result (λ a. StaysWithin self.old self.new) }
     {
         if self.is_noted_full(run) {
             return Ok(only(ChunkAnswer::Lacking { session, floor }));
@@ -350,6 +353,7 @@ impl Depot {
         ensures gives { IfOk result (λ a. ForgetGives self.old session floor run a.fact) }
         ensures leads { IfOk result (λ a. LeadsTo self.old a.fact self.new) }
         ensures reads { IfOk result (λ a. ReadsFact (length self.old.stock.sessions.items) a.fact) }
+        ensures memory { IfOk result (λ a. StaysWithin self.old self.new) }
     {
         if run.last > floor {
             return Ok(only(ChunkAnswer::Bad));
@@ -411,7 +415,8 @@ impl Depot {
     }
 
     /// What comes of the request, at a server whose plan tells so many losses of its column. What is told is so where no read was wrong. What is kept of it
-    /// is what the fact makes of what there was, if there is a fact; and what that names on the shelf was made sure of there. It is refused where memory is
+    /// is what the fact makes of what there was, if there is a fact; and what that names on the shelf was made sure of there. No more bytes are in memory than
+    /// `MOST_FRESH_BYTES`, or than were. It is refused where memory is
     /// wanting, or the shelf refuses a read or a put; the depot is given up then.
     pub fn answer<S: Shelf>(
         &mut self,
@@ -425,6 +430,7 @@ impl Depot {
         ensures leads { IfOk result (λ a. LeadsTo self.old a.fact self.new) }
         ensures sure { IfOk result (λ a. FactIsSure a.fact (S.noted shelf.new)) }
         ensures reads { IfOk result (λ a. ReadsFact (length self.old.stock.sessions.items) a.fact) }
+        ensures memory { IfOk result (λ a. StaysWithin self.old self.new) }
         ensures damaged { IfOk result (λ a. DamageIs self.old (S.noted shelf.old) (S.noted shelf.new) a.answer) }
         ensures refused { IfErr result (λ fault. IsRefused fault (S.noted shelf.old) (S.noted shelf.new)) }
         ensures goes_on { GoesOn (S.noted shelf.old) (S.noted shelf.new) }

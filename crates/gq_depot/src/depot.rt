@@ -71,7 +71,7 @@ pub(crate) fn run_bytes(session: &Session, run: Run) -> u64 {
 
 impl Depot {
     ghost use Rattle.gq_stock.specs.Stocks.{used_in};
-    ghost use Rattle.gq_depot.specs.Depots.{place_in, standing_of, gone_after, bare, IsSame};
+    ghost use Rattle.gq_depot.specs.Depots.{place_in, standing_of, gone_after, bare, in_memory, IsSame};
 
     /// So many sessions, which have nothing.
     pub fn new(
@@ -82,6 +82,7 @@ impl Depot {
     ) -> Result<Depot, OutOfMemory>
         ensures sessions { IfOk result (λ depot. length depot.stock.sessions.items ≡ sessions) }
         ensures used { IfOk result (λ depot. used_in depot.stock.sessions.items ≡ 0) }
+        ensures memory { IfOk result (λ depot. in_memory depot ≡ 0) }
         ensures allowed { IfOk result (λ depot. depot.stock.allowed ≡ allowed) }
         ensures lacks { IfOk result (λ depot. depot.lacks ≡ lacks) }
         ensures nothing { IfOk result (λ depot. IsSame (standing_of depot) (bare lacks)) }

@@ -42,7 +42,7 @@ fn has_length(bytes: &[u8]) -> bool
 }
 
 impl Depot {
-    ghost use Rattle.gq_depot.specs.Depots.{LeadsTo, FactIsSure, ReadsFact};
+    ghost use Rattle.gq_depot.specs.Depots.{LeadsTo, FactIsSure, ReadsFact, StaysWithin};
     ghost use Rattle.gq_depot.specs.Answers.{In, PutIs};
     ghost use Rattle.gq_depot.specs.Filling.{wants_at, GivenAt, GiveGives, RaisedAt, RaiseGives, EndGives, Fills};
 
@@ -85,6 +85,7 @@ impl Depot {
         ensures leads { IfOk result (λ fact. LeadsTo self.old (Some fact) self.new) }
         ensures sure { IfOk result (λ fact. FactIsSure (Some fact) (S.noted shelf.new)) }
         ensures reads { IfOk result (λ fact. ReadsFact (length self.old.stock.sessions.items) (Some fact)) }
+        ensures memory { IfOk result (λ fact. StaysWithin self.old self.new) }
         ensures refused { IfErr result (λ fault. IsRefused fault (S.noted shelf.old) (S.noted shelf.new)) }
         ensures goes_on { GoesOn (S.noted shelf.old) (S.noted shelf.new) }
     {
@@ -116,6 +117,7 @@ impl Depot {
         ensures leads { IfOk result (λ fact. LeadsTo self.old fact self.new) }
         ensures sure { IfOk result (λ fact. FactIsSure fact (S.noted shelf.new)) }
         ensures reads { IfOk result (λ fact. ReadsFact (length self.old.stock.sessions.items) fact) }
+        ensures memory { IfOk result (λ fact. StaysWithin self.old self.new) }
         ensures refused { IfErr result (λ fault. IsRefused fault (S.noted shelf.old) (S.noted shelf.new)) }
         ensures goes_on { GoesOn (S.noted shelf.old) (S.noted shelf.new) }
     {
@@ -139,6 +141,7 @@ impl Depot {
         ensures leads { IfOk result (λ fact. LeadsTo self.old fact self.new) }
         ensures sure { IfOk result (λ fact. FactIsSure fact (S.noted shelf.new)) }
         ensures reads { IfOk result (λ fact. ReadsFact (length self.old.stock.sessions.items) fact) }
+        ensures memory { IfOk result (λ fact. StaysWithin self.old self.new) }
         ensures refused { IfErr result (λ fault. IsRefused fault (S.noted shelf.old) (S.noted shelf.new)) }
         ensures goes_on { GoesOn (S.noted shelf.old) (S.noted shelf.new) }
     {
@@ -162,6 +165,7 @@ impl Depot {
         ensures sure { (noted : Noted) → IfOk result (λ fact. FactIsSure fact noted) }
         ensures leads { IfOk result (λ fact. LeadsTo self.old fact self.new) }
         ensures reads { IfOk result (λ fact. ReadsFact (length self.old.stock.sessions.items) fact) }
+        ensures memory { IfOk result (λ fact. StaysWithin self.old self.new) }
     {
         if !self.lacks || self.floor_at(place) >= floor {
             return Ok(None);
@@ -181,6 +185,7 @@ impl Depot {
         ensures sure { (noted : Noted) → IfOk result (λ fact. FactIsSure fact noted) }
         ensures leads { IfOk result (λ fact. LeadsTo self.old fact self.new) }
         ensures reads { IfOk result (λ fact. ReadsFact (length self.old.stock.sessions.items) fact) }
+        ensures memory { IfOk result (λ fact. StaysWithin self.old self.new) }
     {
         let Some(place) = self.place_of(session) else {
             return Ok(None);
@@ -193,6 +198,7 @@ impl Depot {
         ensures fills { EndGives self.old.lacks result }
         ensures leads { LeadsTo self.old result self.new }
         ensures reads { ReadsFact (length self.old.stock.sessions.items) result }
+        ensures memory { StaysWithin self.old self.new }
     {
         if !self.lacks {
             return None;
@@ -214,6 +220,7 @@ impl Depot {
         ensures leads { IfOk result (λ fact. LeadsTo self.old fact self.new) }
         ensures sure { IfOk result (λ fact. FactIsSure fact (S.noted shelf.new)) }
         ensures reads { IfOk result (λ fact. ReadsFact (length self.old.stock.sessions.items) fact) }
+        ensures memory { IfOk result (λ fact. StaysWithin self.old self.new) }
         ensures refused { IfErr result (λ fault. IsRefused fault (S.noted shelf.old) (S.noted shelf.new)) }
         ensures goes_on { GoesOn (S.noted shelf.old) (S.noted shelf.new) }
     {

@@ -1,6 +1,6 @@
 //! What holds of any requests of any tenants, and of what peers give, as clauses of functions that do nothing.
 
-ghost use Rattle.gq_depot.specs.Laws.{Apart, FactsRemake};
+ghost use Rattle.gq_depot.specs.Laws.{Apart, FactsRemake, MemoryIsBounded};
 
 /// Whatever all tenants asked, and peers gave: what one of them was told, and what is kept of it, is what comes of its own requests and of what was given of it.
 pub fn apart()
@@ -10,4 +10,9 @@ pub fn apart()
 /// What a tenant has is what the facts of its requests, and of what was given of it, make of what it had. So a start that reads these makes the same again.
 pub fn facts_remake()
     ensures { FactsRemake }
+{}
+
+/// Whatever a tenant asked, and peers gave of it: no more bytes of its contents are in memory than `MOST_FRESH_BYTES`, or than there were.
+pub fn memory_is_bounded()
+    ensures { MemoryIsBounded }
 {}

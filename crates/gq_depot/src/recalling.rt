@@ -41,7 +41,8 @@ impl Depot {
 
     // The server lacks nothing any more.
     pub(crate) fn lack_nothing(&mut self)
-        ensures { LeadsTo self.old (Some ChunkFact.Filled) self.new }
+        ensures leads { LeadsTo self.old (Some ChunkFact.Filled) self.new }
+        ensures stock { self.new.stock ≡ self.old.stock }
     {
         self.lacks = false;
         self.gone.clear();

@@ -8,9 +8,9 @@ use gq_shelf::MemoryShelf;
 use std::alloc::Global;
 use std::process::Abort;
 
-// Ann has room for 1,024 bytes, bob for none. One node of the column was lost.
+// Ann has room for 2,048 bytes, bob for none. One node of the column was lost.
 const PLAN: &[u8] =
-    b"grid 2 1\nblocks 16\ntenant ann 6 2 10\ntenant bob 4 1 10\ngo\nann chunks 1\nreplace 1\n";
+    b"grid 2 1\nblocks 16\ntenant ann 6 2 10\ntenant bob 4 1 10\ngo\nann chunks 2\nreplace 1\n";
 
 fn setup(rt: &impl Abort, alloc: Global) -> Setup {
     read_setup(alloc, PLAN).ok().expect(rt, "a setup")
@@ -115,7 +115,7 @@ fn keeps_and_tells_chunks(rt: HostRuntime) {
         "ann 0 got 1 5 3 1 =\\sb\n",
     );
     says(&rt, alloc, it, "0 ann get 1 6 0 9", "ann 0 none 1 6\n");
-    says(&rt, alloc, it, "0 ann room", "ann 0 room 6 1024 1 0\n");
+    says(&rt, alloc, it, "0 ann room", "ann 0 room 1030 2048 1 0\n");
     forget_first(&rt, alloc, it);
     says(
         &rt,

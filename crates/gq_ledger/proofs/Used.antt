@@ -4,9 +4,10 @@ use Rattle.std.specs.Prelude.{option_map, unwrap_or}
 use Rattle.std.specs.Ordering.{nat_cmp}
 use Rattle.std.specs.BTreeMap.{insert_entry, is_at}
 use Rattle.std.specs.List.Sorted.{IsStrictlySortedBy}
-use Rattle.std.specs.Map.{keys_of, lookup, remove_entry}
+use Rattle.std.specs.Map.{keys_of, values_of, lookup, remove_entry}
 use Rattle.std.proofs.lemmas.Cmp.{nat_cmp_total}
 use Rattle.std.proofs.lemmas.Map.Entries.{sum_by-insert_entry, sum_by-remove_entry}
+use Rattle.std.proofs.lemmas.List.Sums.{sum_by-le-sum_by}
 use Rattle.gq_ledger.specs.Used.{used_of}
 
 -- how many bytes are under the number
@@ -38,3 +39,7 @@ given_to used before after long within sum = omega arith
 
 pub kept_with : (used before after long : ℕ) → before ≡ 0 → after + before ≡ used + long → used + long ≡ after
 kept_with used before after long none sum = omega arith
+
+-- what is counted of less is less
+pub fresh_within : {T : Type 0} (f g : T → ℕ) (es : List (ℕ × T)) → ((x : T) → f x ≤ g x) → used_of f es ≤ used_of g es
+fresh_within f g es within = sum_by-le-sum_by f g (values_of es) within

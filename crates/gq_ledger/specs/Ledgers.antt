@@ -24,6 +24,14 @@ all_bytes {T} {long} l = used_of long.length l.chunks.entries
 abbrev pub bytes_under : {T : Type 0} {long : Ghosts T} → Ledger T long → ℕ → ℕ
 bytes_under {T} {long} l n = unwrap_or (option_map long.length ((book_of l).at n)) 0
 
+-- how many bytes of all chunks are in memory
+abbrev pub all_fresh : {T : Type 0} {long : Ghosts T} → Ledger T long → ℕ
+all_fresh {T} {long} l = used_of long.fresh_length l.chunks.entries
+
+-- how many of these are of the chunk of the number
+abbrev pub fresh_under : {T : Type 0} {long : Ghosts T} → Ledger T long → ℕ → ℕ
+fresh_under {T} {long} l n = unwrap_or (option_map long.fresh_length ((book_of l).at n)) 0
+
 -- how many bytes a content of so many takes
 abbrev pub taken_by : Verdict → (long : ℕ) → ℕ
 taken_by There long = 0

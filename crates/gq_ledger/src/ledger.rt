@@ -16,12 +16,14 @@ pub struct Ledger<T: Long + Drop> {
     chunks: BTreeMap<u64, T>,
     floor: u64,
     used: u64,
+    fresh: u64,
     ghost counted: { used ≡ used_of T.length chunks.entries },
+    ghost fresh_counted: { fresh ≡ used_of T.fresh_length chunks.entries },
 }
 
 impl<T: Long + Drop> Ledger<T> {
     ghost use Rattle.gq_ledger.specs.Steps.{Book, Leads, Keeps, Forgets, Raises, Gives};
-    ghost use Rattle.gq_ledger.specs.Ledgers.{book_of, verdict_of, all_bytes, bytes_under, taken_by};
+    ghost use Rattle.gq_ledger.specs.Ledgers.{book_of, verdict_of, all_bytes, bytes_under, all_fresh, fresh_under, taken_by};
     ghost use Rattle.gq_ledger.specs.declared.verdict.Verdict.TheVariants.{Kept};
 
     /// Nothing is there, and the floor is at 0.
@@ -29,11 +31,13 @@ impl<T: Long + Drop> Ledger<T> {
         ensures empty { (n : ℕ) → (book_of result).at n ≡ None }
         ensures floor { (book_of result).floor ≡ 0 }
         ensures used { all_bytes result ≡ 0 }
+        ensures fresh { all_fresh result ≡ 0 }
     {
         Ledger {
             chunks: BTreeMap::new(alloc),
             floor: 0,
             used: 0,
+            fresh: 0,
         }
     }
 
@@ -49,6 +53,13 @@ impl<T: Long + Drop> Ledger<T> {
         ensures { result ≡ all_bytes self.now }
     {
         self.used
+    }
+
+    /// How many bytes of the chunks are in memory.
+    pub fn fresh(&self) -> u64
+        ensures { result ≡ all_fresh self.now }
+    {
+        self.fresh
     }
 
     /// The chunk of this number.
@@ -81,14 +92,18 @@ impl<T: Long + Drop> Ledger<T> {
         ensures leads { IfOk result (λ verdict. verdict ≡ Kept → Leads (book_of self.old) (Keeps number chunk) (book_of self.new)) }
         ensures stays { IfOk result (λ verdict. ¬ (verdict ≡ Kept) → book_of self.new ≡ book_of self.old) }
         ensures used { IfOk result (λ verdict. all_bytes self.new ≡ all_bytes self.old + taken_by verdict (T.length chunk)) }
+        ensures fresh { IfOk result (λ verdict. all_fresh self.new ≡ all_fresh self.old + taken_by verdict (T.fresh_length chunk)) }
         ensures unchanged { OnErr result (book_of self.new ≡ book_of self.old) }
         ensures as_used { OnErr result (all_bytes self.new ≡ all_bytes self.old) }
+        ensures as_fresh { OnErr result (all_fresh self.new ≡ all_fresh self.old) }
     {
         let long = chunk.len();
+        let fresh = chunk.fresh_len();
         let verdict = self.verdict(number, long, free);
         if verdict == Verdict::Kept {
             self.chunks.grow_at(number, chunk)?;
             self.used += long;
+            self.fresh += fresh;
         }
         Ok(verdict)
     }
@@ -103,24 +118,40 @@ impl<T: Long + Drop> Ledger<T> {
         }
     }
 
+    // How many bytes of the chunk of this number are in memory; none where none is there.
+    fn fresh_at(&self, number: u64) -> u64
+        ensures { result ≡ fresh_under self.now number }
+    {
+        match self.chunks.get(&number) {
+            Some(chunk) => chunk.fresh_len(),
+            None => 0,
+        }
+    }
+
     /// Puts the chunk there, whatever was there: one that a peer gives, or the same in another place. Where memory is refused nothing changes.
     pub fn give(&mut self, number: u64, chunk: T) -> Result<(), OutOfMemory>
         requires { all_bytes self.old + T.length chunk < 2 ^ 64 + bytes_under self.old number }
         ensures leads { OnOk result (Leads (book_of self.old) (Gives number chunk) (book_of self.new)) }
         ensures used { OnOk result (all_bytes self.new + bytes_under self.old number ≡ all_bytes self.old + T.length chunk) }
+        ensures fresh { OnOk result (all_fresh self.new + fresh_under self.old number ≡ all_fresh self.old + T.fresh_length chunk) }
         ensures unchanged { OnErr result (book_of self.new ≡ book_of self.old) }
         ensures as_used { OnErr result (all_bytes self.new ≡ all_bytes self.old) }
+        ensures as_fresh { OnErr result (all_fresh self.new ≡ all_fresh self.old) }
     {
         let long = chunk.len();
+        let fresh = chunk.fresh_len();
         let before = self.long_at(number);
+        let fresh_before = self.fresh_at(number);
         self.chunks.grow_at(number, chunk)?;
         self.used = self.used - before + long;
+        self.fresh = self.fresh - fresh_before + fresh;
         Ok(())
     }
 
     /// The floor is at this number, or where it was if that is above it.
     pub fn raise(&mut self, floor: u64)
-        ensures { Leads (book_of self.old) (Raises floor) (book_of self.new) }
+        ensures leads { Leads (book_of self.old) (Raises floor) (book_of self.new) }
+        ensures fresh { all_fresh self.new ≡ all_fresh self.old }
     {
         if self.floor < floor {
             self.floor = floor;
@@ -133,10 +164,13 @@ impl<T: Long + Drop> Ledger<T> {
         ensures was { result ≡ (book_of self.old).at number }
         ensures leads { Leads (book_of self.old) (Forgets number) (book_of self.new) }
         ensures used { all_bytes self.new + bytes_under self.old number ≡ all_bytes self.old }
+        ensures fresh { all_fresh self.new + fresh_under self.old number ≡ all_fresh self.old }
     {
         let before = self.long_at(number);
+        let fresh_before = self.fresh_at(number);
         let was = self.chunks.remove(&number);
         self.used -= before;
+        self.fresh -= fresh_before;
         was
     }
 

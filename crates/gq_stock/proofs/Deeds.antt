@@ -9,6 +9,7 @@ use Rattle.gq_stock.specs.Finding.{FoundAs}
 use Rattle.gq_stock.specs.Keeping.{KeptAs, ToldAs}
 use Rattle.gq_stock.specs.Forgetting.{is_in_any}
 use Rattle.gq_stock.specs.Deeds.{Deed, IsKept, IsFound, AreForgotten, IsGiven, AreMoved, Does, Ran, is_kept, gives_none, leaves, all_are, kept_now, content_now}
+use Rattle.gq_stock.specs.Charge.{charge_of}
 use Rattle.gq_stock.specs.Laws.{IsThese, IsEmpty, ToldIsKept, KeptUntilForgotten, Once, BelowTheFloor, RoomIsExact}
 use Rattle.gq_stock.specs.declared.finding.Found.{Found}
 use Rattle.gq_stock.specs.declared.finding.Found.TheVariants.{Nothing, There, Damaged as Spoilt}
@@ -218,13 +219,13 @@ below_the_floor old now after deeds n bytes is_sure free told none below ran giv
 
 -- ---- room
 
-room : (told : Keeping) (has : Option Held) (n floor : ℕ) (bytes : List ℕ) (free : ℕ) → has ≡ None → floor < n → ToldAs has n floor bytes free told → (length bytes ≤ free → told ≡ New) × (free < length bytes → told ≡ Full)
-room New has n floor bytes free none above told = let fits : length bytes ≤ free = told.2 in (λ le. refl, λ lt. absurd (omega (arith, lt, fits)))
+room : (told : Keeping) (has : Option Held) (n floor : ℕ) (bytes : List ℕ) (free : ℕ) → has ≡ None → floor < n → ToldAs has n floor bytes free told → (charge_of (length bytes) ≤ free → told ≡ New) × (free < charge_of (length bytes) → told ≡ Full)
+room New has n floor bytes free none above told = let fits : charge_of (length bytes) ≤ free = told.2 in (λ le. refl, λ lt. absurd (omega (arith, lt, fits)))
 room Same has n floor bytes free none above told = absurd (no_content has bytes none told)
 room Differs has n floor bytes free none above told = absurd (no_some has none told.0)
 room Damaged has n floor bytes free none above told = absurd (no_some has none told)
 room Below has n floor bytes free none above told = let below : n ≤ floor = told.1 in absurd (omega arith)
-room Full has n floor bytes free none above told = let over : free < length bytes = told.2 in (λ le. absurd (omega (arith, le, over)), λ lt. refl)
+room Full has n floor bytes free none above told = let over : free < charge_of (length bytes) = told.2 in (λ le. absurd (omega (arith, le, over)), λ lt. refl)
 
 pub room_is_exact : RoomIsExact
 room_is_exact old new n bytes is_sure free told none above does = room told (old.at n) n old.floor bytes free none above does.told_so

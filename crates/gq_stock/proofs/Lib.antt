@@ -1,3 +1,4 @@
+pub mod Memory
 pub mod Contents
 pub mod Deeds
 pub mod Compared

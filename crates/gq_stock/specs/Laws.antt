@@ -1,6 +1,7 @@
 -- What holds of any deeds.
 use Rattle.std.specs.Prelude.{◌≡◌, ◌≤◌, ◌<◌, ℕ, Bool, true, List, length, Some, None}
 use Rattle.gq_ledger.specs.Steps.{Book}
+use Rattle.gq_stock.specs.Charge.{charge_of}
 use Rattle.gq_stock.specs.Held.{Held}
 use Rattle.gq_stock.specs.Deeds.{Deed, IsKept, IsFound, Does, Ran, is_kept, gives_none, leaves, all_are, content_now}
 use Rattle.gq_stock.specs.declared.finding.Found.{Found}
@@ -38,7 +39,7 @@ abbrev pub BelowTheFloor : Type 0
 BelowTheFloor = (old now after : Book Held) (deeds : List Deed) (n : ℕ) (bytes : List ℕ) (is_sure : Bool) (free : ℕ) (told : Keeping) →
     old.at n ≡ None → n ≤ old.floor → Ran old deeds now → all_are (gives_none n) deeds → Does now (IsKept n bytes is_sure free told) after → told ≡ Below
 
--- where nothing but room may be wanting, it is wanting exactly where the content has more bytes than are free
+-- where nothing but room may be wanting, it is wanting exactly where the content is charged more bytes than are free
 abbrev pub RoomIsExact : Type 0
 RoomIsExact = (old new : Book Held) (n : ℕ) (bytes : List ℕ) (is_sure : Bool) (free : ℕ) (told : Keeping) →
-    old.at n ≡ None → old.floor < n → Does old (IsKept n bytes is_sure free told) new → (length bytes ≤ free → told ≡ New) × (free < length bytes → told ≡ Full)
+    old.at n ≡ None → old.floor < n → Does old (IsKept n bytes is_sure free told) new → (charge_of (length bytes) ≤ free → told ≡ New) × (free < charge_of (length bytes) → told ≡ Full)

@@ -1,3 +1,6 @@
+pub mod Charge
+pub mod Memory
+pub mod Within
 pub mod Held
 pub mod Finding
 pub mod Keeping

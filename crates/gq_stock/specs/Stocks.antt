@@ -2,7 +2,7 @@
 use Rattle.std.specs.Prelude.{◌≡◌, ℕ, Bool, true, List, Some, None, slice_get}
 use Rattle.std.specs.List.{sum_by}
 use Rattle.gq_shelf.specs.declared.extent.Extent.{Extent}
-use Rattle.gq_ledger.specs.Ledgers.{book_of, all_bytes}
+use Rattle.gq_ledger.specs.Ledgers.{book_of, all_bytes, all_fresh}
 use Rattle.gq_shelf.specs.Notes.{Noted}
 use Rattle.gq_stock.specs.Finding.{FindsDamage}
 use Rattle.gq_stock.specs.Held.{contents}
@@ -11,9 +11,13 @@ use Rattle.gq_stock.specs.Keeping.{KeptAs, ChangesOnly}
 use Rattle.gq_stock.specs.declared.session.Session.{Session}
 use Rattle.gq_stock.specs.declared.keeping.Keeping.{Keeping}
 
--- how many bytes all chunks have
+-- how many bytes all chunks are charged
 abbrev pub used_in : List Session → ℕ
 used_in sessions = sum_by (λ session. all_bytes session.chunks) sessions
+
+-- how many bytes of all chunks are in memory
+abbrev pub fresh_in : List Session → ℕ
+fresh_in sessions = sum_by (λ session. all_fresh session.chunks) sessions
 
 -- The session at this place was asked to keep a content.
 abbrev pub KeptIn : (Extent → List ℕ) → List Session → (place n : ℕ) → List ℕ → Bool → (free : ℕ) → Keeping → List Session → Type 0

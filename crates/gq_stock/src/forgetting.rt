@@ -6,7 +6,7 @@ ghost use Rattle.gq_shelf.specs.declared.extent.Extent.{Extent};
 use crate::{Run, Session};
 
 impl Session {
-    ghost use Rattle.gq_ledger.specs.Ledgers.{book_of};
+    ghost use Rattle.gq_ledger.specs.Ledgers.{book_of, all_fresh};
     ghost use Rattle.gq_ledger.specs.Steps.{Leads, Forgets};
     ghost use Rattle.gq_stock.specs.Held.{contents};
     ghost use Rattle.gq_stock.specs.Forgetting.{is_in, ForgotAs};
@@ -27,7 +27,8 @@ impl Session {
     // Takes away the chunk of a number that is not above the floor.
     fn remove(&mut self, number: u64)
         requires { number ≤ (book_of self.old.chunks).floor }
-        ensures { Leads (book_of self.old.chunks) (Forgets number) (book_of self.new.chunks) }
+        ensures leads { Leads (book_of self.old.chunks) (Forgets number) (book_of self.new.chunks) }
+        ensures fresh { all_fresh self.new.chunks ≤ all_fresh self.old.chunks }
     {
         let _was = self.chunks.forget(number);
     }
@@ -37,6 +38,7 @@ impl Session {
         requires { run.last ≤ (book_of self.old.chunks).floor }
         ensures at { (n : ℕ) → (book_of self.new.chunks).at n ≡ (if is_in n run then None else (book_of self.old.chunks).at n) }
         ensures floor { (book_of self.new.chunks).floor ≡ (book_of self.old.chunks).floor }
+        ensures fresh { all_fresh self.new.chunks ≤ all_fresh self.old.chunks }
     {
         if run.last < run.first {
             return;
@@ -50,11 +52,12 @@ impl Session {
     }
 
     /// Forgets the numbers of the runs, of which none is above the floor: they are absent from now on. The floor is at this number, or where it was if that is
-    /// above it. So it may be asked any number of times.
+    /// above it. No more is in memory than before. So it may be asked any number of times.
     pub fn forget(&mut self, floor: u64, runs: &[Run])
         requires { All (λ run. run.last ≤ floor) runs.now }
         ensures contents { (written : Extent → List ℕ) → ForgotAs (contents written (book_of self.old.chunks)) floor runs.now (contents written (book_of self.new.chunks)) }
         ensures chunks { ForgotAs (book_of self.old.chunks) floor runs.now (book_of self.new.chunks) }
+        ensures fresh { all_fresh self.new.chunks ≤ all_fresh self.old.chunks }
     {
         self.chunks.raise(floor);
         for run in runs {

@@ -25,7 +25,7 @@ pub fn below_the_floor()
     ensures { BelowTheFloor }
 {}
 
-/// A content is refused for want of room exactly where it has more bytes than are free.
+/// A content is refused for want of room exactly where it is charged more bytes than are free: its own, and those that each chunk is charged.
 pub fn room_is_exact()
     ensures { RoomIsExact }
 {}

@@ -4,7 +4,9 @@ ghost use Rattle.std.specs.Prelude.{◌≡◌, ◌+◌, ◌<◌, ◌≤◌, ◌^
 ghost use Rattle.gq_shelf.specs.Notes.{IsClean, GoesOn};
 ghost use Rattle.gq_shelf.specs.Places.{content_at, long_at, extent_in};
 ghost use Rattle.gq_shelf.specs.declared.extent.Extent.{Extent};
+ghost use Rattle.gq_stock.specs.Charge.{charge_of};
 ghost use Rattle.gq_stock.specs.Finding.{FindsDamageAt, IsRefused};
+ghost use Rattle.gq_stock.specs.Memory.{fresh_at, fresh_of};
 ghost use Rattle.gq_stock.specs.Moving.{LiesBehind};
 
 use crate::keeping::placed;
@@ -35,7 +37,7 @@ fn copied<S: Shelf>(shelf: &mut S, place: &Place) -> Result<Option<Place>, Shelf
 }
 
 impl Session {
-    ghost use Rattle.gq_ledger.specs.Ledgers.{book_of, all_bytes, bytes_under};
+    ghost use Rattle.gq_ledger.specs.Ledgers.{book_of, all_bytes, bytes_under, all_fresh, fresh_under};
     ghost use Rattle.gq_ledger.specs.Steps.{Leads, Gives};
     ghost use Rattle.gq_stock.specs.Held.{contents};
     ghost use Rattle.gq_stock.specs.Moving.{MovedAs, IsBehind, NoneIsRead};
@@ -46,10 +48,13 @@ impl Session {
     /// where memory is refused.
     pub fn put(&mut self, number: u64, chunk: Chunk) -> Result<bool, OutOfMemory>
         ensures put { IfOk result (λ is_put. is_put ≡ true → Leads (book_of self.old.chunks) (Gives number chunk) (book_of self.new.chunks)) }
-        ensures used { IfOk result (λ is_put. is_put ≡ true → all_bytes self.new.chunks + bytes_under self.old.chunks number ≡ all_bytes self.old.chunks + long_at chunk.place) }
+        ensures used { IfOk result (λ is_put. is_put ≡ true → all_bytes self.new.chunks + bytes_under self.old.chunks number ≡ all_bytes self.old.chunks + charge_of (long_at chunk.place)) }
+        ensures fresh { IfOk result (λ is_put. is_put ≡ true → all_fresh self.new.chunks + fresh_under self.old.chunks number ≡ all_fresh self.old.chunks + fresh_at chunk.place) }
         ensures same { IfOk result (λ is_put. is_put ≡ false → book_of self.new.chunks ≡ book_of self.old.chunks) }
-        ensures much { IfOk result (λ is_put. is_put ≡ false → 2 ^ 64 ≤ all_bytes self.old.chunks + long_at chunk.place) }
+        ensures much { IfOk result (λ is_put. is_put ≡ false → 2 ^ 64 ≤ all_bytes self.old.chunks + charge_of (long_at chunk.place)) }
+        ensures fresh_same { IfOk result (λ is_put. is_put ≡ false → all_fresh self.new.chunks ≡ all_fresh self.old.chunks) }
         ensures unchanged { OnErr result (book_of self.new.chunks ≡ book_of self.old.chunks) }
+        ensures as_fresh { OnErr result (all_fresh self.new.chunks ≡ all_fresh self.old.chunks) }
     {
         if self.used() > u64::MAX - chunk.len() {
             return Ok(false);
@@ -59,26 +64,30 @@ impl Session {
     }
 
     /// Puts the chunk that a peer gives under the number, in place of what is there. False: it would be more bytes in all than 64 bits tell, and nothing changes.
-    /// If it lies on the shelf it was made sure of there. It is refused where memory is wanting, or the shelf refuses a put. Nothing changes then.
+    /// It stays in memory if it is short, and has no more bytes than `left`. Else it lies on the shelf, which made sure of it. It is refused where memory is wanting, or
+    /// the shelf refuses a put. Nothing changes then.
     pub fn give<S: Shelf>(
         &mut self,
         shelf: &mut S,
         number: u64,
         bytes: Bytes,
+        left: u64,
     ) -> Result<bool, ShelfFault>
         requires { length bytes < 2 ^ 32 }
         ensures given { (written : Extent → List ℕ) → IfOk result (λ is_given. is_given ≡ true → IsClean written (S.noted shelf.new) → Leads (contents written (book_of self.old.chunks)) (Gives number (record { bytes = bytes; is_sure = true })) (contents written (book_of self.new.chunks))) }
         ensures sure { IfOk result (λ is_given. is_given ≡ true → IsSureOf ((book_of self.new.chunks).at number) (S.noted shelf.new)) }
-        ensures used { IfOk result (λ is_given. is_given ≡ true → all_bytes self.new.chunks + bytes_under self.old.chunks number ≡ all_bytes self.old.chunks + length bytes) }
+        ensures used { IfOk result (λ is_given. is_given ≡ true → all_bytes self.new.chunks + bytes_under self.old.chunks number ≡ all_bytes self.old.chunks + charge_of (length bytes)) }
+        ensures fresh { IfOk result (λ is_given. is_given ≡ true → all_fresh self.new.chunks + fresh_under self.old.chunks number ≡ all_fresh self.old.chunks + fresh_of (length bytes) left) }
+        ensures within { all_fresh self.new.chunks ≤ all_fresh self.old.chunks + left }
         ensures alone { IfOk result (λ is_given. is_given ≡ true → ChangesOnly (book_of self.old.chunks) number (book_of self.new.chunks)) }
         ensures long { IfOk result (λ is_given. is_given ≡ true → IsLongOf ((book_of self.new.chunks).at number) (length bytes)) }
         ensures same { IfOk result (λ is_given. is_given ≡ false → book_of self.new.chunks ≡ book_of self.old.chunks) }
-        ensures much { IfOk result (λ is_given. is_given ≡ false → 2 ^ 64 ≤ all_bytes self.old.chunks + length bytes) }
+        ensures much { IfOk result (λ is_given. is_given ≡ false → 2 ^ 64 ≤ all_bytes self.old.chunks + charge_of (length bytes)) }
         ensures refused { IfErr result (λ fault. IsRefused fault (S.noted shelf.old) (S.noted shelf.new)) }
         ensures unchanged { OnErr result (book_of self.new.chunks ≡ book_of self.old.chunks) }
         ensures goes_on { GoesOn (S.noted shelf.old) (S.noted shelf.new) }
     {
-        let place = placed(shelf, bytes)?;
+        let place = placed(shelf, bytes, left)?;
         Ok(self.put(
             number,
             Chunk {
@@ -89,7 +98,7 @@ impl Session {
     }
 
     /// Puts the content of the number behind all others on the shelf, from memory or from where it lies. It is the same, where no read was wrong, and so is
-    /// what is used. The shelf has to make sure of it before it is told where it lies. False: none is there, or this read of the shelf found it damaged, and nothing changes. It is refused where memory is wanting, or the
+    /// what is used. No more is in memory than before. The shelf has to make sure of it before it is told where it lies. False: none is there, or this read of the shelf found it damaged, and nothing changes. It is refused where memory is wanting, or the
     /// shelf refuses a read or a put. Nothing changes then.
     pub fn shelve<S: Shelf>(&mut self, shelf: &mut S, number: u64) -> Result<bool, ShelfFault>
         ensures moved { (written : Extent → List ℕ) → IfOk result (λ is_moved. IsClean written (S.noted shelf.new) → MovedAs (contents written (book_of self.old.chunks)) (contents written (book_of self.new.chunks))) }
@@ -97,6 +106,7 @@ impl Session {
         ensures none { IfOk result (λ is_moved. is_moved ≡ false → NoneIsRead ((book_of self.old.chunks).at number) (S.noted shelf.old) (S.noted shelf.new)) }
         ensures same { IfOk result (λ is_moved. is_moved ≡ false → book_of self.new.chunks ≡ book_of self.old.chunks) }
         ensures used { all_bytes self.new.chunks ≡ all_bytes self.old.chunks }
+        ensures fresh { all_fresh self.new.chunks ≤ all_fresh self.old.chunks }
         ensures refused { IfErr result (λ fault. IsRefused fault (S.noted shelf.old) (S.noted shelf.new)) }
         ensures unchanged { OnErr result (book_of self.new.chunks ≡ book_of self.old.chunks) }
         ensures goes_on { GoesOn (S.noted shelf.old) (S.noted shelf.new) }

@@ -14,13 +14,14 @@ pub struct Session {
 }
 
 impl Session {
-    ghost use Rattle.gq_ledger.specs.Ledgers.{book_of, all_bytes};
+    ghost use Rattle.gq_ledger.specs.Ledgers.{book_of, all_bytes, all_fresh};
 
     /// Nothing is there, and the floor is at 0.
     pub fn new(alloc: Global) -> Session
         ensures empty { (n : ℕ) → (book_of result.chunks).at n ≡ None }
         ensures floor { (book_of result.chunks).floor ≡ 0 }
         ensures used { all_bytes result.chunks ≡ 0 }
+        ensures fresh { all_fresh result.chunks ≡ 0 }
     {
         Session {
             chunks: Ledger::new(alloc),
@@ -34,11 +35,18 @@ impl Session {
         self.chunks.floor()
     }
 
-    /// How many bytes the chunks have in all.
+    /// How many bytes the chunks are charged in all.
     pub fn used(&self) -> u64
         ensures { result ≡ all_bytes self.now.chunks }
     {
         self.chunks.used()
+    }
+
+    /// How many bytes of the chunks are in memory.
+    pub fn fresh(&self) -> u64
+        ensures { result ≡ all_fresh self.now.chunks }
+    {
+        self.chunks.fresh()
     }
 
     /// How many chunks there are.

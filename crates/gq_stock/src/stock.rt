@@ -4,7 +4,7 @@ ghost use Rattle.std.specs.Prelude.{◌≡◌, ◌≢◌, All, true, false, List
 ghost use Rattle.gq_shelf.specs.Notes.{IsClean, GoesOn};
 ghost use Rattle.gq_shelf.specs.declared.extent.Extent.{Extent};
 
-use crate::{Keeping, Session};
+use crate::{Keeping, MOST_FRESH_BYTES, Session};
 use bytes::Bytes;
 use gq_memory::{GrowVec, OutOfMemory};
 use gq_shelf::{Shelf, ShelfFault};
@@ -20,14 +20,17 @@ pub struct Stock {
 }
 
 impl Stock {
+    ghost use Rattle.gq_stock.specs.Charge.{charge_of};
     ghost use Rattle.gq_stock.specs.Finding.{IsRefused};
     ghost use Rattle.gq_stock.specs.Keeping.{taken_of};
-    ghost use Rattle.gq_stock.specs.Stocks.{used_in, KeptIn, GivenIn, ChangesIn, DamagedIn, SureIn, LongIn, StaysIn, IsEmpty};
+    ghost use Rattle.gq_stock.specs.Memory.{fresh_taken};
+    ghost use Rattle.gq_stock.specs.Stocks.{used_in, fresh_in, KeptIn, GivenIn, ChangesIn, DamagedIn, SureIn, LongIn, StaysIn, IsEmpty};
 
     /// So many sessions, which have nothing.
     pub fn new(alloc: Global, sessions: u32, allowed: u64) -> Result<Stock, OutOfMemory>
         ensures sessions { IfOk result (λ stock. length stock.sessions.items ≡ sessions) }
         ensures used { IfOk result (λ stock. used_in stock.sessions.items ≡ 0) }
+        ensures fresh { IfOk result (λ stock. fresh_in stock.sessions.items ≡ 0) }
         ensures empty { IfOk result (λ stock. All IsEmpty stock.sessions.items) }
         ensures allowed { IfOk result (λ stock. stock.allowed ≡ allowed) }
     {
@@ -41,7 +44,7 @@ impl Stock {
         })
     }
 
-    /// How many bytes its chunks have, as far as 64 bits tell.
+    /// How many bytes its chunks are charged, as far as 64 bits tell.
     pub fn used(&self) -> u64
         ensures { result ≡ min (used_in self.now.sessions.items) (2 ^ 64 - 1) }
     {
@@ -59,7 +62,26 @@ impl Stock {
         self.allowed.saturating_sub(self.used())
     }
 
-    /// Keeps the content under the number of the session at this place. No other session changes, and what is used does not come above what is allowed, or stays.
+    /// How many bytes of its chunks are in memory, as far as 64 bits tell.
+    pub fn fresh(&self) -> u64
+        ensures { result ≡ min (fresh_in self.now.sessions.items) (2 ^ 64 - 1) }
+    {
+        let mut fresh: u64 = 0;
+        for session in self.sessions.as_slice() {
+            fresh = fresh.saturating_add(session.fresh());
+        }
+        fresh
+    }
+
+    // How many bytes more may be in memory.
+    fn left(&self) -> u64
+        ensures { result ≡ MOST_FRESH_BYTES - fresh_in self.now.sessions.items }
+    {
+        MOST_FRESH_BYTES.saturating_sub(self.fresh())
+    }
+
+    /// Keeps the content under the number of the session at this place, which is charged its bytes and `CHUNK_CHARGE`. No other session changes, and what is used does not come above what is allowed, or stays.
+    /// Nor does what is in memory come above `MOST_FRESH_BYTES`: a content that would bring more there, or is longer than `MOST_FRESH`, lies on the shelf.
     /// `Damaged` comes only where this read of the shelf found it so. It is refused where memory is wanting, or the shelf refuses a read or a put. Nothing changes then.
     pub fn keep<S: Shelf>(
         &mut self,
@@ -80,6 +102,8 @@ impl Stock {
         ensures long { IfOk result (λ told. told ≡ Keeping.New → LongIn self.new.sessions.items place number (length bytes)) }
         ensures damaged { IfOk result (λ told. told ≡ Keeping.Damaged → DamagedIn self.old.sessions.items place number (S.noted shelf.old) (S.noted shelf.new)) }
         ensures used { IfOk result (λ told. used_in self.new.sessions.items ≡ used_in self.old.sessions.items + taken_of (length bytes) told) }
+        ensures fresh { IfOk result (λ told. fresh_in self.new.sessions.items ≡ fresh_in self.old.sessions.items + fresh_taken (length bytes) (MOST_FRESH_BYTES - fresh_in self.old.sessions.items) told) }
+        ensures within { fresh_in self.new.sessions.items ≤ max (fresh_in self.old.sessions.items) MOST_FRESH_BYTES }
         ensures refused { IfErr result (λ fault. IsRefused fault (S.noted shelf.old) (S.noted shelf.new)) }
         ensures unchanged { OnErr result (StaysIn self.old.sessions.items place self.new.sessions.items) }
         ensures as_used { OnErr result (used_in self.new.sessions.items ≡ used_in self.old.sessions.items) }
@@ -89,12 +113,14 @@ impl Stock {
     {
         let _allowed = self.allowed;
         let free = self.free();
+        let left = self.left();
         let session = &mut self.sessions[place];
         let _used = session.used();
-        session.keep(shelf, number, bytes, is_sure, free)
+        session.keep(shelf, number, bytes, is_sure, free, left)
     }
-    /// Puts the content that a peer gives under the number of the session at this place, in place of what is there. No other session changes. If it lies on the shelf
-    /// it was made sure of there. False: it would be more bytes in all than 64 bits tell, and nothing changes. It is refused where memory is wanting, or the shelf refuses
+
+    /// Puts the content that a peer gives under the number of the session at this place, in place of what is there. No other session changes, and what is in
+    /// memory does not come above `MOST_FRESH_BYTES`, or above what it was. If it lies on the shelf it was made sure of there. False: it would be more bytes in all than 64 bits tell, and nothing changes. It is refused where memory is wanting, or the shelf refuses
     /// a put. Nothing changes then.
     pub fn give<S: Shelf>(
         &mut self,
@@ -108,7 +134,8 @@ impl Stock {
         ensures given { (written : Extent → List ℕ) → IfOk result (λ is_given. is_given ≡ true → IsClean written (S.noted shelf.new) → GivenIn written self.new.sessions.items place number bytes) }
         ensures alone { IfOk result (λ is_given. is_given ≡ true → ChangesIn self.old.sessions.items place number self.new.sessions.items) }
         ensures same { IfOk result (λ is_given. is_given ≡ false → StaysIn self.old.sessions.items place self.new.sessions.items) }
-        ensures much { IfOk result (λ is_given. is_given ≡ false → 2 ^ 64 ≤ used_in self.old.sessions.items + length bytes) }
+        ensures much { IfOk result (λ is_given. is_given ≡ false → 2 ^ 64 ≤ used_in self.old.sessions.items + charge_of (length bytes)) }
+        ensures within { fresh_in self.new.sessions.items ≤ max (fresh_in self.old.sessions.items) MOST_FRESH_BYTES }
         ensures sessions { length self.new.sessions.items ≡ length self.old.sessions.items }
         ensures others { (other : ℕ) → other ≢ place → slice_get self.new.sessions.items other ≡ slice_get self.old.sessions.items other }
         ensures sure { IfOk result (λ is_given. is_given ≡ true → SureIn self.new.sessions.items place number (S.noted shelf.new)) }
@@ -118,8 +145,9 @@ impl Stock {
         ensures allowed { self.new.allowed ≡ self.old.allowed }
         ensures goes_on { GoesOn (S.noted shelf.old) (S.noted shelf.new) }
     {
+        let left = self.left();
         let session = &mut self.sessions[place];
-        let is_given = session.give(shelf, number, bytes)?;
+        let is_given = session.give(shelf, number, bytes, left)?;
         Ok(is_given)
     }
 }

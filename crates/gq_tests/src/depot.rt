@@ -2,14 +2,17 @@
 
 use bytes::Bytes;
 use gq_depot::{Answered, ChunkAnswer, ChunkFact, ChunkRequest, Depot, Depots};
-use gq_memory::GrowVec;
-use gq_shelf::MemoryShelf;
-use gq_stock::{Found, Keeping, Run};
+use gq_memory::{GrowBytes, GrowVec, filled};
+use gq_shelf::{MemoryShelf, Place};
+use gq_stock::{CHUNK_CHARGE, Found, Keeping, MOST_FRESH, Run};
 use std::alloc::Global;
 use std::process::Abort;
 use std::test::Fail;
 
 const LOSSES: u64 = 3;
+
+// Room for two chunks of twelve bytes together.
+const ROOM: u64 = 12 + 2 * CHUNK_CHARGE;
 
 fn content(rt: &impl Abort, alloc: Global, text: &str) -> Bytes {
     match Bytes::copy_from_slice(alloc, text.as_bytes()) {
@@ -38,8 +41,8 @@ fn get(number: u64) -> ChunkRequest {
 // Two tenants, who have a session each, and the second one lacks chunks.
 fn two_depots(alloc: Global) -> Result<Depots<MemoryShelf>, Fail> {
     let mut depots = Vec::new(alloc);
-    depots.grow(Depot::new(alloc, 1, 12, false)?)?;
-    depots.grow(Depot::new(alloc, 1, 12, true)?)?;
+    depots.grow(Depot::new(alloc, 1, ROOM, false)?)?;
+    depots.grow(Depot::new(alloc, 1, ROOM, true)?)?;
     Ok(Depots {
         shelf: MemoryShelf::new(alloc),
         depots,
@@ -206,11 +209,44 @@ fn numbers_and_room_are_told(rt: HostRuntime) -> Result<(), Fail> {
         matches!(
             room,
             ChunkAnswer::Room {
-                used: 8,
-                allowed: 12,
+                used,
+                allowed: ROOM,
                 losses: LOSSES,
                 lacks: false
-            }
+            } if used == ROOM - 4
+        )
+    );
+    Ok(())
+}
+
+// A journal of before may tell of more short contents than memory is to have.
+#[test]
+fn a_start_reads_more_than_memory_is_to_have(rt: HostRuntime) -> Result<(), Fail> {
+    let alloc = rt.alloc();
+    let mut depots = two_depots(alloc)?;
+    let bytes = filled(alloc, 7u8, MOST_FRESH)?;
+    let short = Bytes::copy_from_slice(alloc, bytes.as_slice())?;
+    for number in 1..=257u64 {
+        let fact = ChunkFact::Put {
+            session: 1,
+            number,
+            is_sure: true,
+            place: Place::Fresh(short.share()?),
+        };
+        assert!(&rt; is_recalled(&rt, alloc, &mut depots, fact));
+    }
+    assert!(&rt; depots.depots.len() == 2);
+    assert!(&rt; keeps(&rt, alloc, &mut depots, 0, 300, "more") == Keeping::Full);
+    assert!(&rt; depots.depots.len() == 2);
+    depots.depots[0].stock.allowed = 100_000_000;
+    let kept = answered(&rt, alloc, &mut depots, 0, keep(&rt, alloc, 300, "more"));
+    assert!(&rt;
+        matches!(
+            kept.fact,
+            Some(ChunkFact::Put {
+                place: Place::Shelved(_),
+                ..
+            })
         )
     );
     Ok(())

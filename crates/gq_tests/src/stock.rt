@@ -1,16 +1,21 @@
 //! Chunks of a tenant over a shelf in memory: each call where memory and the shelf refuse nothing. Bytes as a word of a line.
 
 use bytes::Bytes;
-use gq_memory::filled;
+use gq_memory::{GrowBytes, filled};
 use gq_quote::{put_quoted, read_quoted};
 use gq_shelf::{Extent, MemoryShelf, Place, Shelf};
-use gq_stock::{Chunk, Found, Keeping, Run, Session, Stock};
+use gq_stock::{
+    CHUNK_CHARGE, Chunk, Found, Keeping, MOST_FRESH, MOST_FRESH_BYTES, Run, Session, Stock,
+};
 use std::alloc::Global;
 use std::process::Abort;
 use std::test::Fail;
 
 // One byte more than a content in memory has.
 const LONG: usize = 262_145;
+
+// Room for two chunks of twelve bytes together.
+const ROOM: u64 = 12 + 2 * CHUNK_CHARGE;
 
 fn content(rt: &impl Abort, alloc: Global, text: &str) -> Bytes {
     match Bytes::copy_from_slice(alloc, text.as_bytes()) {
@@ -54,7 +59,7 @@ fn is_nothing<S: Shelf>(session: &Session, shelf: &mut S, number: u64) -> bool {
     matches!(session.find(shelf, number), Ok(Found::Nothing))
 }
 
-// A content is kept once, within what is free, and above the floor.
+// A content is kept once, within what is free, and above the floor. Each is charged its bytes, and as many more.
 fn keeps_contents<S: Shelf>(rt: &impl Abort, alloc: Global, stock: &mut Stock, shelf: &mut S) {
     keeps(
         rt,
@@ -104,7 +109,7 @@ fn keeps_contents<S: Shelf>(rt: &impl Abort, alloc: Global, stock: &mut Stock, s
         content(rt, alloc, "seven b"),
         Keeping::New,
     );
-    assert!(rt; stock.used() == 12 && stock.free() == 0);
+    assert!(rt; stock.used() == ROOM && stock.free() == 0);
 }
 
 // Contents go to the shelf, are given by a peer, and are forgotten.
@@ -123,7 +128,7 @@ fn moves_contents<S: Shelf>(rt: &impl Abort, alloc: Global, session: &mut Sessio
     assert!(rt; is_found(session, shelf, 1, "hello") && is_found(session, shelf, 2, "seven b"));
     let given = content(rt, alloc, "given");
     assert!(rt; given.len() < 1_000_000);
-    assert!(rt; matches!(session.give(shelf, 4, given), Ok(true)));
+    assert!(rt; matches!(session.give(shelf, 4, given, MOST_FRESH_BYTES), Ok(true)));
     let elsewhere = Place::Shelved(Extent {
         segment: 1,
         at: 0,
@@ -142,7 +147,11 @@ fn moves_contents<S: Shelf>(rt: &impl Abort, alloc: Global, session: &mut Sessio
             Ok(true)
         )
     );
-    assert!(rt; is_damaged(session, shelf, 6) && session.count() == 4 && session.used() == 22);
+    assert!(rt;
+        is_damaged(session, shelf, 6)
+            && session.count() == 4
+            && session.used() == 22 + 4 * CHUNK_CHARGE
+    );
     session.forget(4, &[Run { first: 2, last: 4 }]);
     assert!(rt; is_nothing(session, shelf, 4) && session.floor() == 4);
     assert!(rt; matches!(session.after(1), Some((6, _))) && session.after(6).is_none());
@@ -152,7 +161,7 @@ fn moves_contents<S: Shelf>(rt: &impl Abort, alloc: Global, session: &mut Sessio
 fn chunks_are_kept_moved_and_forgotten(rt: HostRuntime) -> Result<(), Fail> {
     let alloc = rt.alloc();
     let mut shelf = MemoryShelf::new(alloc);
-    let mut stock = Stock::new(alloc, 1, 12)?;
+    let mut stock = Stock::new(alloc, 1, ROOM)?;
     keeps_contents(&rt, alloc, &mut stock, &mut shelf);
     assert!(rt; stock.sessions.len() == 1);
     moves_contents(&rt, alloc, &mut stock.sessions[0], &mut shelf);
@@ -190,6 +199,43 @@ fn a_long_content_lies_on_the_shelf(rt: HostRuntime) -> Result<(), Fail> {
             })
         )
     );
+    Ok(())
+}
+
+fn is_in_memory(session: &Session, number: u64) -> bool {
+    matches!(
+        session.get(number),
+        Some(Chunk {
+            place: Place::Fresh(_),
+            ..
+        })
+    )
+}
+
+#[test]
+fn short_contents_lie_on_the_shelf_where_memory_has_enough(rt: HostRuntime) -> Result<(), Fail> {
+    let alloc = rt.alloc();
+    let mut shelf = MemoryShelf::new(alloc);
+    let mut stock = Stock::new(alloc, 1, 100_000_000)?;
+    let short = sevens(alloc, MOST_FRESH)?;
+    for number in 1..=256u64 {
+        let content = short.share()?;
+        keeps(&rt, &mut stock, &mut shelf, number, content, Keeping::New);
+    }
+    assert!(&rt; stock.fresh() == MOST_FRESH_BYTES && stock.sessions.len() == 1);
+    assert!(&rt; is_in_memory(&stock.sessions[0], 256));
+    keeps(
+        &rt,
+        &mut stock,
+        &mut shelf,
+        257,
+        sevens(alloc, 1)?,
+        Keeping::New,
+    );
+    assert!(&rt; stock.sessions.len() == 1 && !is_in_memory(&stock.sessions[0], 257));
+    stock.sessions[0].forget(1, &[Run { first: 1, last: 1 }]);
+    keeps(&rt, &mut stock, &mut shelf, 258, short, Keeping::New);
+    assert!(&rt; stock.sessions.len() == 1 && is_in_memory(&stock.sessions[0], 258));
     Ok(())
 }
 

@@ -1,6 +1,7 @@
 use Rattle.std.proofs.Common.{◌<◌, length, Some, refl, arith}
 use Rattle.gq_depot.specs.declared.depot.Depot.{Depot}
 use Rattle.gq_stock.specs.declared.keeping.Keeping.TheVariants.{New}
+use Rattle.gq_depot.proofs.Memory.{stays_on}
 use Rattle.gq_depot.proofs.Standing.{give_leads, stands_still, put_given, sure_by, reads_by}
 use Rattle.gq_depot.proofs.depot.Depot.give_at.Goals as goal
 
@@ -27,3 +28,6 @@ pub returns-clause-reads : goal.returns-clause-reads
 returns-clause-reads g c =
     reads_by c.give.new.self.sessions.items c.args.place c.args.session c.args.number _ New (Some c.in_ok-fact.fact) c.requires.number c.requires.there c.in_ok-is_given.ensures.sessions c.requires.long (λ same. c.in_ok-is_given.ensures.long c.if-not-is_given.false)
     (stands_still c.give.new.self c.note.new.self.stock c.args.place c.args.session c.args.number c.in_ok-fact.fact c.note.ensures.stock c.in_ok-fact.ensures)
+
+pub returns-clause-memory : goal.returns-clause-memory
+returns-clause-memory g c = stays_on c.args.self.now c.give.new.self c.note.new.self.stock c.note.ensures.stock c.in_ok-is_given.ensures.within

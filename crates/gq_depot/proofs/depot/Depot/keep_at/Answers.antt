@@ -1,6 +1,7 @@
 use Rattle.std.proofs.Common.{refl, arith}
 use Rattle.std.specs.Prelude.{not}
 use Rattle.gq_depot.specs.declared.depot.Depot.{Depot}
+use Rattle.gq_depot.proofs.Memory.{stays_on}
 use Rattle.gq_depot.proofs.Standing.{leads_by, leads_on, tells_by, gives_by, sure_by, reads_by}
 use Rattle.gq_depot.proofs.depot.Depot.keep_at.Goals as goal
 
@@ -22,3 +23,6 @@ returns-clause-sure g c = sure_by c.keep.new.self.sessions.items c.args.place c.
 
 pub returns-clause-reads : goal.returns-clause-reads
 returns-clause-reads g c = reads_by c.keep.new.self.sessions.items c.args.place c.args.session c.args.number _ c.in_ok-told.told c.in_ok-fact.fact c.requires.number c.requires.there c.in_ok-told.ensures.sessions c.requires.long c.in_ok-told.ensures.long c.in_ok-fact.ensures.gives
+
+pub returns-clause-memory : goal.returns-clause-memory
+returns-clause-memory g c = stays_on c.args.self.now c.keep.new.self c.fact_of.new.self.stock c.in_ok-fact.ensures.stock c.in_ok-told.ensures.within

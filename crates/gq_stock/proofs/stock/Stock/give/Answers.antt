@@ -2,6 +2,7 @@ use Rattle.std.proofs.Common.{◌≡◌, ◌≤◌, ap, arith, get_or}
 use Rattle.gq_ledger.specs.Ledgers.{all_bytes}
 use Rattle.gq_stock.specs.declared.session.Session.{Session}
 use Rattle.gq_stock.specs.Stocks.{used_in}
+use Rattle.gq_stock.proofs.Memory.{given_within}
 use Rattle.gq_stock.proofs.Sessions.{used_within, others_stay, stays_in}
 use Rattle.gq_stock.proofs.Giving.{given_in, given_alone, given_sure, given_long, on_any_error}
 use Rattle.gq_stock.proofs.stock.Stock.give.Goals as goal
@@ -36,3 +37,9 @@ returns-clause-sure g c is = given_sure c.args.self.now.sessions.items c.args.pl
 
 pub returns-clause-long : goal.returns-clause-long
 returns-clause-long g c is = given_long c.args.self.now.sessions.items c.args.place c.args.number c.give.new.self _ c.requires.there (c.in_ok-is_given.ensures.long is)
+
+pub returns-clause-within : goal.returns-clause-within
+returns-clause-within g c = given_within c.args.self.now.sessions.items c.args.place c.index_mut-session.result.now c.give.new.self c.left-left.result _ c.requires.there c.index_mut-session.ensures.value c.left-left.ensures c.in_ok-is_given.ensures.within
+
+pub returns-in_err-is_given-clause-within : goal.returns-in_err-is_given-clause-within
+returns-in_err-is_given-clause-within g c = given_within c.args.self.now.sessions.items c.args.place c.index_mut-session.result.now c.give.new.self c.left-left.result _ c.requires.there c.index_mut-session.ensures.value c.left-left.ensures c.in_err-is_given.ensures.within

@@ -2,6 +2,7 @@ use Rattle.std.proofs.Common.{◌≡◌, ◌≤◌, ap, arith, get_or}
 use Rattle.gq_ledger.specs.Ledgers.{all_bytes}
 use Rattle.gq_stock.specs.declared.session.Session.{Session}
 use Rattle.gq_stock.specs.Stocks.{used_in}
+use Rattle.gq_stock.proofs.Memory.{kept_fresh, kept_within}
 use Rattle.gq_stock.proofs.Sessions.{used_within, kept_in, others_stay, err_stays, sure_in, long_in, changes_in, keeps_in, damaged_in}
 use Rattle.gq_stock.proofs.stock.Stock.keep.Goals as goal
 
@@ -35,3 +36,9 @@ returns-clause-damaged g c = damaged_in c.keep.result c.args.self.now.sessions.i
 
 pub returns-clause-long : goal.returns-clause-long
 returns-clause-long g c = long_in c.keep.result c.args.self.now.sessions.items c.args.place c.args.number c.keep.new.self _ c.requires.there c.keep.ensures.long
+
+pub returns-clause-fresh : goal.returns-clause-fresh
+returns-clause-fresh g c = kept_fresh c.keep.result c.args.self.now.sessions.items c.args.place c.index_mut-session.result.now c.keep.new.self _ c.left-left.result _ c.requires.there c.index_mut-session.ensures.value c.left-left.ensures c.keep.ensures.fresh
+
+pub returns-clause-within : goal.returns-clause-within
+returns-clause-within g c = kept_within c.keep.result c.args.self.now.sessions.items c.args.place c.index_mut-session.result.now c.keep.new.self _ c.left-left.result _ c.requires.there c.index_mut-session.ensures.value c.left-left.ensures c.keep.ensures.fresh c.keep.ensures.as_fresh
