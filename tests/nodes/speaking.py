@@ -43,7 +43,7 @@ TURNS = [
 # With a tenant of that name a word alone is no form of a line, and its letters go on.
 NAMED = b"grid 2 2\nblocks 24\ntenant ann 8 2 10\ntenant speaks 8 2 10\ntenant greet 8 2 10\ngo\nspeaks open 2 1\n"
 NAMED_LINES = b"0 speaks plan\n0 3 speaks 2 1 1 0 0 ask\n0 greet plan\n0 greet greet\n" + GREET
-NAMED_TOLD = b"speaks 0 plan 4 2 2 8 16 2.1 lines=2\n3 0 speaks 2 1 1 0 0 copy 0 0 -\ngreet 0 plan 4 0 2 8 16 lines=2\ngreet 0 refused bad\n1 0 speaks 2\n2 0 speaks 2\n3 0 speaks 2\n"
+NAMED_TOLD = b"speaks 0 plan 4 2 2 8 16 2.1 lines=2 rows=2 columns=2\n3 0 speaks 2 1 1 0 0 copy 0 0 -\ngreet 0 plan 4 0 2 8 16 lines=2 rows=2 columns=2\ngreet 0 refused bad\n1 0 speaks 2\n2 0 speaks 2\n3 0 speaks 2\n"
 
 
 def tell_speaking(program, folder):

@@ -8,6 +8,7 @@ use Rattle.gq_tag.specs.declared.Body.TheVariants.{Ask, Copy, Store, Stored}
 use Rattle.gq_tag.specs.declared.Message.{Message}
 use Rattle.gq_desk.specs.declared.volumes.VolumeRow.{VolumeRow}
 use Rattle.gq_desk.specs.CheckedPlan.{CheckedPlan, row_at}
+use Rattle.gq_grid.specs.Grid.{Grid}
 use Rattle.gq_model.specs.declared.events.Line.{Line}
 use Rattle.gq_model.specs.declared.events.Line.TheVariants.{Write, Read, List as ListFiles}
 use Rattle.gq_model.specs.declared.events.Refusal.{Refusal}
@@ -107,6 +108,10 @@ speaks_line to from form = line_text (decimal to) (decimal from ∷ codes "speak
 abbrev pub form_word : Word
 form_word = codes "lines=" ++ decimal LINE_FORM
 
+-- and how the nodes are arranged
+abbrev pub grid_words : Grid → List Word
+grid_words grid = (codes "rows=" ++ decimal grid.rows) ∷ (codes "columns=" ++ decimal grid.cols) ∷ []
+
 -- ---- a refusal
 
 -- the volume, the file and the length of the content that a request names
@@ -177,18 +182,18 @@ holding_words has =
 
 -- ---- what a tenant is told
 
--- the words of an answer to the request `asked`, or to the question what the tenant has
-abbrev pub told_words : Line → Answer → List Word
-told_words asked (Done outcome) = codes "done" ∷ outcome_words outcome
-told_words asked (Gone session op) = codes "gone" ∷ decimal session ∷ decimal op ∷ []
-told_words asked (Refused session op refusal) = codes "refused" ∷ refusal_words_of session op refusal asked
-told_words asked (Old session op last) = codes "refused" ∷ codes "old" ∷ last_words session op last
-told_words asked (Early session op last) = codes "refused" ∷ codes "early" ∷ last_words session op last
-told_words asked (Busy session op last) = codes "refused" ∷ codes "busy" ∷ last_words session op last
-told_words asked (Away session op home) = codes "refused" ∷ codes "home" ∷ decimal home ∷ decimal session ∷ decimal op ∷ []
-told_words asked (Has has) = codes "plan" ∷ holding_words has ++ form_word ∷ []
-told_words asked Bad = codes "refused" ∷ codes "bad" ∷ []
+-- the words of an answer to the request `asked`, or to the question what the tenant has, by a node of this grid
+abbrev pub told_words : Grid → Line → Answer → List Word
+told_words grid asked (Done outcome) = codes "done" ∷ outcome_words outcome
+told_words grid asked (Gone session op) = codes "gone" ∷ decimal session ∷ decimal op ∷ []
+told_words grid asked (Refused session op refusal) = codes "refused" ∷ refusal_words_of session op refusal asked
+told_words grid asked (Old session op last) = codes "refused" ∷ codes "old" ∷ last_words session op last
+told_words grid asked (Early session op last) = codes "refused" ∷ codes "early" ∷ last_words session op last
+told_words grid asked (Busy session op last) = codes "refused" ∷ codes "busy" ∷ last_words session op last
+told_words grid asked (Away session op home) = codes "refused" ∷ codes "home" ∷ decimal home ∷ decimal session ∷ decimal op ∷ []
+told_words grid asked (Has has) = codes "plan" ∷ holding_words has ++ form_word ∷ grid_words grid
+told_words grid asked Bad = codes "refused" ∷ codes "bad" ∷ []
 
 -- the line of it, from that node
 abbrev pub told_line : CheckedPlan → (from tenant : ℕ) → Line → Answer → List ℕ
-told_line plan from tenant asked answer = line_text (row_at plan tenant).name (decimal from ∷ told_words asked answer)
+told_line plan from tenant asked answer = line_text (row_at plan tenant).name (decimal from ∷ told_words plan.grid asked answer)

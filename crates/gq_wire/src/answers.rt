@@ -5,10 +5,11 @@ ghost use Rattle.std.specs.List.{flat_map};
 ghost use Rattle.gq_desk.specs.CheckedPlan.{row_at};
 ghost use Rattle.gq_text.specs.AnswerText.{line_text, spaced, outcome_words};
 ghost use Rattle.gq_text.specs.Pieces.{words_in, Extends};
-ghost use Rattle.gq_wire.specs.Texts.{volume_in, file_in, length_in, word_of, refusal_words_of, volume_word, are_alike, run_word, runs_behind, run_words, volumes_words, holding_words, form_word, told_words, told_line};
+ghost use Rattle.gq_wire.specs.Texts.{volume_in, file_in, length_in, word_of, refusal_words_of, volume_word, are_alike, run_word, runs_behind, run_words, volumes_words, holding_words, form_word, grid_words, told_words, told_line};
 
 use crate::incoming::LINE_FORM;
 use gq_desk::{Plan, VolumeRow};
+use gq_grid::Grid;
 use gq_memory::{GrowCopies, GrowVec, OutOfMemory};
 use gq_model::{Line, Refusal};
 use gq_node::{Answer, Holding};
@@ -325,13 +326,25 @@ fn put_nodes(out: &mut Vec<u8>, nodes: &[u16]) -> Result<(), OutOfMemory>
     Ok(())
 }
 
-// Appends the form of lines that the node speaks.
-fn put_form(out: &mut Vec<u8>) -> Result<(), OutOfMemory>
-    ensures ok { OnOk result (out.new.items ≡ out.old.items ++ 32 ∷ form_word) }
+// Appends how the nodes are arranged.
+fn put_grid(out: &mut Vec<u8>, grid: &Grid) -> Result<(), OutOfMemory>
+    ensures ok { OnOk result (out.new.items ≡ out.old.items ++ spaced (grid_words grid.now)) }
+    ensures err { OnErr result (Extends out.old.items out.new.items) }
+{
+    out.grow_by(b" rows=")?;
+    put_number(out, grid.rows() as u64)?;
+    out.grow_by(b" columns=")?;
+    put_number(out, grid.cols() as u64)
+}
+
+// Appends the form of lines that the node speaks, and how the nodes are arranged.
+fn put_form(out: &mut Vec<u8>, grid: &Grid) -> Result<(), OutOfMemory>
+    ensures ok { OnOk result (out.new.items ≡ out.old.items ++ spaced (form_word ∷ grid_words grid.now)) }
     ensures err { OnErr result (Extends out.old.items out.new.items) }
 {
     out.grow_by(b" lines=")?;
-    put_number(out, u64::from(LINE_FORM))
+    put_number(out, u64::from(LINE_FORM))?;
+    put_grid(out, grid)
 }
 
 // Appends what a tenant has.
@@ -352,7 +365,7 @@ fn put_holding(out: &mut Vec<u8>, holding: &Holding) -> Result<(), OutOfMemory>
     put_nodes(out, holding.nodes.items.as_slice())
 }
 
-// Appends the line of what a tenant has, and of the form of lines that the node speaks.
+// Appends the line of what a tenant has, of the form of lines that the node speaks, and of how the nodes are arranged.
 fn put_has(
     out: &mut Vec<u8>,
     plan: &Plan,
@@ -361,12 +374,12 @@ fn put_has(
     holding: &Holding,
 ) -> Result<(), OutOfMemory>
     requires { tenant < length plan.now.rows }
-    ensures ok { OnOk result (out.new.items ≡ out.old.items ++ line_text (row_at plan.now tenant).name (decimal from ∷ codes "plan" ∷ holding_words holding.now ++ form_word ∷ [])) }
+    ensures ok { OnOk result (out.new.items ≡ out.old.items ++ line_text (row_at plan.now tenant).name (decimal from ∷ codes "plan" ∷ holding_words holding.now ++ form_word ∷ grid_words plan.now.grid)) }
     ensures err { OnErr result (Extends out.old.items out.new.items) }
 {
     put_head(out, plan, from, tenant)?;
     put_holding(out, holding)?;
-    put_form(out)?;
+    put_form(out, plan.grid())?;
     out.grow(b'\n')
 }
 
