@@ -1,3 +1,4 @@
 pub mod Ranges
 pub mod Running
 pub mod Sessions
+pub mod Leavers

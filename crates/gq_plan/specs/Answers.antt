@@ -1,5 +1,5 @@
 -- What is answered of the files of plans. No definition says what a file has: it is some text.
-use Rattle.std.specs.Prelude.{ℕ, List, [], ◌∷◌, ◌++◌, Option, Some, None, codes}
+use Rattle.std.specs.Prelude.{ℕ, List, Option, Some, None}
 use Rattle.std.specs.Io.KnownBytes.{Appends}
 use Rattle.gq_words.specs.declared.words.PlanRequest.{PlanRequest}
 use Rattle.gq_setup.specs.Setups.{setup_of}
@@ -14,10 +14,10 @@ use Rattle.gq_plan.specs.declared.told.FollowFault.TheVariants.{Old, New}
 abbrev pub TellsPlan : Option (List ℕ) → Option (List ℕ) → Type 0
 TellsPlan old new = (text : List ℕ) × (told : List ℕ) × Tells (setup_of text) told × Appends old new told
 
--- a plan may follow an older one, and that was appended
+-- a plan may follow an older one, and that was appended, with who leaves by it
 abbrev pub TellsFollows : Option (List ℕ) → Option (List ℕ) → Type 0
 TellsFollows old new =
-    (before : List ℕ) × (text : List ℕ) × TellsNext (setup_of before) (setup_of text) × Appends old new (codes "follows=yes" ++ 10 ∷ [])
+    (before : List ℕ) × (text : List ℕ) × (told : List ℕ) × TellsNext (setup_of before) (setup_of text) told × Appends old new told
 
 -- what is asked for
 abbrev pub Answers : PlanRequest → Option (List ℕ) → Option (List ℕ) → Type 0

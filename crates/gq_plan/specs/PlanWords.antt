@@ -1,5 +1,5 @@
 -- What is told of a plan: lines of words NAME=VALUE. The first word of a line tells what the line is of.
-use Rattle.std.specs.Prelude.{◌≡◌, ℕ, ◌+◌, ◌*◌, max, List, [], ◌∷◌, ◌++◌, length, map, sum_by, codes, decimal, Bool, ◌&&◌, ◌==◌, Ok, Err, if◌then◌else◌}
+use Rattle.std.specs.Prelude.{◌≡◌, ℕ, ◌+◌, ◌*◌, max, min, List, [], ◌∷◌, ◌++◌, length, map, sum_by, codes, decimal, Bool, ◌&&◌, ◌==◌, Ok, Err, if◌then◌else◌}
 use Rattle.std.specs.List.{flat_map, range_with_len}
 use Rattle.gq_desk.specs.CheckedPlan.{CheckedPlan, row_at}
 use Rattle.gq_desk.specs.Volumes.{account_at, free_of}
@@ -10,11 +10,12 @@ use Rattle.gq_text.specs.AnswerText.{line_text}
 use Rattle.gq_replace.specs.Plans.{node_at}
 use Rattle.gq_node.specs.Sites.{home_place, plan_in}
 use Rattle.gq_chunks.specs.Longest.{longest_of}
+use Rattle.gq_stock.specs.declared.limits.TheConstants.{MOST_FRESH_BYTES}
 use Rattle.gq_setup.specs.Setups.{Setup, SetupReading, holdings, kib_of}
 use Rattle.gq_plan.specs.declared.line.Named.{Named}
 use Rattle.gq_plan.specs.declared.line.Named.TheVariants.{Number, Word as Text}
 use Rattle.gq_plan.specs.declared.runs.Run.{Run}
-use Rattle.gq_plan.specs.declared.sums.TheConstants.{BLOCK_MEMORY, FILE_MEMORY, PEAK_BLOCK_MEMORY, PEAK_FILE_MEMORY, PEAK_SPARE, ANSWER_BYTES, RUN_BYTES}
+use Rattle.gq_plan.specs.declared.sums.TheConstants.{BLOCK_MEMORY, FILE_MEMORY, PEAK_BLOCK_MEMORY, PEAK_FILE_MEMORY, PEAK_SHORT_MEMORY, PEAK_SPARE, ANSWER_BYTES, RUN_BYTES}
 
 -- ---- words
 
@@ -62,6 +63,13 @@ files_of volumes = sum_by (λ volume. volume.files) volumes
 abbrev pub files_in : Setup → ℕ
 files_in setup = sum_by (λ t. files_of (volumes_of setup t)) (tenants_of setup)
 
+-- how many bytes of short chunks may be in memory, of the tenant, and of all
+abbrev pub short_of : Setup → (t : ℕ) → ℕ
+short_of setup t = min (kib_of setup.rooms t * 1024) MOST_FRESH_BYTES
+
+abbrev pub short_in : Setup → ℕ
+short_in setup = sum_by (λ t. short_of setup t) (tenants_of setup)
+
 -- the greatest of these numbers, 0 where there is none
 abbrev pub greatest : List ℕ → ℕ
 greatest [] = 0
@@ -75,12 +83,13 @@ most_runs setup = greatest (map (λ t. length (runs_of (volumes_of setup t))) (t
 abbrev pub answer : Setup → ℕ
 answer setup = ANSWER_BYTES + RUN_BYTES * most_runs setup
 
--- the bytes of memory that a node takes as it starts, and the most that it takes, with servers of so many blocks and so many files
+-- the bytes of memory that a node takes as it starts, and the most that it takes, with servers of so many blocks, so many files, and so many bytes of short
+-- chunks in memory
 abbrev pub memory : (blocks files : ℕ) → ℕ
 memory blocks files = BLOCK_MEMORY * blocks + FILE_MEMORY * files
 
-abbrev pub peak : (blocks files : ℕ) → ℕ
-peak blocks files = PEAK_BLOCK_MEMORY * blocks + PEAK_FILE_MEMORY * files + PEAK_SPARE
+abbrev pub peak : (blocks files short : ℕ) → ℕ
+peak blocks files short = PEAK_BLOCK_MEMORY * blocks + PEAK_FILE_MEMORY * files + PEAK_SHORT_MEMORY * short + PEAK_SPARE
 
 -- ---- lines
 
@@ -95,7 +104,7 @@ grid_line setup =
     ∷ number (codes "line") (longest_of setup)
     ∷ number (codes "answer") (answer setup)
     ∷ number (codes "memory") (memory setup.plan.blocks (files_in setup))
-    ∷ number (codes "peak") (peak setup.plan.blocks (files_in setup))
+    ∷ number (codes "peak") (peak setup.plan.blocks (files_in setup) (short_in setup))
     ∷ [])
 
 -- a place of the grid, and the node that stands there
@@ -111,6 +120,13 @@ loss_line place = line_text (number (codes "replace") place) []
 
 abbrev pub losses_text : List ℕ → List ℕ
 losses_text lost = flat_map loss_line lost
+
+-- the name of a tenant that is gone
+abbrev pub gone_line : (name : Word) → List ℕ
+gone_line name = line_text (named (codes "gone") name) []
+
+abbrev pub gone_text : (gone : List Word) → List ℕ
+gone_text gone = flat_map gone_line gone
 
 -- a tenant of this row, with so many blocks of its share that no volume takes, so many volumes and files that are open, and so many KiB of
 -- chunks that it may have at each server
@@ -160,7 +176,7 @@ tenants_text setup = flat_map (tenant_text setup) (tenants_of setup)
 
 -- what the setup says
 abbrev pub plan_text : Setup → List ℕ
-plan_text setup = grid_line setup ++ places_text setup ++ losses_text setup.lost ++ tenants_text setup
+plan_text setup = grid_line setup ++ places_text setup ++ losses_text setup.lost ++ gone_text setup.gone ++ tenants_text setup
 
 -- the text is what the plan says that was read
 abbrev pub Tells : SetupReading Setup → List ℕ → Type 0

@@ -130,7 +130,7 @@ fn tell_plan<R: Files + Alloc<A = Global>, W: Write>(
     }
 }
 
-// Writes that the plan may follow the older one.
+// Writes that the plan may follow the older one, and who leaves by it.
 fn tell_next<R: Files + Alloc<A = Global>, W: Write>(
     rt: &R,
     alloc: Global,
@@ -145,13 +145,13 @@ fn tell_next<R: Files + Alloc<A = Global>, W: Write>(
     let before = read_old(rt, old)?;
     let text = read_plan(rt, plan)?;
     match told_next(alloc, before.as_slice(), text.as_slice()) {
-        Ok(()) => write_text(writer, b"follows=yes\n"),
+        Ok(told) => write_text(writer, told.as_slice()),
         Err(fault) => Err(PlanAskedFault::Next(fault)),
     }
 }
 
-/// Tells what the plan says that is asked for (see [`crate::told_plan`]); or where an older one is named, that the plan may follow it, by the
-/// line `follows=yes` (see [`crate::told_next`]). The older plan's file is read first. After each fault but `Write` nothing was written.
+/// Tells what the plan says that is asked for (see [`crate::told_plan`]); or where an older one is named, that the plan may follow it, and who
+/// leaves by it (see [`crate::told_next`]). The older plan's file is read first. After each fault but `Write` nothing was written.
 pub fn answer_plan<R: Files + Alloc<A = Global>, W: Write>(
     rt: &R,
     alloc: Global,

@@ -3,6 +3,7 @@
 
 mod asked;
 pub mod laws;
+mod leaving;
 mod line;
 mod runs;
 mod sums;

@@ -3,14 +3,16 @@
 ghost use Rattle.std.specs.Prelude.{◌≡◌, ◌++◌, ◌-◌, ◌^◌, ◌<◌, ◌≤◌, length, IfOk, IfErr, OnOk};
 ghost use Rattle.gq_setup.specs.Setups.{setup_of};
 ghost use Rattle.gq_setup.specs.Faults.{IsFirstFault};
-ghost use Rattle.gq_plan.specs.PlanWords.{first_session, grid_line, place_line, places_text, loss_line, losses_text, tenant_line, session_line, sessions_text, run_line, runs_text, tenant_text, tenants_text, plan_text, Tells};
+ghost use Rattle.gq_plan.specs.PlanWords.{first_session, grid_line, place_line, places_text, loss_line, losses_text, gone_line, gone_text, tenant_line, session_line, sessions_text, run_line, runs_text, tenant_text, tenants_text, plan_text, Tells};
+ghost use Rattle.gq_plan.specs.Leaving.{next_text};
 ghost use Rattle.gq_plan.specs.Following.{TellsNext, IsFollowFault};
 
+use crate::leaving::put_next;
 use crate::line::{Named, put_line};
 use crate::runs::{Run, runs_of};
-use crate::sums::{answer, files_in, files_of, memory, peak};
+use crate::sums::{answer, files_in, files_of, memory, peak, short_in};
 use gq_chunks::longest_of;
-use gq_desk::{Plan, TenantRow};
+use gq_desk::{Name, Plan, TenantRow};
 use gq_memory::OutOfMemory;
 use gq_setup::{NotKept, Setup, SetupFault, read_setup};
 use std::alloc::Global;
@@ -21,6 +23,7 @@ fn put_grid(alloc: Global, out: &mut Vec<u8>, setup: &Setup) -> Result<(), OutOf
 {
     let answer = answer(alloc, setup)?;
     let files = files_in(setup);
+    let short = short_in(setup);
     let plan = setup.plan();
     let grid = plan.grid();
     put_line(
@@ -35,7 +38,7 @@ fn put_grid(alloc: Global, out: &mut Vec<u8>, setup: &Setup) -> Result<(), OutOf
             Named::Number(b"line", longest_of(setup) as u64),
             Named::Number(b"answer", answer),
             Named::Number(b"memory", memory(plan.blocks(), files)),
-            Named::Number(b"peak", peak(plan.blocks(), files)),
+            Named::Number(b"peak", peak(plan.blocks(), files, short)),
         ],
     )
 }
@@ -76,6 +79,23 @@ fn put_losses(out: &mut Vec<u8>, places: &[u8]) -> Result<(), OutOfMemory>
 {
     for place in places {
         put_loss(out, *place)?;
+    }
+    Ok(())
+}
+
+// Appends the line of a tenant that is gone.
+fn put_name_gone(out: &mut Vec<u8>, name: &Name) -> Result<(), OutOfMemory>
+    ensures { OnOk result (out.new.items ≡ out.old.items ++ gone_line name.now) }
+{
+    put_line(out, Named::Word(b"gone", name.as_bytes()), &[])
+}
+
+// Appends the lines of tenants that are gone.
+fn put_gone(out: &mut Vec<u8>, names: &[Name]) -> Result<(), OutOfMemory>
+    ensures { OnOk result (out.new.items ≡ out.old.items ++ gone_text names.now) }
+{
+    for name in names {
+        put_name_gone(out, name)?;
     }
     Ok(())
 }
@@ -217,6 +237,7 @@ fn put_plan(alloc: Global, out: &mut Vec<u8>, setup: &Setup) -> Result<(), OutOf
     put_grid(alloc, out, setup)?;
     put_places(out, setup)?;
     put_losses(out, setup.lost().places())?;
+    put_gone(out, setup.gone())?;
     put_tenants(alloc, out, setup)
 }
 
@@ -243,10 +264,21 @@ pub enum FollowFault {
     NotKept(NotKept),
 }
 
-/// Whether a node that has the older plan may start with the newer one. Where a text is no plan its first line at fault is told, of the
-/// older one first; else what of the older plan the newer one does not keep, as a node tells it.
-pub fn told_next(alloc: Global, old: &[u8], new: &[u8]) -> Result<(), FollowFault>
-    ensures follows { OnOk result (TellsNext (setup_of old.now) (setup_of new.now)) }
+// What is told where the newer plan follows the older one.
+fn next_told(alloc: Global, before: &Setup, after: &Setup) -> Result<Vec<u8>, OutOfMemory>
+    ensures { IfOk result (λ told. told.items ≡ next_text before.now after.now) }
+{
+    let mut told = Vec::new(alloc);
+    put_next(&mut told, before, after)?;
+    Ok(told)
+}
+
+/// That a node which has the older plan may start with the newer one, and who leaves by it, in lines of words NAME=VALUE (docs/FORMATS.md,
+/// What a plan says): of each tenant of the older plan that is gone by the newer one, the share and the room for chunks that are free again.
+/// Where a text is no plan its first line at fault is told, of the older one first; else what of the older plan the newer one does not
+/// keep, as a node tells it.
+pub fn told_next(alloc: Global, old: &[u8], new: &[u8]) -> Result<Vec<u8>, FollowFault>
+    ensures follows { IfOk result (λ told. TellsNext (setup_of old.now) (setup_of new.now) told.items) }
     ensures fault { IfErr result (λ fault. IsFollowFault fault (setup_of old.now) (setup_of new.now)) }
 {
     let before = match read_setup(alloc, old) {
@@ -258,7 +290,10 @@ pub fn told_next(alloc: Global, old: &[u8], new: &[u8]) -> Result<(), FollowFaul
         Err(fault) => return Err(FollowFault::New(fault)),
     };
     match after.not_kept(&before) {
-        None => Ok(()),
+        None => match next_told(alloc, &before, &after) {
+            Ok(told) => Ok(told),
+            Err(refused) => Err(FollowFault::New(SetupFault::Memory(refused))),
+        },
         Some(what) => Err(FollowFault::NotKept(what)),
     }
 }

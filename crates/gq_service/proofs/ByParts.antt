@@ -2,7 +2,8 @@
 use Rattle.std.proofs.Common.{◌≡◌, ◌<◌, ◌∙◌, ℕ, List, [], ◌∷◌, ◌++◌, length, Bool, true, false, refl, sym, ap, subst}
 use Rattle.gq_desk.specs.CheckedPlan.{CheckedPlan}
 use Rattle.gq_keeper.specs.Runs.{Did, Runs}
-use Rattle.gq_keeper.specs.Starting.{RecallsAll, facts_read}
+use Rattle.gq_keeper.specs.Starting.{RecallsAll}
+use Rattle.gq_service.specs.Gone.{facts_taken}
 use Rattle.gq_node.specs.Sites.{Here, site_of}
 use Rattle.gq_node.specs.Tables.{Tables, Agrees}
 use Rattle.gq_setup.specs.Laws.{here_of}
@@ -44,11 +45,11 @@ served_by_parts starts run setup number journal lines base synced shown s =
     let first : Tables = tables_of s.first in
     let here : Here = here_of number setup in
     let is : IsNewFor setup number (first_of_journal setup journal) new = s.started.is_new in
-    let read : RecallsAll RecallsTo new (facts_read journal) first = reads (facts_read journal) s.started.new s.first s.started.reads in
-    let stays : IsNodeOf new.plan new.here first = same_node (facts_read journal) new first read in
+    let read : RecallsAll RecallsTo new (facts_taken setup journal) first = reads (facts_taken setup journal) s.started.new s.first s.started.reads in
+    let stays : IsNodeOf new.plan new.here first = same_node (facts_taken setup journal) new first read in
     let node : IsNodeOf setup.plan here first = record { plan_is = stays.plan_is ∙ is.node.plan_is; here_is = stays.here_is ∙ is.node.here_is } in
     let agree : AllAgree first (started_part setup number journal) = λ t within.
-    starts setup.plan here t _ (facts_read journal) new first is.node (is.parts t (subst (λ (p : CheckedPlan). t < length p.rows) node.plan_is within)) read in
+    starts setup.plan here t _ (facts_taken setup journal) new first is.node (is.parts t (subst (λ (p : CheckedPlan). t < length p.rows) node.plan_is within)) read in
     let goes : GoesByParts setup.plan here (started_part setup number journal) s.durable.dids (tables_of s.last) =
     run setup.plan here first (tables_of s.last) (started_part setup number journal) s.durable.dids node agree (on_tables s.first s.last s.durable.dids s.durable.runs) in
     record { dids = s.durable.dids; took = s.durable.took; told = s.durable.told; tells = goes.told }
@@ -97,13 +98,13 @@ registers_by_parts {C} has starts run setup number journal lines base synced sho
     let first : Tables = tables_of s.first.first in
     let here : Here = here_of number setup in
     let is : IsNewFor setup number (first_of_journal setup journal) new = s.started.is_new.0 in
-    let facts : List (List ℕ) = firsts tells_chunk (facts_read journal) in
-    let apart : RecallsAll MachineRecalls s.started.new.first facts s.first.first = (split (λ (p : Both C). p.first) (λ (p : Both C). p.second) MachineRecalls (λ (m : C) (line : List ℕ) (n : C). ChunkRecalls (has m) line (has n)) tells_chunk (facts_read journal) s.started.new s.first s.started.reads).0 in
+    let facts : List (List ℕ) = firsts tells_chunk (facts_taken setup journal) in
+    let apart : RecallsAll MachineRecalls s.started.new.first facts s.first.first = (split (λ (p : Both C). p.first) (λ (p : Both C). p.second) MachineRecalls (λ (m : C) (line : List ℕ) (n : C). ChunkRecalls (has m) line (has n)) tells_chunk (facts_taken setup journal) s.started.new s.first s.started.reads).0 in
     let read : RecallsAll RecallsTo new facts first = reads facts s.started.new.first s.first.first apart in
     let stays : IsNodeOf new.plan new.here first = same_node facts new first read in
     let node : IsNodeOf setup.plan here first = record { plan_is = stays.plan_is ∙ is.node.plan_is; here_is = stays.here_is ∙ is.node.here_is } in
     let agree : AllAgree first (started_part setup number journal) = λ t within.
-    subst (λ (fs : List Fact). Agrees first t (recall_all (site_of setup.plan here t) (begun_local (site_of setup.plan here t) (volumes_in t setup.openings) (first_of_journal setup journal t)) (those_of t fs))) (said_apart setup.plan (facts_read journal))
+    subst (λ (fs : List Fact). Agrees first t (recall_all (site_of setup.plan here t) (begun_local (site_of setup.plan here t) (volumes_in t setup.openings) (first_of_journal setup journal t)) (those_of t fs))) (said_apart setup.plan (facts_taken setup journal))
     (starts setup.plan here t _ facts new first is.node (is.parts t (subst (λ (p : CheckedPlan). t < length p.rows) node.plan_is within)) read) in
     let goes : GoesByParts setup.plan here (started_part setup number journal) (register_steps s.durable.dids) (tables_of s.last.first) =
     run setup.plan here first (tables_of s.last.first) (started_part setup number journal) (register_steps s.durable.dids) node agree (on_tables s.first.first s.last.first (register_steps s.durable.dids) (run_apart has s.first s.last s.durable.dids s.durable.runs)) in

@@ -1,3 +1,6 @@
+pub mod WhoWent
+pub mod Staying
+pub mod Starting
 pub mod Crashes
 pub mod NewNodes
 pub mod NewRegisters

@@ -10,7 +10,9 @@ use Rattle.gq_depot.specs.declared.depot.Depot.{Depot}
 use Rattle.gq_setup.specs.Setups.{Setup, SetupReading}
 use Rattle.gq_setup.specs.Texts.{node_text, setup_of_node_text}
 use Rattle.gq_service.specs.Both.{setup_read}
+use Rattle.gq_service.specs.Gone.{IsRead}
 use Rattle.gq_service.specs.Serving.{IsOwnText}
+use Rattle.gq_service.proofs.WhoWent.{as_read}
 
 some_same : {A : Type 0} (o : Option A) (x y : A) → o ≡ Some x → o ≡ Some y → x ≡ y
 some_same o x y is was = (let both : Some x ≡ Some y = sym is ∙ was in cc)
@@ -47,8 +49,8 @@ lacks_by_room node first room lacks =
 none_too_long : (lacks : Bool) (it : Standing) → IsSame it (bare lacks) → AllFit it
 none_too_long lacks it same k n placed there = absurd (let never : None ≡ Some placed = sym (same.at k n) ∙ there in cc)
 
-chunks_are_of : (setup : Setup) (number : ℕ) (read : SetupReading Setup) (m : Chunks) → IsOwnText setup number → ChunksAreNewFor setup (setup_read read) number m → ChunksAreOf (whole_lines (node_text number setup)) m
-chunks_are_of setup number read m own new = record {
+chunks_are_of : (setup : Setup) (number : ℕ) (before : Option Setup) (m : Chunks) → IsOwnText setup number → ChunksAreNewFor setup before number m → ChunksAreOf (whole_lines (node_text number setup)) m
+chunks_are_of setup number before m own new = record {
   tenants = new.tenants ∙ ap (λ (p : CheckedPlan). length p.rows) (sym new.plan_is);
   rooms = λ t depot there.
       let b = new.depots t depot there in
@@ -57,8 +59,8 @@ chunks_are_of setup number read m own new = record {
       record {
         allowed = b.allowed_is ∙ sym room;
         lacking = λ lacks.
-            let first : lacks_at_first number (room_before (setup_read read) t) (room_read (Ok setup) t) ≡ true = sym b.nothing.lacks ∙ lacks in
-            let now : lacks_at_first number (room_read (Ok setup) t) (room_read (Ok setup) t) ≡ true = lacks_by_room number (room_before (setup_read read) t) (room_read (Ok setup) t) first in
+            let first : lacks_at_first number (room_before before t) (room_read (Ok setup) t) ≡ true = sym b.nothing.lacks ∙ lacks in
+            let now : lacks_at_first number (room_read (Ok setup) t) (room_read (Ok setup) t) ≡ true = lacks_by_room number (room_before before t) (room_read (Ok setup) t) first in
             ap (λ n. lacks_at_first n (room_of_lines (whole_lines (node_text number setup)) t) depot.stock.allowed) new.node_is
             ∙ ap (λ r. lacks_at_first number r depot.stock.allowed) room
             ∙ ap (λ r. lacks_at_first number (room_read (Ok setup) t) r) b.allowed_is
@@ -68,14 +70,19 @@ chunks_are_of setup number read m own new = record {
       let b = new.depots t depot there in
       record {
         sessions_are = b.sessions_are ∙ ap (λ (p : CheckedPlan). (row_at p t).sessions) (sym new.plan_is);
-        fit = none_too_long (lacks_at_first number (room_before (setup_read read) t) (room_read (Ok setup) t)) (standing_of depot) b.nothing;
+        fit = none_too_long (lacks_at_first number (room_before before t) (room_read (Ok setup) t)) (standing_of depot) b.nothing;
         gone = λ k n is. absurd (let e : true ≡ false = sym is ∙ b.nothing.gone k n in cc);
       };
 }
 
--- the same by the text of the plan with which the journal begins, and by that of the node's own
-pub blank_by_text : (setup : Setup) (number : ℕ) (text : List ℕ) (lines : List Line) (m : Chunks) → lines_text lines ≡ text → ChunksAreNewFor setup (setup_read (setup_of_node_text text)) number m → ChunksAreBlank lines m m
-blank_by_text setup number text lines m same new = chunks_are_blank setup number lines m (subst (λ (t : List ℕ). ChunksAreNewFor setup (setup_read (setup_of_node_text t)) number m) (sym same) new)
+-- those of a node by what was read of the plan with which its journal begins
+pub new_as_read : (setup : Setup) (number : ℕ) (before : Option Setup) (reading : SetupReading Setup) (m : Chunks) → IsRead reading before → ChunksAreNewFor setup before number m → ChunksAreNewFor setup (setup_read reading) number m
+new_as_read setup number before reading m is new = subst (λ (b : Option Setup). ChunksAreNewFor setup b number m) (sym (as_read reading before is)) new
 
-pub of_by_text : (setup : Setup) (number : ℕ) (text : List ℕ) (read : SetupReading Setup) (m : Chunks) → text ≡ node_text number setup → IsOwnText setup number → ChunksAreNewFor setup (setup_read read) number m → ChunksAreOf (whole_lines text) m
-of_by_text setup number text read m is own new = subst (λ (t : List ℕ). ChunksAreOf (whole_lines t) m) (sym is) (chunks_are_of setup number read m own new)
+-- they are blank
+pub blank_as_read : (setup : Setup) (number : ℕ) (before : Option Setup) (lines : List Line) (m : Chunks) → IsRead (setup_of_node_text (lines_text lines)) before → ChunksAreNewFor setup before number m → ChunksAreBlank lines m m
+blank_as_read setup number before lines m is new = chunks_are_blank setup number lines m (new_as_read setup number before (setup_of_node_text (lines_text lines)) m is new)
+
+-- and of the node's own plan
+pub of_by_text : (setup : Setup) (number : ℕ) (text : List ℕ) (before : Option Setup) (m : Chunks) → text ≡ node_text number setup → IsOwnText setup number → ChunksAreNewFor setup before number m → ChunksAreOf (whole_lines text) m
+of_by_text setup number text before m is own new = subst (λ (t : List ℕ). ChunksAreOf (whole_lines t) m) (sym is) (chunks_are_of setup number before m own new)

@@ -9,7 +9,7 @@ use Rattle.gq_desk.specs.Volumes.{Account, account_at, no_account, open_fault, w
 use Rattle.gq_desk.specs.declared.plans.TenantRow.{TenantRow}
 use Rattle.gq_desk.specs.declared.volumes.VolumeRow.{VolumeRow}
 use Rattle.gq_journal.specs.Batches.{Line, batches_of, lines_text, whole_lines}
-use Rattle.gq_keeper.specs.Plans.{IsPlan, begins_with_plan, first_plan}
+use Rattle.gq_keeper.specs.Plans.{IsPlan, begins_with_plan}
 use Rattle.gq_replace.specs.Plans.{place_of}
 use Rattle.gq_node.specs.Local.{new_local}
 use Rattle.gq_node.specs.Opening.{Bereaves, Opens}
@@ -25,6 +25,7 @@ use Rattle.gq_setup.specs.Texts.{first_read, first_of_lines, node_text, setup_of
 use Rattle.gq_service.specs.Kinds.{Kind}
 use Rattle.gq_service.specs.declared.fault.NodeFault.{NodeFault}
 use Rattle.gq_service.specs.declared.fault.NodeFault.TheVariants.{Memory, Read, Write, PlanRead, Plan, PlanText, NoServer, InUse, NoJournal, Journal, NoShelf, Shelf, ShelfRead, ShelfWrite, JournalRead, JournalWrite, Form, Damaged, Another, Strange}
+use Rattle.gq_service.specs.Gone.{first_taken}
 use Rattle.gq_service.specs.Serving.{IsOwnText, TellsAnother, TellsNoOther, LeavesJournal, volumes_in, first_of_read, begun_with, is_its_journal, IsOpen, IsNewFor}
 
 -- ---- what tenants have
@@ -243,7 +244,7 @@ read_is (Err fault) None is t = refl
 read_is reading (Some setup) is t = ap (λ (r : SetupReading Setup). first_read r t) (sym is)
 
 -- a journal of the node begins with a plan
-pub begun_found : (setup : Setup) (number : ℕ) (journal : List ℕ) → is_its_journal setup number journal ≡ true → begun_with setup journal ≡ setup_of_node_text (lines_text (first_plan (batches_of journal)))
+pub begun_found : (setup : Setup) (number : ℕ) (journal : List ℕ) → is_its_journal setup number journal ≡ true → begun_with setup journal ≡ first_taken setup journal
 begun_found setup number journal its = let begins : begins_with_plan (batches_of journal) ≡ true = (and_parts _ _ its).0 in rw begins refl
 
 -- two things that hold where a call gave Ok

@@ -1,8 +1,10 @@
 pub mod Forms
 pub mod Faults
 pub mod Kinds
+pub mod Gone
 pub mod Serving
 pub mod Verbs
 pub mod Both
 pub mod Promises
 pub mod Writing
+pub mod Leaving

@@ -7,9 +7,9 @@ use Rattle.gq_journal.specs.Laws.{Begins}
 use Rattle.gq_keeper.specs.Crashes.{Leaves}
 use Rattle.gq_keeper.specs.Durable.{Durable}
 use Rattle.gq_keeper.specs.Lines.{short_lines}
-use Rattle.gq_keeper.specs.Plans.{IsPlan, begins_with_plan, first_plan, last_plan, is_of}
+use Rattle.gq_keeper.specs.Plans.{IsPlan, begins_with_plan, last_plan, is_of}
 use Rattle.gq_keeper.specs.Restarting.{ReadsAs, RestartsAsOne}
-use Rattle.gq_keeper.specs.Starting.{RecallsAll, IsDamaged, facts_read}
+use Rattle.gq_keeper.specs.Starting.{RecallsAll, IsDamaged}
 use Rattle.gq_desk.specs.CheckedPlan.{CheckedPlan}
 use Rattle.gq_replace.specs.Plans.{place_of}
 use Rattle.gq_node.specs.Local.{new_local}
@@ -28,6 +28,7 @@ use Rattle.gq_setup.specs.Laws.{here_of}
 use Rattle.gq_setup.specs.GoingOn.{goes_on_from_read}
 use Rattle.gq_setup.specs.Texts.{node_text, setup_of_node_text, no_first, first_read, OpensFor}
 use Rattle.gq_service.specs.Kinds.{Kind, kind}
+use Rattle.gq_service.specs.Gone.{somebody_went, first_taken, facts_taken}
 use Rattle.gq_service.specs.Forms.{form_of}
 use Rattle.gq_service.specs.declared.fault.NodeFault.{NodeFault}
 use Rattle.gq_service.specs.declared.fault.NodeFault.TheVariants.{NoServer, PlanText, Form, Damaged, Another, Strange}
@@ -55,9 +56,9 @@ abbrev pub first_of_read : Option Setup → (t : ℕ) → FirstPlan
 first_of_read None t = no_first
 first_of_read (Some setup) t = first_read (Ok setup) t
 
--- the plan with which its journal begins, as it is read: that of the journal that is found, or its own where none is
+-- the plan with which its journal begins, as it takes it: that of the journal that is found, or its own where none is
 abbrev pub begun_with : Setup → (journal : List ℕ) → SetupReading Setup
-begun_with setup journal = if begins_with_plan (batches_of journal) then setup_of_node_text (lines_text (first_plan (batches_of journal))) else Ok setup
+begun_with setup journal = if begins_with_plan (batches_of journal) then first_taken setup journal else Ok setup
 
 -- what it takes from that
 abbrev pub first_of_journal : Setup → (journal : List ℕ) → ℕ → FirstPlan
@@ -73,11 +74,11 @@ pub record IsOwnText (setup : Setup) (number : ℕ) : Type 0 where
 abbrev pub registers : Kind NodeMachine
 registers = kind MachineSteps MachineRecalls machine_reads MachineIsBlank MachineRests (λ setup number read m. IsNewFor setup number (first_read read) (tables_of m))
 
--- the node started from this journal: one that was never started read its facts
+-- the node started from this journal: one that was never started read its facts, but for those that name a tenant who went
 pub record IsStarted {M : Type 0} (k : Kind M) (setup : Setup) (number : ℕ) (journal : List ℕ) (m : M) : Type 0 where
   pub new : M
   pub is_new : k.is_new setup number (begun_with setup journal) new
-  pub reads : RecallsAll k.recalls new (facts_read journal) m
+  pub reads : RecallsAll k.recalls new (facts_taken setup journal) m
 
 -- the journal that is found: none, where it is to be begun
 abbrev pub journal_found : (is_new : Bool) → List ℕ → List ℕ
@@ -128,11 +129,16 @@ pub record RestartsFrom {M : Type 0} (k : Kind M) (setup : Setup) (number : ℕ)
   pub started : IsStarted k setup number journal first
   pub restarts : RestartsAsOne k.steps k.recalls k.readable k.blank k.rests (whole_lines (node_text number setup)) first left
 
+-- where tenants went, the journal that was found; else what a start reads as that
+abbrev pub GoesOnAs : (went : Bool) → Setup → (number : ℕ) → (seen left : List ℕ) → Type 0
+GoesOnAs true setup number seen left = left ≡ seen
+GoesOnAs false setup number seen left = ReadsAs (whole_lines (node_text number setup)) seen left
+
 -- At any time from a call on a crash leaves what it could leave before; or what a start reads as the journal that was found; or what it
--- reads as this node behind some steps.
+-- reads as this node behind some steps. So where tenants went a start finds the journal as it was, or one that was written without them.
 abbrev pub MayBeLeft : {M : Type 0} → Kind M → Setup → (number : ℕ) → (is_new : Bool) → (synced seen left : List ℕ) → Type 0
 MayBeLeft k setup number is_new synced seen left =
-    Leaves synced seen left ⊎ (((is_new ≡ false) × ReadsAs (whole_lines (node_text number setup)) seen left) ⊎ RestartsFrom k setup number (journal_found is_new seen) left)
+    Leaves synced seen left ⊎ (((is_new ≡ false) × GoesOnAs (somebody_went setup seen) setup number seen left) ⊎ RestartsFrom k setup number (journal_found is_new seen) left)
 
 -- ---- faults
 
@@ -151,11 +157,11 @@ abbrev pub TellsForm : (journal : List ℕ) → NodeFault → Type 0
 TellsForm journal (Form form) = form_of journal ≡ Some form
 TellsForm journal _ = Unit {0}
 
--- a line of the journal says no fact that fits in the node of this number, never started
+-- a line of the journal, of those that are taken, says no fact that fits in the node of this number, never started
 pub record IsStrange {M : Type 0} (k : Kind M) (setup : Setup) (number : ℕ) (journal : List ℕ) : Type 0 where
   pub new : M
-  pub is_new : k.is_new setup number (setup_of_node_text (lines_text (first_plan (batches_of journal)))) new
-  pub strange : list_all (k.readable new) (facts_read journal) ≡ false
+  pub is_new : k.is_new setup number (first_taken setup journal) new
+  pub strange : list_all (k.readable new) (facts_taken setup journal) ≡ false
 
 -- where it is told that the plan's text may not stand in a journal, it may not
 abbrev pub TellsNoText : Setup → (number : ℕ) → NodeFault → Type 0

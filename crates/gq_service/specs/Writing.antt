@@ -3,7 +3,7 @@
 use Rattle.std.specs.Prelude.{◌≡◌, ℕ, List, ◌++◌, Bool, true, false, not, filter}
 use Rattle.gq_journal.specs.Batches.{Line}
 use Rattle.gq_keeper.specs.Runs.{Did, lines_of, told_of}
-use Rattle.gq_keeper.specs.Starting.{facts_read}
+use Rattle.gq_service.specs.Gone.{facts_taken}
 use Rattle.gq_node.specs.Local.{Local}
 use Rattle.gq_node.specs.Resting.{recall_all, those_of, begun_local}
 use Rattle.gq_node.specs.Sites.{Site, site_of}
@@ -22,7 +22,7 @@ use Rattle.gq_service.specs.Serving.{Serves, registers, volumes_in, first_of_jou
 abbrev pub started_part : Setup → (number : ℕ) → (journal : List ℕ) → ℕ → Local
 started_part setup number journal t =
     let site : Site = site_of setup.plan (here_of number setup) t in
-    recall_all site (begun_local site (volumes_in t setup.openings) (first_of_journal setup journal t)) (those_of t (facts_said setup.plan (facts_read journal)))
+    recall_all site (begun_local site (volumes_in t setup.openings) (first_of_journal setup journal t)) (those_of t (facts_said setup.plan (facts_taken setup journal)))
 
 -- what is shown behind `base` is what is written for the tenants, line by line, by their parts, from those of the start on
 pub record TellsByParts (setup : Setup) (number : ℕ) (journal : List ℕ) (lines : List Line) (base shown : List ℕ) : Type 0 where

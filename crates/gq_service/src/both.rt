@@ -2,8 +2,7 @@
 
 ghost use Rattle.std.specs.Prelude.{IfOk};
 ghost use Rattle.gq_chunks.specs.Machines.{IsNewFor};
-ghost use Rattle.gq_setup.specs.Texts.{setup_of_node_text};
-ghost use Rattle.gq_service.specs.Both.{chunks_of, setup_read};
+ghost use Rattle.gq_service.specs.Both.{chunks_of};
 
 use crate::fault::NodeFault;
 use crate::registers::new_registers;
@@ -14,7 +13,7 @@ use gq_chunks::{ChunkMachine, is_chunk_fact, taker_of};
 use gq_machine::NodeMachine;
 use gq_memory::OutOfMemory;
 use gq_pair::{Pair, Parts, Taker};
-use gq_setup::read_node_plan;
+use gq_setup::Setup;
 use gq_shelf::{FileShelf, Shelf};
 use std::alloc::Global;
 use std::fs::File;
@@ -68,17 +67,16 @@ impl<S: Shelf + Drop> Served for Pair<NodeMachine, ChunkMachine<S>, ByVerb> {
     }
 }
 
-// The chunks of the node, never started, over a shelf. The plan with which its journal begins has this text.
+// The chunks of the node, never started, over a shelf. `before` was read of the plan with which its journal begins.
 fn new_chunks<S: Shelf + Drop>(
     alloc: Global,
     node: &ThisNode,
-    first: &[u8],
+    before: &Option<Setup>,
     shelf: S,
 ) -> Result<ChunkMachine<S>, OutOfMemory>
-    ensures { IfOk result (λ m. IsNewFor node.now.plan.setup (setup_read (setup_of_node_text first.now)) node.now.number (chunks_of S.noted m)) }
+    ensures { IfOk result (λ m. IsNewFor node.now.plan.setup before.now node.now.number (chunks_of S.noted m)) }
 {
-    let before = read_node_plan(alloc, first)?;
-    ChunkMachine::new(alloc, node.plan.setup(), &before, node.number, shelf)
+    ChunkMachine::new(alloc, node.plan.setup(), before, node.number, shelf)
 }
 
 /// Makes the machine of a node that keeps chunks as well, on the shelf beside the journal of this path.
@@ -102,13 +100,13 @@ impl<R: Files<File = File> + Drop> Maker<Pair<NodeMachine, ChunkMachine<FileShel
         alloc: Global,
         node: &ThisNode,
         journal: &[u8],
-        first: &[u8],
+        before: &Option<Setup>,
     ) -> Result<Pair<NodeMachine, ChunkMachine<FileShelf<R>>, ByVerb>, NodeFault> {
         let WithChunks { rt, path } = self;
-        let registers = new_registers(alloc, node, first)?;
+        let registers = new_registers(alloc, node, before)?;
         let had_chunks = had_chunks(alloc, journal)?;
         let shelf = find_shelf(alloc, rt, path, had_chunks)?;
-        let chunks = new_chunks(alloc, node, first, shelf)?;
+        let chunks = new_chunks(alloc, node, before, shelf)?;
         Ok(Pair {
             first: registers,
             second: chunks,

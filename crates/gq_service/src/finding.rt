@@ -3,7 +3,7 @@
 use crate::fault::NodeFault;
 use crate::place::place_of;
 use gq_keeper::FileDisk;
-use gq_setup::{Setup, SetupFault, read_setup};
+use gq_setup::{Setup, read_setup};
 use std::alloc::Global;
 use std::io::Read;
 use std::rt::Files;
@@ -17,7 +17,7 @@ fn read_file<R: Files>(alloc: Global, rt: &R, path: &str) -> io::Result<Vec<u8>>
     Ok(bytes)
 }
 
-/// The setup that the plan's file tells. A node does not start yet with one by which tenants are gone: its line `go` is told then.
+/// The setup that the plan's file tells.
 pub(crate) fn read_plan_file<R: Files>(
     alloc: Global,
     rt: &R,
@@ -29,15 +29,9 @@ pub(crate) fn read_plan_file<R: Files>(
         Err(_) => return Err(NodeFault::PlanRead),
     };
     match read_setup(alloc, text.as_slice()) {
-        Ok(setup) if setup.gone().is_empty() => Ok(setup),
-        Ok(setup) => Err(NodeFault::Plan(SetupFault::Gone(line_of_go(&setup)))),
+        Ok(setup) => Ok(setup),
         Err(fault) => Err(NodeFault::Plan(fault)),
     }
-}
-
-// The number of the line `go`.
-fn line_of_go(setup: &Setup) -> u64 {
-    (setup.plan().tenants() as u64).saturating_add(3)
 }
 
 /// The journal of this path: the one that is there, or where one is to be begun its place, in which there is none.

@@ -1,9 +1,11 @@
 //! What a node's process writes.
 
 ghost use Rattle.gq_service.specs.Both.{chunks_of};
+ghost use Rattle.gq_service.specs.Leaving.{NoneOfTheGone, NothingIsLacked, WhoStaysIsWhole};
 ghost use Rattle.gq_service.specs.Writing.{AllServedByParts, RegistersServedByParts};
 
 use gq_parts::laws::{starts_apart, tenants_apart};
+use gq_setup::laws::{gone_stay, what_is_left};
 use gq_shelf::Shelf;
 
 /// What a node's process writes is what its tenants' parts write, line by line, from the parts that the start made, each by its own
@@ -23,4 +25,15 @@ pub fn registers_by_parts<S: Shelf>()
 {
     starts_apart();
     tenants_apart();
+}
+
+/// Where tenants went since the journal's last plan, each other tenant starts with what all its facts make of it, as if nobody had gone: so by
+/// [`served_by_parts`] what is written for it is the same. Of who went no fact is taken, and who has such a place now lacks none of its files.
+pub fn who_stays()
+    ensures whole { WhoStaysIsWhole }
+    ensures none { NoneOfTheGone }
+    ensures nothing { NothingIsLacked }
+{
+    gone_stay();
+    what_is_left();
 }

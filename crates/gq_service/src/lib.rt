@@ -7,6 +7,7 @@ mod console;
 mod fault;
 mod finding;
 mod forms;
+mod gone;
 pub mod laws;
 mod locking;
 mod mismatch;

@@ -5,7 +5,6 @@ ghost use Rattle.gq_desk.specs.Volumes.{account_at, open_fault};
 ghost use Rattle.gq_desk.specs.declared.limits.TheConstants.{MOST_VOLUMES};
 ghost use Rattle.gq_node.specs.Opening.{Opens};
 ghost use Rattle.gq_setup.specs.Setups.{volume_of};
-ghost use Rattle.gq_setup.specs.Texts.{setup_of_node_text, first_read};
 ghost use Rattle.gq_setup.specs.Laws.{here_of};
 ghost use Rattle.gq_service.specs.Serving.{IsNewFor, IsOpen, volumes_in, first_of_read};
 
@@ -13,7 +12,7 @@ use crate::this_node::ThisNode;
 use gq_desk::OpenRefused;
 use gq_memory::OutOfMemory;
 use gq_node::Node;
-use gq_setup::{Opening, Setup, read_node_plan};
+use gq_setup::{Opening, Setup};
 use std::alloc::Global;
 
 // The node with one volume more, which no cause refuses.
@@ -87,12 +86,15 @@ fn bereft_node(node: Node, this: &ThisNode, before: &Option<Setup>) -> Result<No
     Ok(node)
 }
 
-/// The node, never started, with the volumes of its plan open. If it is a new one, it is begun with the plan of this text, with which its
+/// The node, never started, with the volumes of its plan open. If it is a new one, it is begun with the plan that was read so, with which its
 /// journal begins: its server lacks the files of all volumes of that, and its sessions begin above all that lost nodes wrote.
-pub(crate) fn new_node(alloc: Global, this: &ThisNode, first: &[u8]) -> Result<Node, OutOfMemory>
-    ensures { IfOk result (λ node. IsNewFor this.now.plan.setup this.now.number (first_read (setup_of_node_text first.now)) node.tables) }
+pub(crate) fn new_node(
+    alloc: Global,
+    this: &ThisNode,
+    before: &Option<Setup>,
+) -> Result<Node, OutOfMemory>
+    ensures { IfOk result (λ node. IsNewFor this.now.plan.setup this.now.number (first_of_read before.now) node.tables) }
 {
     let node = open_node(alloc, this)?;
-    let before = read_node_plan(alloc, first)?;
-    bereft_node(node, this, &before)
+    bereft_node(node, this, before)
 }

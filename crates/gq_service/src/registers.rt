@@ -2,8 +2,8 @@
 
 ghost use Rattle.std.specs.Prelude.{IfOk};
 ghost use Rattle.gq_machine.specs.Machines.{tables_of};
-ghost use Rattle.gq_setup.specs.Texts.{setup_of_node_text, first_read};
-ghost use Rattle.gq_service.specs.Serving.{IsNewFor};
+ghost use Rattle.gq_setup.specs.Texts.{first_read};
+ghost use Rattle.gq_service.specs.Serving.{IsNewFor, first_of_read};
 
 use crate::fault::NodeFault;
 use crate::new_node::new_node;
@@ -11,6 +11,7 @@ use crate::served::{Maker, Served};
 use crate::this_node::ThisNode;
 use gq_machine::NodeMachine;
 use gq_memory::OutOfMemory;
+use gq_setup::Setup;
 use std::alloc::Global;
 
 impl Served for NodeMachine {
@@ -25,15 +26,15 @@ impl Served for NodeMachine {
     }
 }
 
-/// The registers of the node, never started. The plan with which its journal begins has this text.
+/// The registers of the node, never started. `before` was read of the plan with which its journal begins.
 pub(crate) fn new_registers(
     alloc: Global,
     node: &ThisNode,
-    first: &[u8],
+    before: &Option<Setup>,
 ) -> Result<NodeMachine, OutOfMemory>
-    ensures { IfOk result (λ m. IsNewFor node.now.plan.setup node.now.number (first_read (setup_of_node_text first.now)) (tables_of m)) }
+    ensures { IfOk result (λ m. IsNewFor node.now.plan.setup node.now.number (first_of_read before.now) (tables_of m)) }
 {
-    let blank = new_node(alloc, node, first)?;
+    let blank = new_node(alloc, node, before)?;
     Ok(NodeMachine::new(alloc, blank))
 }
 
@@ -47,9 +48,9 @@ impl Maker<NodeMachine> for RegistersAlone {
         alloc: Global,
         node: &ThisNode,
         _journal: &[u8],
-        first: &[u8],
+        before: &Option<Setup>,
     ) -> Result<NodeMachine, NodeFault> {
-        let machine = new_registers(alloc, node, first)?;
+        let machine = new_registers(alloc, node, before)?;
         Ok(machine)
     }
 }

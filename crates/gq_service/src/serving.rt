@@ -3,26 +3,33 @@
 ghost use Rattle.std.specs.Prelude.{◌≡◌, ◌⊎◌, ◌++◌, ℕ, List, true, false, None, Ok, IsSome, IfOk, IfErr, OnOk, if◌then◌else◌};
 ghost use Rattle.gq_journal.specs.Batches.{whole_lines, lines_text, batches_of, has_right_batch};
 ghost use Rattle.gq_keeper.specs.Crashes.{Elapses, Leaves, LeavesSyncing};
-ghost use Rattle.gq_keeper.specs.Plans.{first_plan};
+ghost use Rattle.gq_keeper.specs.Plans.{first_plan, is_of};
+ghost use Rattle.gq_setup.specs.GoingOn.{goes_on_from_read};
+ghost use Rattle.gq_setup.specs.Texts.{setup_of_node_text};
 ghost use Rattle.gq_wire.specs.Texts.{first_text};
 ghost use Rattle.gq_keeper.specs.Durable.{AllSealed, IsAnew};
-ghost use Rattle.gq_keeper.specs.Restarting.{ReadsAs, Restarts};
-ghost use Rattle.gq_keeper.specs.Starting.{RecallsAll, behind, facts_read};
-ghost use Rattle.gq_setup.specs.Texts.{setup_of_node_text};
+ghost use Rattle.gq_keeper.specs.Restarting.{Restarts};
+ghost use Rattle.std.specs.List.{list_all};
+ghost use Rattle.gq_keeper.specs.Started.{ForReady, ForDamage, ForAnother, ForStrange};
+ghost use Rattle.gq_keeper.specs.Starting.{RecallsAll, IsDamaged, behind};
 ghost use Rattle.gq_service.specs.Faults.{as_fault};
 ghost use Rattle.gq_service.specs.Forms.{form_of};
+ghost use Rattle.gq_service.specs.Gone.{first_taken, facts_taken, somebody_went};
 ghost use Rattle.gq_service.specs.Kinds.{kind};
-ghost use Rattle.gq_service.specs.Serving.{IsStarted, IsDurable, MayBeLeft, ServesInput, TellsForm, TellsDamage, TellsAnother, TellsNoOther, LeavesJournal, journal_found, is_its_journal};
+ghost use Rattle.gq_service.specs.Serving.{IsStarted, IsDurable, GoesOnAs, MayBeLeft, RestartsFrom, ServesInput, TellsForm, TellsDamage, TellsAnother, TellsNoOther, LeavesJournal, journal_found, is_its_journal};
 
 use crate::console::Console;
 use crate::fault::NodeFault;
 use crate::forms::form_of;
+use crate::gone::{OfGone, first_setup, somebody_went};
 use crate::mismatch::mismatch_of;
 use crate::served::{Maker, Served};
 use crate::telling::Telling;
 use crate::this_node::ThisNode;
 use gq_chunks::longest_of;
-use gq_keeper::{Disk, Output, Plan, Started, first_plan, renew, serve, start};
+use gq_keeper::{
+    Disk, Fault, Output, Plan, Started, first_plan, renew, serve, start, start_without,
+};
 use gq_memory::OutOfMemory;
 use std::alloc::Global;
 use std::io::Read;
@@ -69,10 +76,49 @@ fn write_anew<M: Served, D: Disk>(
     Ok(next)
 }
 
-// Reads the journal that is there. Answers the number of the next batch.
+// Reads the journal that is there. Where tenants went it is written anew, without what names them.
+fn read_journal<M: Served, D: Disk>(
+    alloc: Global,
+    node: &ThisNode,
+    went: bool,
+    journal: &[u8],
+    machine: &mut M,
+    disk: &mut D,
+) -> Result<Started, Fault>
+    requires read { journal.now ≡ D.seen disk.old }
+    requires synced { D.synced disk.old ≡ D.seen disk.old }
+    requires went { went ≡ somebody_went node.now.plan.setup (D.seen disk.old) }
+    requires new { M.is_new node.now.plan.setup node.now.number (first_taken node.now.plan.setup (D.seen disk.old)) machine.old }
+    requires blank { went ≡ false → M.blank (first_plan (batches_of (D.seen disk.old))) machine.old machine.old }
+    requires of_plan { M.is_of (whole_lines node.now.plan.text.items) machine.old }
+    ensures sealed { IfOk result (λ found. ForReady found (λ reading. AllSealed (D.seen disk.new) (D.synced disk.new) reading.number)) }
+    ensures restarts { IfOk result (λ found. ForReady found (λ reading. Restarts M.recalls M.readable M.blank M.rests (whole_lines node.now.plan.text.items) machine.new (D.synced disk.new))) }
+    ensures of_plan { IfOk result (λ found. ForReady found (λ reading. M.is_of (whole_lines node.now.plan.text.items) machine.new)) }
+    ensures recalled { IfOk result (λ found. ForReady found (λ reading. RecallsAll M.recalls machine.old (facts_taken node.now.plan.setup (D.seen disk.old)) machine.new)) }
+    ensures anew { went ≡ true → IfOk result (λ found. ForReady found (λ reading. IsAnew M.recalls M.readable M.blank M.rests machine.new node.now.plan.text.items (D.synced disk.new) reading.number)) }
+    ensures goes_on { IfOk result (λ found. ForReady found (λ reading. is_of (λ last. goes_on_from_read (setup_of_node_text last) node.now.plan.setup) node.now.plan.text.items (batches_of (D.seen disk.old)) ≡ true)) }
+    ensures whole { IfOk result (λ found. ForReady found (λ reading. has_right_batch (behind (D.seen disk.old)) ≡ false)) }
+    ensures damaged { IfOk result (λ found. ForDamage found (λ at. IsDamaged (D.seen disk.old) at × (D.seen disk.new ≡ D.seen disk.old))) }
+    ensures another { IfOk result (λ found. ForAnother found ((is_of (λ last. goes_on_from_read (setup_of_node_text last) node.now.plan.setup) node.now.plan.text.items (batches_of (D.seen disk.old)) ≡ false) × (D.seen disk.new ≡ D.seen disk.old))) }
+    ensures strange { IfOk result (λ found. ForStrange found ((list_all (M.readable machine.old) (facts_taken node.now.plan.setup (D.seen disk.old)) ≡ false) × (D.seen disk.new ≡ D.seen disk.old))) }
+    ensures crash { Elapses (D.instant disk.old) (D.instant disk.new) (D.left_since disk.old) (D.left_since disk.new)
+        (λ left. GoesOnAs went node.now.plan.setup node.now.number (D.seen disk.old) left ⊎ RestartsFrom (kind M.steps M.recalls M.readable M.blank M.rests M.is_new) node.now.plan.setup node.now.number (D.seen disk.old) left) }
+{
+    let plan = &node.plan;
+    if went {
+        let of_gone = OfGone {
+            setup: plan.setup(),
+        };
+        return start_without(alloc, machine, disk, plan, journal, &of_gone);
+    }
+    start(alloc, machine, disk, plan, journal)
+}
+
+// Goes on from the journal that is there. Answers the number of the next batch.
 fn go_on<M: Served, D: Disk, C: Console>(
     alloc: Global,
     node: &ThisNode,
+    went: bool,
     journal: &[u8],
     console: &C,
     machine: &mut M,
@@ -80,13 +126,15 @@ fn go_on<M: Served, D: Disk, C: Console>(
 ) -> Result<u64, NodeFault>
     requires read { journal.now ≡ D.seen disk.old }
     requires synced { D.synced disk.old ≡ D.seen disk.old }
-    requires new { M.is_new node.now.plan.setup node.now.number (setup_of_node_text (lines_text (first_plan (batches_of (D.seen disk.old))))) machine.old }
-    requires blank { M.blank (first_plan (batches_of (D.seen disk.old))) machine.old machine.old }
+    requires went { went ≡ somebody_went node.now.plan.setup (D.seen disk.old) }
+    requires new { M.is_new node.now.plan.setup node.now.number (first_taken node.now.plan.setup (D.seen disk.old)) machine.old }
+    requires blank { went ≡ false → M.blank (first_plan (batches_of (D.seen disk.old))) machine.old machine.old }
     requires of_plan { M.is_of (whole_lines node.now.plan.text.items) machine.old }
     ensures sealed { IfOk result (λ next. AllSealed (D.seen disk.new) (D.synced disk.new) next) }
     ensures restarts { OnOk result (Restarts M.recalls M.readable M.blank M.rests (whole_lines node.now.plan.text.items) machine.new (D.synced disk.new)) }
     ensures of_plan { OnOk result (M.is_of (whole_lines node.now.plan.text.items) machine.new) }
-    ensures recalled { OnOk result (RecallsAll M.recalls machine.old (facts_read (D.seen disk.old)) machine.new) }
+    ensures recalled { OnOk result (RecallsAll M.recalls machine.old (facts_taken node.now.plan.setup (D.seen disk.old)) machine.new) }
+    ensures without { went ≡ true → IfOk result (λ next. IsAnew M.recalls M.readable M.blank M.rests machine.new node.now.plan.text.items (D.synced disk.new) next) }
     ensures its { OnOk result (is_its_journal node.now.plan.setup node.now.number (D.seen disk.old) ≡ true) }
     ensures whole { OnOk result (has_right_batch (behind (D.seen disk.old)) ≡ false) }
     ensures form { IfErr result (λ fault. (journal : List ℕ) → TellsForm journal fault) }
@@ -94,9 +142,9 @@ fn go_on<M: Served, D: Disk, C: Console>(
     ensures another { IfErr result (TellsAnother (kind M.steps M.recalls M.readable M.blank M.rests M.is_new) node.now.plan.setup node.now.number (D.seen disk.old)) }
     ensures same { IfErr result (LeavesJournal (D.seen disk.new ≡ D.seen disk.old)) }
     ensures crash { Elapses (D.instant disk.old) (D.instant disk.new) (D.left_since disk.old) (D.left_since disk.new)
-        (ReadsAs (whole_lines node.now.plan.text.items) (D.seen disk.old)) }
+        (λ left. GoesOnAs went node.now.plan.setup node.now.number (D.seen disk.old) left ⊎ RestartsFrom (kind M.steps M.recalls M.readable M.blank M.rests M.is_new) node.now.plan.setup node.now.number (D.seen disk.old) left) }
 {
-    match start(alloc, machine, disk, &node.plan, journal)? {
+    match read_journal(alloc, node, went, journal, machine, disk)? {
         Started::Ready(recovered) => {
             tell_cut(console, recovered.cut);
             Ok(recovered.number)
@@ -125,6 +173,7 @@ fn begin_or_go_on<M: Served, D: Disk, C: Console>(
     alloc: Global,
     node: &ThisNode,
     is_new: bool,
+    went: bool,
     journal: &[u8],
     console: &C,
     machine: &mut M,
@@ -133,13 +182,15 @@ fn begin_or_go_on<M: Served, D: Disk, C: Console>(
     requires read { is_new ≡ false → journal.now ≡ D.seen disk.old }
     requires synced { is_new ≡ false → D.synced disk.old ≡ D.seen disk.old }
     requires begun { is_new ≡ true → M.is_new node.now.plan.setup node.now.number (Ok node.now.plan.setup) machine.old }
-    requires found { is_new ≡ false → M.is_new node.now.plan.setup node.now.number (setup_of_node_text (lines_text (first_plan (batches_of (D.seen disk.old))))) machine.old }
-    requires blank { is_new ≡ false → M.blank (first_plan (batches_of (D.seen disk.old))) machine.old machine.old }
+    requires went { is_new ≡ false → went ≡ somebody_went node.now.plan.setup (D.seen disk.old) }
+    requires found { is_new ≡ false → M.is_new node.now.plan.setup node.now.number (first_taken node.now.plan.setup (D.seen disk.old)) machine.old }
+    requires blank { is_new ≡ false → went ≡ false → M.blank (first_plan (batches_of (D.seen disk.old))) machine.old machine.old }
     requires of_plan { M.is_of (whole_lines node.now.plan.text.items) machine.old }
     ensures sealed { IfOk result (λ next. AllSealed (D.seen disk.new) (D.synced disk.new) next) }
     ensures restarts { OnOk result (Restarts M.recalls M.readable M.blank M.rests (whole_lines node.now.plan.text.items) machine.new (D.synced disk.new)) }
     ensures of_plan { OnOk result (M.is_of (whole_lines node.now.plan.text.items) machine.new) }
     ensures started { OnOk result (IsStarted (kind M.steps M.recalls M.readable M.blank M.rests M.is_new) node.now.plan.setup node.now.number (journal_found is_new (D.seen disk.old)) machine.new) }
+    ensures without { is_new ≡ false → went ≡ true → IfOk result (λ next. IsAnew M.recalls M.readable M.blank M.rests machine.new node.now.plan.text.items (D.synced disk.new) next) }
     ensures its { is_new ≡ false → OnOk result (is_its_journal node.now.plan.setup node.now.number (D.seen disk.old) ≡ true) }
     ensures whole { is_new ≡ false → OnOk result (has_right_batch (behind (D.seen disk.old)) ≡ false) }
     ensures form { IfErr result (λ fault. (journal : List ℕ) → TellsForm journal fault) }
@@ -152,7 +203,7 @@ fn begin_or_go_on<M: Served, D: Disk, C: Console>(
     if is_new {
         begin(alloc, node, machine, disk)
     } else {
-        go_on(alloc, node, journal, console, machine, disk)
+        go_on(alloc, node, went, journal, console, machine, disk)
     }
 }
 
@@ -162,6 +213,7 @@ fn begin_or_write_anew<M: Served, D: Disk, C: Console>(
     node: &ThisNode,
     is_new: bool,
     is_anew: bool,
+    went: bool,
     journal: &[u8],
     console: &C,
     machine: &mut M,
@@ -170,14 +222,16 @@ fn begin_or_write_anew<M: Served, D: Disk, C: Console>(
     requires read { is_new ≡ false → journal.now ≡ D.seen disk.old }
     requires synced { is_new ≡ false → D.synced disk.old ≡ D.seen disk.old }
     requires begun { is_new ≡ true → M.is_new node.now.plan.setup node.now.number (Ok node.now.plan.setup) machine.old }
-    requires found { is_new ≡ false → M.is_new node.now.plan.setup node.now.number (setup_of_node_text (lines_text (first_plan (batches_of (D.seen disk.old))))) machine.old }
-    requires blank { is_new ≡ false → M.blank (first_plan (batches_of (D.seen disk.old))) machine.old machine.old }
+    requires went { is_new ≡ false → went ≡ somebody_went node.now.plan.setup (D.seen disk.old) }
+    requires found { is_new ≡ false → M.is_new node.now.plan.setup node.now.number (first_taken node.now.plan.setup (D.seen disk.old)) machine.old }
+    requires blank { is_new ≡ false → went ≡ false → M.blank (first_plan (batches_of (D.seen disk.old))) machine.old machine.old }
     requires of_plan { M.is_of (whole_lines node.now.plan.text.items) machine.old }
     ensures sealed { IfOk result (λ next. AllSealed (D.seen disk.new) (D.synced disk.new) next) }
     ensures restarts { OnOk result (Restarts M.recalls M.readable M.blank M.rests (whole_lines node.now.plan.text.items) machine.new (D.synced disk.new)) }
     ensures of_plan { OnOk result (M.is_of (whole_lines node.now.plan.text.items) machine.new) }
     ensures started { OnOk result (IsStarted (kind M.steps M.recalls M.readable M.blank M.rests M.is_new) node.now.plan.setup node.now.number (journal_found is_new (D.seen disk.old)) machine.new) }
     ensures anew { is_anew ≡ true → IfOk result (λ next. IsAnew M.recalls M.readable M.blank M.rests machine.new node.now.plan.text.items (D.synced disk.new) next) }
+    ensures without { is_new ≡ false → went ≡ true → IfOk result (λ next. IsAnew M.recalls M.readable M.blank M.rests machine.new node.now.plan.text.items (D.synced disk.new) next) }
     ensures its { is_new ≡ false → OnOk result (is_its_journal node.now.plan.setup node.now.number (D.seen disk.old) ≡ true) }
     ensures whole { is_new ≡ false → OnOk result (has_right_batch (behind (D.seen disk.old)) ≡ false) }
     ensures form { IfErr result (λ fault. (journal : List ℕ) → TellsForm journal fault) }
@@ -187,7 +241,7 @@ fn begin_or_write_anew<M: Served, D: Disk, C: Console>(
     ensures crash { Elapses (D.instant disk.old) (D.instant disk.new) (D.left_since disk.old) (D.left_since disk.new)
         (MayBeLeft (kind M.steps M.recalls M.readable M.blank M.rests M.is_new) node.now.plan.setup node.now.number is_new (D.synced disk.old) (D.seen disk.old)) }
 {
-    let number = begin_or_go_on(alloc, node, is_new, journal, console, machine, disk)?;
+    let number = begin_or_go_on(alloc, node, is_new, went, journal, console, machine, disk)?;
     if is_anew {
         return write_anew(alloc, node, machine, disk);
     }
@@ -233,6 +287,22 @@ fn first_text<'x>(
     first_plan(alloc, journal)
 }
 
+// Whether tenants went since the last plan of the journal that is found: none where one is to be begun.
+fn tenants_went(
+    alloc: Global,
+    node: &ThisNode,
+    is_new: bool,
+    journal: &[u8],
+) -> Result<bool, OutOfMemory>
+    ensures new { is_new ≡ true → IfOk result (λ went. went ≡ false) }
+    ensures found { is_new ≡ false → IfOk result (λ went. went ≡ somebody_went node.now.plan.setup journal.now) }
+{
+    if is_new {
+        return Ok(false);
+    }
+    somebody_went(alloc, node.plan.setup(), journal)
+}
+
 // Starts the machine, which was never started, and takes the lines of the input. The journal's text is let go of in between: it is as
 // long as all that was kept.
 fn serve_machine<M: Served, D: Disk, I: Read, O: Output, C: Console>(
@@ -240,6 +310,7 @@ fn serve_machine<M: Served, D: Disk, I: Read, O: Output, C: Console>(
     node: &ThisNode,
     is_new: bool,
     is_anew: bool,
+    went: bool,
     journal: Vec<u8>,
     console: &C,
     machine: &mut M,
@@ -250,8 +321,9 @@ fn serve_machine<M: Served, D: Disk, I: Read, O: Output, C: Console>(
     requires read { is_new ≡ false → journal.items ≡ D.seen disk.old }
     requires synced { is_new ≡ false → D.synced disk.old ≡ D.seen disk.old }
     requires begun { is_new ≡ true → M.is_new node.now.plan.setup node.now.number (Ok node.now.plan.setup) machine.old }
-    requires found { is_new ≡ false → M.is_new node.now.plan.setup node.now.number (setup_of_node_text (lines_text (first_plan (batches_of (D.seen disk.old))))) machine.old }
-    requires blank { is_new ≡ false → M.blank (first_plan (batches_of (D.seen disk.old))) machine.old machine.old }
+    requires went { is_new ≡ false → went ≡ somebody_went node.now.plan.setup (D.seen disk.old) }
+    requires found { is_new ≡ false → M.is_new node.now.plan.setup node.now.number (first_taken node.now.plan.setup (D.seen disk.old)) machine.old }
+    requires blank { is_new ≡ false → went ≡ false → M.blank (first_plan (batches_of (D.seen disk.old))) machine.old machine.old }
     requires of_plan { M.is_of (whole_lines node.now.plan.text.items) machine.old }
     requires durable { (synced shown : List ℕ) → IsDurable (kind M.steps M.recalls M.readable M.blank M.rests M.is_new) node.now.plan.setup node.now.number (I.remaining input.old) (O.shown out.old ++ first_text) synced shown → O.allows synced shown }
     ensures served { OnOk result (ServesInput (kind M.steps M.recalls M.readable M.blank M.rests M.is_new) node.now.plan.setup node.now.number (journal_found is_new (D.seen disk.old)) (I.remaining input.old) (O.shown out.old ++ first_text) (D.synced disk.new) (O.shown out.new)) }
@@ -264,7 +336,9 @@ fn serve_machine<M: Served, D: Disk, I: Read, O: Output, C: Console>(
         (MayBeLeft (kind M.steps M.recalls M.readable M.blank M.rests M.is_new) node.now.plan.setup node.now.number is_new (D.synced disk.old) (D.seen disk.old)) }
 {
     let read = journal.as_slice();
-    let number = begin_or_write_anew(alloc, node, is_new, is_anew, read, console, machine, disk)?;
+    let number = begin_or_write_anew(
+        alloc, node, is_new, is_anew, went, read, console, machine, disk,
+    )?;
     drop(journal);
     let lacked = machine.registers().lacked();
     tell_ready(console, node, machine.facts(), lacked);
@@ -317,13 +391,17 @@ pub fn serve_node<M: Served + Drop, K: Maker<M> + Drop, D: Disk, I: Read, O: Out
         Ok(journal) => journal,
         Err(fault) => return Err(fault),
     };
-    let first = first_text(alloc, node, is_new, journal.as_slice())?;
-    let mut machine = maker.make(alloc, node, journal.as_slice(), first)?;
+    let read = journal.as_slice();
+    let went = tenants_went(alloc, node, is_new, read)?;
+    let first = first_text(alloc, node, is_new, read)?;
+    let before = first_setup(alloc, node.plan.setup(), went, first)?;
+    let mut machine = maker.make(alloc, node, read, &before)?;
     serve_machine(
         alloc,
         node,
         is_new,
         is_anew,
+        went,
         journal,
         console,
         &mut machine,

@@ -240,10 +240,11 @@ A request may be sent again until it is answered, and takes effect once. `N N ti
 operation waits. docs/FORMATS.md has all forms.
 
 The plan is that of `gridfs run`. After `go` it has lines `NAME open FILES BLOCKS`, which open the volumes at each start,
-`NAME chunks KIB`, which give room for chunks, `replace PLACE`, one for each node that was lost, and no others. What must not be
-forgotten is in the journal, and on disk, before anything that rests on it is written. `--new` begins the journal, at the grid's
-first start or that of a new node. `--anew` has it written anew: what was replaced stands in it no more. A node whose journal is
-lost can't come back: a new one, whose number is greater by 64, takes its place, and others give it the files.
+`NAME chunks KIB`, which give room for chunks, `replace PLACE`, one for each node that was lost, `gone NAME`, one for each tenant
+that left, and no others. What must not be forgotten is in the journal, and on disk, before anything that rests on it is written.
+`--new` begins the journal, at the grid's first start or that of a new node. `--anew` has it written anew: what was replaced stands
+in it no more. A node whose journal is lost can't come back: a new one, whose number is greater by 64, takes its place, and others
+give it the files.
 
     gridfs node 0 --plan plan --journal node0.journal --new < lines
 
@@ -252,13 +253,15 @@ file or a stream is at fault, 3 where memory is wanting, 4 where the journal is 
 
 const PLAN: &str = "\
 FILE is a plan as a node takes it: that of `gridfs run`, and after `go` only lines `NAME open FILES BLOCKS`, also with `times N`,
-`NAME chunks KIB` and `replace PLACE`. What it says is written in lines of words NAME=VALUE. The first word of a line tells what the line is of:
+`NAME chunks KIB`, `replace PLACE` and `gone NAME`. What it says is written in lines of words NAME=VALUE. The first word of a line
+tells what the line is of:
 
     rows=       the grid: rows, columns, nodes, room (the blocks of each server), tenants, losses; line, the most bytes of a line
                 that nodes take; answer, those of the answer `plan`; memory, the bytes that a node takes as it starts; peak, the most
                 that it takes at any time
     place=      a place of the grid, and the node that stands there
     replace=    the place of a node that was lost; the lines are in order
+    gone=       the name of a tenant that is gone; the lines are in order
     tenant=     a tenant: its share in blocks, how many of them no volume takes (free), its sessions, steps, the most blocks of a file
                 (most), how many volumes it may open (volumes), how many volumes are open, with how many files; and how many KiB of
                 chunks it has room for at each server, where it has some (chunks)
@@ -273,9 +276,13 @@ this is written:
     tenant=ann share=1 free=1 sessions=1 steps=100 most=16 volumes=64 open=0 files=0
     session=1 tenant=ann home=0
 
-With `--next OLD` nothing is written of the plan but `follows=yes`, where a node that has the plan OLD may start with FILE. Where it
-may not, the line and the reason are told on standard error, as a node tells them. The status is 1 then, and where a plan is at
-fault or a file can't be read; 3 where memory is wanting.
+With `--next OLD` nothing is written of the plan but `follows=yes`, where a node that has the plan OLD may start with FILE, and a line
+for each tenant of OLD that is gone by FILE:
+
+    gone=       its name; its share, which is free again (freed); the KiB of chunks that it had room for at each server (chunks)
+
+Where a node may not, the line and the reason are told on standard error, as a node tells them. The status is 1 then, and where a
+plan is at fault or a file can't be read; 3 where memory is wanting.
 
     gridfs plan --next OLD NEW";
 
