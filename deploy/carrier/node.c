@@ -45,6 +45,7 @@ static size_t ahead = LINES;                    /* lines of a tenant that the no
 static const double LOOK = 0.002;               /* seconds between two looks whether the node has read a tenant's lines */
 static struct { struct queue of[NAMES]; size_t many, turn; } from;
 static struct queue *mine;                      /* the node's lines to itself */
+static struct { char (*names)[NAME + 1]; size_t many; } gone;   /* tenants who are gone by the plan */
 static struct { struct tally of[TENANTS], others; size_t many; } tallies = {.others.name = "OTHERS"};  /* (no tenant has such a name) */
 static struct watch node_in = {.fd = -1}, node_out = {.fd = -1};    /* our ends of its pipes */
 static char *piece, *chunk;                     /* output of the node that was read; what is being written to it */
@@ -104,6 +105,20 @@ static bool is_grid(const char *text) {
     return *text >= 'a' && length <= NAME && !text[length];
 }
 
+static bool is_gone(const char *name, size_t length) {
+    for (size_t i = 0; i < gone.many; i++)
+        if (!memcmp(gone.names[i], name, length) && !gone.names[i][length]) return true;
+    return false;
+}
+
+/* (Where there is no memory for a name, its lines are passed over by the node, as any stranger's.) */
+static void add_gone(const char *name) {
+    char (*more)[NAME + 1] = realloc(gone.names, (gone.many + 1) * sizeof *more);
+    if (!more) return;
+    gone.names = more;
+    memcpy(gone.names[gone.many++], name, strlen(name) + 1);
+}
+
 static struct tally *tally_of(const char *name, size_t length) {
     for (size_t i = 0; i < tallies.many; i++)
         if (!memcmp(tallies.of[i].name, name, length) && !tallies.of[i].name[length]) return &tallies.of[i];
@@ -122,7 +137,8 @@ struct queue *queue_of(const char *name, size_t length) {
     }
     if (from.many < NAMES) empty = &from.of[from.many++];
     if (!empty) return NULL;
-    empty->tally = is_tenant(name) ? tally_of(name, length) : NULL;
+    empty->gone = is_tenant(name) && is_gone(name, length);
+    empty->tally = is_tenant(name) && !empty->gone ? tally_of(name, length) : NULL;
     memset(empty->name, 0, sizeof empty->name);
     memcpy(empty->name, name, length);
     snprintf(empty->head, sizeof empty->head, "%s %s ", me, empty->name);
@@ -208,7 +224,8 @@ void for_node(struct queue *queue, const char *text, size_t length) {
     for (; queue && text < end; text = stop + 1) {
         if (!(stop = memchr(text, '\n', (size_t)(end - text)))) stop = end;
         size_t body = (size_t)(stop - text);
-        if (strlen(queue->head) + body > longest) count.too_long++;
+        if (queue->gone) engine_carry(queue->name, strlen(queue->name), "gone", 4);
+        else if (strlen(queue->head) + body > longest) count.too_long++;
         else if (body && add(queue, queue->head, text, body, &count.full)) {
             count.in++;
             if (!is_tenant(queue->name) && queue != mine) hear_form(queue->name, text, body);
@@ -508,9 +525,10 @@ double number(const char *what, const char *word, double least, double most) {
     return value;
 }
 
-/* The longest line of a plan: 255 bytes, and 128 for each block that a tenant's largest file may have; or, of what a tenant has, 400 and 15
-   for each of its lines `open`; or, where a tenant has room for chunks, the longest of any plan. (The node itself refuses a plan with a fault.) */
-static size_t longest_of(const char *plan) {
+/* Who is gone by a plan, and its longest line: 255 bytes, and 128 for each block that a tenant's largest file may have; or, of what a tenant
+   has, 400 and 15 for each of its lines `open`; or, where a tenant has room for chunks, the longest of any plan. (The node itself refuses a
+   plan with a fault.) */
+static size_t read_plan(const char *plan) {
     struct { char name[17]; size_t opens; } tenants[TENANTS] = {{"", 0}};
     char row[256], name[17];
     size_t found = LONGEST, many = 0;
@@ -527,6 +545,8 @@ static size_t longest_of(const char *plan) {
         } else if (behind && sscanf(row, "%16s open %lu", name, &files) == 2) {
             for (size_t i = 0; i < many; i++)
                 if (!strcmp(tenants[i].name, name)) length = 15 * ++tenants[i].opens + 400;
+        } else if (behind && sscanf(row, "gone %16s", name) == 1) {
+            add_gone(name);
         } else if (behind && sscanf(row, "%16s chunks %lu", name, &kib) == 2) {
             length = LONGEST_EVER;
         }
@@ -548,7 +568,7 @@ static char **read_words(char **at) {
         if (!found->word || !at[1]) wrong(found->word ? "another word has to follow" : "no such word", *at);
         *found->to = at[1];
     }
-    if (plan) longest = longest_of(plan);
+    if (plan) longest = read_plan(plan);
     if (length) longest = (size_t)number("--longest", length, LONGEST, LONGEST_EVER);
     tick_time = tick ? number("--tick", tick, 0.01, 3600) : 0.25 + (double)(longest - LONGEST) / (1 << 20);
     if (!at[0] || !at[1] || strcmp(at[1], "--") || !at[2]) wrong("NUMBER -- COMMAND", "is wanting");

@@ -29,6 +29,7 @@ struct queue {                  /* whole lines from one name that wait for the n
     int users;                  /* as long as there are some, no other name gets this queue */
     long dropped;
     struct tally *tally;        /* of a tenant; NULL for a node */
+    bool gone;                  /* of a tenant who is gone by the plan */
 };
 
 extern const char *me;          /* the node's number */

@@ -20,6 +20,7 @@ HERE = os.path.dirname(os.path.abspath(__file__))
 DEPLOY = os.path.join(HERE, "..", "..", "deploy", "links")
 
 PLAN = "grid 1 2\nblocks 64\ntenant ann 8 16 1\ntenant bob 8 16 1\ngo\nann open 2 2\nbob open 2 2\n"
+LATER = "grid 1 2\nblocks 64\ntenant ann 8 16 1\ntenant cid 8 16 1\ngo\nann open 2 2\ngone bob\n"
 THREE = "grid 1 3\nblocks 64\ntenant ann 8 16 1\ngo\nann open 2 2\n"
 ROOM = "grid 1 2\nroom 20000\ntenant ann 16384 16 1 16384\ngo\n"
 RUNS = "grid 1 2\nroom 916\ntenant bob 16 1 1 16\ntenant ann 900 16 1 16 600\ngo\nbob open 1 1\n" + "ann open 1 1\nann open 2 1\n" * 300
@@ -247,6 +248,21 @@ def a_denied_one_stays_out(program, folder):
         check(is_refused(lambda: come(carry, None, context=kept)), "a certificate that is denied is taken")
     finally:
         carry.end()
+
+
+def who_is_gone_is_told(program, folder):
+    fresh(program, folder).end()
+    with open(os.path.join(folder, "plan"), "w", encoding="ascii") as out:
+        out.write(LATER)
+    carry = Carry(program, folder).ready()
+    try:
+        with come(carry, "ann") as ann, come(carry, "bob") as bob:
+            bob.sendall(b"plan\nread 1 1 0 0\n"), ann.sendall(b"plan\n")
+            carry.gets(b"0 ann plan")
+            check(hear(bob, 2) == [b"gone", b"gone"], "who is gone is told something else")
+            check(not any(line.startswith(b"0 bob ") for line in carry.lines()), "the node is given lines of who is gone")
+    finally:
+        check(carry.end() == 0, carry.told())
 
 
 def who_is_dialed(program, folder):
@@ -936,5 +952,5 @@ def metrics_as_prometheus_reads(program, folder):
         carry.end()
 
 
-CHECKS = [odd_files, hosts_amid_a_write, its_own_ports, another_authority, costly_ones, who_may_come, a_denied_one_stays_out, who_is_dialed, lines_are_whole, answers_go_home, nodes_are_linked, a_still_node, ticks, a_burst, long_answers, a_slow_reader, too_many, long_lines, what_a_tenant_of_many_volumes_has, its_end, its_words, ends_soon, a_slow_name, a_name_of_two_addresses, a_node_that_does_not_end, what_a_denied_one_said, metrics_are_true, forms_are_told, metrics_are_whole]
+CHECKS = [odd_files, hosts_amid_a_write, its_own_ports, another_authority, costly_ones, who_may_come, a_denied_one_stays_out, who_is_gone_is_told, who_is_dialed, lines_are_whole, answers_go_home, nodes_are_linked, a_still_node, ticks, a_burst, long_answers, a_slow_reader, too_many, long_lines, what_a_tenant_of_many_volumes_has, its_end, its_words, ends_soon, a_slow_name, a_name_of_two_addresses, a_node_that_does_not_end, what_a_denied_one_said, metrics_are_true, forms_are_told, metrics_are_whole]
 LONG_CHECKS = [metrics_as_prometheus_reads, forms_are_told_again]

@@ -14,6 +14,7 @@ FAULTS = {
     "one may have the node's own number": ("who_may_come", "links.c", "!strcmp(name, me)) return \"it has", "false) return \"it has"),
     "one who is denied stays": ("who_may_come", "links.c", "if (shown && is_new && is_denied(shown)) deny(link);", "if (false) deny(link);"),
     "one who is denied comes again": ("a_denied_one_stays_out", "links.c", "bool wrong = shown && is_denied(shown);", "bool wrong = false;"),
+    "lines of one who is gone are given": ("who_is_gone_is_told", "node.c", "is_tenant(name) && is_gone(name, length);", "false && is_gone(name, length);"),
     "anybody of the grid may stand at a node's address": ("who_is_dialed", "links.c", "if (link->host && strcmp(name, link->host->name))", "if (false)", "stream.c", "&& SSL_set1_host(it->ssl, host)", ""),
     "a part of a line is given": ("lines_are_whole", "links.c", "    if (stream->paused) paused--;", "    if (link->held && link->peer) lines(link, link->part, link->held);\n    if (stream->paused) paused--;", "links.c", "/* The end of a link */", "static void lines(struct link *link, const char *text, size_t length);"),
     "a line that is too long is given": ("lines_are_whole", "node.c", "strlen(queue->head) + body > longest", "false"),
