@@ -11,7 +11,7 @@ HERE = os.path.dirname(os.path.abspath(__file__))
 sys.path.insert(0, os.path.join(HERE, "..", "..", "clients", "python"))
 from gridfs_client import PlanTold
 from gridfs_client.carriers import Carrier
-from gridfs_client.chunk_lines import content_in, content_word
+from gridfs_client.chunk_lines import CHUNK_CHARGE, content_in, content_word
 from gridfs_client.grid import Shape
 
 MOST, MOST_LISTED, PLACES = 1 << 20, 1000, 64
@@ -27,7 +27,7 @@ class Server:
         self.tombs = set()  # what was forgotten while it lacks chunks
 
     def used(self):
-        return sum(map(len, self.chunks.values()))
+        return sum(len(it) + CHUNK_CHARGE for it in self.chunks.values())
 
     def take(self, body):
         """The answer to a line, if it is one of chunks."""
@@ -51,7 +51,7 @@ class Server:
             return b"kept %d %d %d" % (*key, self.losses) if self.chunks[key] == content else b"refused differs %d %d" % key
         if number <= self.floors.get(session, 0):
             return b"refused below %d %d %d" % (*key, self.floors[session])
-        if self.used() + len(content) > self.allowed:
+        if self.used() + len(content) + CHUNK_CHARGE > self.allowed:
             return b"refused room %d %d %d" % (*key, max(0, self.allowed - self.used()))
         self.chunks[key] = content
         return b"kept %d %d %d" % (*key, self.losses)

@@ -11,6 +11,7 @@ from memory_with_chunks import SHORT, Killed, World
 from servers import Servers
 
 from gridfs_client import BadSettings, Damaged, NamedFiles, NoRoom, NoSuchName, Replaced, Unanswered
+from gridfs_client.chunk_lines import CHUNK_CHARGE
 from gridfs_client.contents import InChunks, InSlots, PartList, parse_part
 from gridfs_client.pages import parse_line
 from gridfs_client.status import usage_lines, usage_value
@@ -209,9 +210,9 @@ class Names(unittest.TestCase):
             files.put("name", LONG)
         self.servers.at[0].is_up = self.servers.at[1].is_up = True
         for server in self.servers.at.values():
-            server.allowed = 300
+            server.allowed = 300 + 3 * CHUNK_CHARGE
         files = self.world.client(1)
-        with self.assertRaisesRegex(NoRoom, "no room: 700 bytes are wanted, and column 0 has 300, column 1 has 300 free"):
+        with self.assertRaisesRegex(NoRoom, f"no room: 700 bytes take {700 + 7 * CHUNK_CHARGE}, and column 0 has {300 + 3 * CHUNK_CHARGE}, column 1 has {300 + 3 * CHUNK_CHARGE} free"):
             files.put("name", bytes(700))
         files.put("name", bytes(400))  # (which takes both)
         self.assertEqual({run.column for run in content_of(files, "name").runs}, {0, 1})
@@ -316,7 +317,7 @@ class Names(unittest.TestCase):
         lines = [line for line in usage_lines(usage, None) if line.startswith("chunks")]
         column = files.bucket("name").held("name").content.runs[0].column
         used = [0, 0]
-        used[column] = len(LONG)
+        used[column] = len(LONG) + CHUNK_CHARGE * -(-len(LONG) // SHORT)
         end = ["; chunks are lacking at node 64", "; node 3 did not answer"]
         self.assertEqual(lines, [f"chunks in column {each}: {used[each]} bytes used of {64 << 20}{end[each]}" for each in (0, 1)])
         self.assertEqual(usage_value(usage, None)["chunks"][1], {"column": 1, "used": used[1], "allowed": 64 << 20, "silent": (3,), "lacking": ()})

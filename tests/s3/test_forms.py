@@ -158,9 +158,12 @@ class Signing(Case):
 
     def test_urls(self):
         words = {"X-Amz-Algorithm": signing.ALGORITHM, "X-Amz-Credential": "ann/20300317/us-east-1/s3/aws4_request", "X-Amz-Date": "20300317T174640Z", "X-Amz-SignedHeaders": "host", "X-Amz-Signature": "0" * 64}
-        for expires in ("", "0", "604801", "x", "9" * 5_000, "٣"):
+        for expires, message in (("", "a number"), ("0", "non-negative"), ("-1", "non-negative"), ("604801", "less than a week"), ("x", "a number"), (str((1 << 63) - 1), "less than a week"), (str(1 << 63), "a number"), ("9" * 5_000, "a number"), ("٣", "a number")):
             query = "&".join(f"{name}={value}" for name, value in {**words, "X-Amz-Expires": expires}.items())
-            self.fails("AuthorizationQueryParametersError", self.check, [("host", "host")], query, 1_900_000_000)
+            with self.assertRaises(S3Error) as fault:
+                self.check([("host", "host")], query, 1_900_000_000)
+            self.assertEqual(fault.exception.code, "AuthorizationQueryParametersError")
+            self.assertIn(message, fault.exception.message, expires)
 
 
 class Markup(Case):
@@ -388,6 +391,16 @@ class Bodies(Case):
             told = base64.b64encode(bytes.fromhex(digest)).decode()
             for sent, found in ((told, b"123456789"), (told[::-1], "BadDigest")):
                 self.assertEqual(self.told(b"123456789", "UNSIGNED-PAYLOAD", content_length="9", **{f"x_amz_checksum_{name}": sent}), found, name)
+
+    def test_digest(self):
+        """SHA-256 is taken once, where the request says it; else by whoever keeps the content."""
+        digest = hashlib.sha256(b"hello").digest()
+        for payload, headers, told in (
+            (digest.hex(), {}, digest), ("UNSIGNED-PAYLOAD", {"x-amz-checksum-sha256": base64.b64encode(digest).decode()}, digest), ("UNSIGNED-PAYLOAD", {"x-amz-checksum-crc32": "NhCmhg=="}, None), ("UNSIGNED-PAYLOAD", {}, None),
+        ):  # fmt: skip
+            body = Body(Stream(b"hello"), {"content-length": "5", **headers}, types.SimpleNamespace(payload=payload))
+            asyncio.run(body.all(1_000))
+            self.assertEqual(body.checks.digest(), told, (payload, headers))
 
     def test_checksums_of_parts(self):
         """A CRC of contents one after another, by theirs."""

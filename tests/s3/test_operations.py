@@ -163,6 +163,12 @@ class Buckets(Case):
         self.put("a")
         self.fails("BucketNotEmpty", self.s3.delete_bucket, Bucket=self.bucket)
 
+    def test_region(self):
+        """A bucket in another region is made nowhere."""
+        name = f"{self.bucket}-elsewhere"
+        self.fails("InvalidLocationConstraint", self.s3.create_bucket, Bucket=name, CreateBucketConfiguration={"LocationConstraint": "eu-central-1"})
+        self.assertNotIn(name, [each["Name"] for each in self.s3.list_buckets()["Buckets"]])
+
     def test_some_buckets(self):
         """By their prefix, and so many at a time."""
         names = [f"{self.bucket}-{letter}" for letter in "abc"]

@@ -301,7 +301,11 @@ class Versions(Common):
         s3.delete_object(Bucket="some", Key="a", VersionId=first)
         rest = s3.list_object_versions(Bucket="some", KeyMarker=told["NextKeyMarker"], VersionIdMarker=told["NextVersionIdMarker"])["Versions"]
         self.assertEqual([each["Key"] for each in rest], ["a", "b/1", "b/2", "c"])
-        self.assertEqual(code_of(s3.list_object_versions, Bucket="some", VersionIdMarker=first)[0], "InvalidArgument")
+        for words, message in (({"VersionIdMarker": first}, "without a key marker"), ({"KeyMarker": "", "VersionIdMarker": "bogus"}, "Invalid version id specified")):
+            with self.assertRaises(ClientError) as fault:
+                s3.list_object_versions(Bucket="some", **words)
+            self.assertEqual(fault.exception.response["Error"]["Code"], "InvalidArgument")
+            self.assertIn(message, fault.exception.response["Error"]["Message"])
 
     def test_names(self):
         """`gridfs-client` has what was put while versions were off, or are suspended, by its name."""

@@ -1,12 +1,14 @@
 """Clients that others wrote, from Debian's packages, over an endpoint: each thing that is tried, and what is wrong of it."""
 
 import filecmp
+import json
 import os
 import random
 import shutil
 import sqlite3
 import subprocess
 import time
+import urllib.request
 from contextlib import closing
 
 SIZES = {"empty": 0, "small.txt": 12, "one kib": 1_024, "dir/äöü.bin": 70_000, "dir/deep/er/two.bin": 2_000_000, "dir/plus+and&.bin": 4_097}
@@ -133,6 +135,41 @@ class Clients:
         self.step("restic check --read-data", lambda: run("restic", "check", "--read-data", env=words))
         self.step("restic restore, the same files", lambda: (run("restic", "restore", "latest", "--target", back, env=words), same(self.files, back + self.files), expect(filecmp.cmp(self.big, back + self.big, False), True, "big")))
         self.step("restic forget --prune, check", lambda: (run("restic", "forget", "--keep-last", "1", "--prune", env=words), run("restic", "check", env=words)))
+
+    def aws(self):
+        """Debian's AWS CLI, which another one before it on the path must not stand for."""
+        words = {**os.environ, "AWS_ACCESS_KEY_ID": self.access, "AWS_SECRET_ACCESS_KEY": self.secret, "AWS_DEFAULT_REGION": "us-east-1", "AWS_EC2_METADATA_DISABLED": "true"}
+        bucket, back = f"aws-{os.getpid()}", self.place("aws back")
+        there = f"s3://{bucket}"
+
+        def aws(*told):
+            return run("/usr/bin/aws", "--endpoint-url", self.url, *told, env=words)
+
+        def told_of(*told):
+            return json.loads(aws("s3api", *told, "--bucket", bucket) or b"{}")
+
+        self.step("aws s3 mb, sync of all files", lambda: (aws("s3", "mb", there), aws("s3", "sync", self.files, f"{there}/tree")))
+        self.step("aws s3 sync again moves nothing", lambda: expect(aws("s3", "sync", self.files, f"{there}/tree"), b"", "what it did"))
+        self.step("aws s3 sync back, the same files", lambda: (aws("s3", "sync", f"{there}/tree", back), same(self.files, back)))
+        self.step("aws s3 cp in parts of 8 MiB, and back", lambda: (aws("s3", "cp", self.big, f"{there}/big"), aws("s3", "cp", f"{there}/big", f"{back}.big"), expect(filecmp.cmp(self.big, f"{back}.big", False), True, "big")))
+        self.step("aws s3 cp and mv within the bucket, in parts", lambda: (aws("s3", "cp", f"{there}/big", f"{there}/copy"), aws("s3", "mv", f"{there}/copy", f"{there}/moved"), expect(told_of("head-object", "--key", "moved")["ContentLength"], BIG, "length")))
+        self.step("aws s3 sync --delete, ls --summarize", lambda: (aws("s3", "sync", "--delete", os.path.join(self.files, "dir"), f"{there}/tree"), expect(aws("s3", "ls", "--recursive", "--summarize", f"{there}/tree").count(b"tree/"), len(files_in(os.path.join(self.files, "dir"))), "objects")))
+        self.step("aws s3 presign, got by anybody", lambda: expect(urllib.request.urlopen(aws("s3", "presign", f"{there}/moved").decode().strip()).read() == content_of(self.big), True, "content"))
+        small = ("--key", "small", "--body", os.path.join(self.files, "small.txt"))
+        for name in ("CRC32", "SHA1", "SHA256"):  # (others want a library that Debian 12 has not)
+            self.step(f"aws s3api put-object with {name}, told again", lambda name=name: expect(told_of("put-object", *small, "--checksum-algorithm", name)[f"Checksum{name}"], told_of("head-object", "--key", "small", "--checksum-mode", "ENABLED")[f"Checksum{name}"], "checksum"))
+        self.step("aws s3api get-object-attributes", lambda: expect(told_of("get-object-attributes", "--key", "small", "--object-attributes", "ObjectSize")["ObjectSize"], os.path.getsize(small[-1]), "size"))
+        self.step("aws s3api versions: two, one of them got again", lambda: (aws("s3api", "put-bucket-versioning", "--bucket", bucket, "--versioning-configuration", "Status=Enabled"), told_of("put-object", *small), told_of("put-object", *small[:2]), expect(self.lengths_of(told_of("list-object-versions", "--prefix", "small")), [0, os.path.getsize(small[-1]), os.path.getsize(small[-1])], "sizes")))
+        self.step("aws s3api tags", lambda: (told_of("put-object-tagging", "--key", "small", "--tagging", "TagSet=[{Key=a,Value=b}]"), expect(told_of("get-object-tagging", "--key", "small")["TagSet"], [{"Key": "a", "Value": "b"}], "tags")))
+        self.step("aws s3 rm --recursive leaves versions, which go by delete-objects", lambda: (aws("s3", "rm", "--recursive", there), aws("s3api", "delete-objects", "--bucket", bucket, "--delete", json.dumps({"Objects": self.versions_of(told_of("list-object-versions"))})), aws("s3", "rb", there)))
+
+    @staticmethod
+    def lengths_of(told):
+        return [each["Size"] for each in told["Versions"]]
+
+    @staticmethod
+    def versions_of(told):
+        return [{"Key": each["Key"], "VersionId": each["VersionId"]} for kind in ("Versions", "DeleteMarkers") for each in told.get(kind, [])]
 
     def s3fs(self):
         """A bucket as a folder of this machine."""

@@ -4,6 +4,7 @@ import codecs
 from dataclasses import dataclass
 
 MOST_CHUNK = 1 << 20  # bytes
+CHUNK_CHARGE = 512  # bytes of room that each chunk takes beside its own
 ROOM = 0, 0  # by which an answer about room is known; others by a session and a number
 WORDS = frozenset((b"kept", b"got", b"none", b"lacks", b"damaged", b"forgot", b"chunks", b"room"))
 REFUSALS = frozenset((b"differs", b"below", b"room"))
@@ -31,7 +32,7 @@ def content_word(content: bytes) -> bytes:
 def content_in(word: bytes) -> bytes:
     """The content that a word is; a ValueError where it is none."""
     if word.startswith(b"~"):
-        content: bytes = codecs.escape_decode(word[1:])[0] if b"\\" in word else word[1:]  # type: ignore[assignment]
+        content: bytes = codecs.escape_decode(memoryview(word)[1:])[0] if b"\\" in word else word[1:]  # type: ignore[assignment]
         return content
     if not word.startswith(b"="):
         raise ValueError(word[:1])
@@ -52,14 +53,21 @@ def parse_list(node: int, words: list[bytes]) -> ChunkTold:
     return ChunkTold(node, "chunks", (int(session), int(after)), (int(floor),), rows=tuple((int(number), int(size)) for number, size in found), is_end=is_end)
 
 
+def parse_got(node: int, body: bytes) -> ChunkTold:
+    """A content that is told. (It may be long, so it is copied as few times as can be.)"""
+    _, *head, word = body.split(b" ", 5)
+    session, number, size, first = map(int, head)
+    if b" " in word:
+        raise ValueError(head)
+    return ChunkTold(node, "got", (session, number), (size, first), content_in(word))
+
+
 def parse_chunk(node: int, body: bytes) -> ChunkTold | None:
     """What a body tells of chunks; None where it is of something else. `refused bad` may be of anything: it is also told of room."""
-    verb, _, rest = body.partition(b" ")
     try:
-        if verb == b"got":
-            *head, word = rest.split(b" ")
-            session, number, size, first = map(int, head)
-            return ChunkTold(node, "got", (session, number), (size, first), content_in(word))
+        if body.startswith(b"got "):
+            return parse_got(node, body)
+        verb, _, rest = body.partition(b" ")
         if verb == b"refused":
             verb, _, rest = rest.partition(b" ")
             if verb == b"bad" and not rest:

@@ -11,7 +11,7 @@ from weakref import WeakKeyDictionary
 from . import chunk_lines
 from .answers import MOST_PLACES, PlanTold
 from .carriers import Carrier
-from .chunk_lines import ROOM, ChunkTold
+from .chunk_lines import CHUNK_CHARGE, ROOM, ChunkTold
 from .errors import Damaged, NoRoom, Unanswered
 from .grid import Shape, listed
 from .runs import Place, Run, runs_of
@@ -604,7 +604,7 @@ class Keeper:
         """Goes on at another column, with those of these that are under way at this one; the fault where there is none, without one it goes on waiting."""
         if any(self.under_way[at].column == self.column for at in which):
             self.left.add(self.column)
-            sizes = [len(self.under_way[at].content) for at in which]
+            sizes = [len(self.under_way[at].content) + CHUNK_CHARGE for at in which]
             column = self.chunks.column_for(self.chunks.ask_rooms(SOON) or {}, sum(sizes), max(sizes), self.left)
             if column is None:
                 if fault:

@@ -20,7 +20,7 @@ from .carriers import Carrier
 from .errors import BadFile, BadSettings, ClientError, Refused, Silent, Skipped, Unanswered
 from .fleet import MAP_NAME, FleetFiles, expect_no_map
 from .fleet_map import read_map
-from .grid import Nodes, listed
+from .grid import Nodes, listed, told_shape
 from .layout import BLOCK, layout_of
 from .local import INPUT, complain, content_of, cut, go_to, json_of, out, out_lines, rewindable, to_target
 from .mirror import GRID, Removal, ToFolder, ToGrid, prefix_of, shown
@@ -421,6 +421,9 @@ def status(opened: Opened | OpenedFleet, args: argparse.Namespace) -> None:
     said = opened.settings.shape()
     if said and said.nodes != opened.told.nodes:
         raise BadSettings(f"grid: {said.rows}x{said.columns} are {said.nodes} nodes, and there are {opened.told.nodes}")
+    told = told_shape(opened.told)
+    if said and told and said != told:
+        raise BadSettings(f"grid: it is {told.rows}x{told.columns}, as its nodes tell, and not {said.rows}x{said.columns}")
     nodes = ask_all(opened.carrier, min(SILENCE, opened.sessions.pace.timeout), said)
     assert nodes
     usage, fault = (None, Silent(nodes.summary())) if nodes.goes_on() is False else used(opened.names)

@@ -13,8 +13,9 @@ which numbers other pages have to be seen from then on: who looks at pages looks
         state = told(state, ..)           # what came of the request
 """
 
-from collections.abc import Callable, Collection, Iterable, Iterator
+from collections.abc import Callable, Collection, Iterable, Iterator, Set
 from dataclasses import dataclass, field, replace
+from functools import cached_property
 
 from .answers import Tag
 from .contents import Content, InSlots, Part, parts_of, slots_of
@@ -83,8 +84,18 @@ class Page:
     number: int = 0
     signposts: tuple[Signpost, ...] = ()
 
+    @cached_property
+    def by_name(self) -> dict[str, Line]:
+        """Its lines by their names. (A page is asked for many of them, and never changes.)"""
+        return {line.name: line for line in reversed(self.lines)}
+
     def shown(self, name: str) -> Line | None:
-        return next((line for line in self.lines if line.name == name), None)
+        return self.by_name.get(name)
+
+    def without(self, other: "Page") -> "Page":
+        """A page of those lines that the other one has not."""
+        kept = other.by_name
+        return Page(tuple(line for line in self.lines if kept.get(line.name) is not line and kept.get(line.name) != line))
 
     def after_of(self, session: int) -> int:
         return self.after[session - 1] if session <= len(self.after) else 0
@@ -93,8 +104,12 @@ class Page:
         """Whether names of it went to another grid, or came from one."""
         return bool(self.signposts) or any(line.copied for line in self.lines)
 
-    def removals(self) -> list[Line]:
-        return [line for line in self.lines if line.content is None]
+    @cached_property
+    def removed(self) -> tuple[Line, ...]:
+        return tuple(line for line in self.lines if line.content is None)
+
+    def removals(self) -> tuple[Line, ...]:
+        return self.removed
 
     def asks(self) -> Iterator[tuple[int, int]]:
         """Sessions, and the number that the page of each has at least, where it is seen beside this one."""
@@ -351,7 +366,7 @@ def going(client: Knows, but: str | None = None, keeps: Keeps = keeps_none) -> G
     but those of names that it `keeps`."""
     others = for_change(client)
     own = others.pop(client.session)
-    shown = owned_greatest(others, {line.name for line in own.lines}, client.grid)
+    shown = owned_greatest(others, own.by_name.keys(), client.grid)
     found = Going()
     for line in own.lines:
         if line.name == but:
@@ -366,15 +381,13 @@ def going(client: Knows, but: str | None = None, keeps: Keeps = keeps_none) -> G
     return found
 
 
-def owned_greatest(pages: dict[int, Page], names: Collection[str], grid: str = "") -> dict[str, tuple[Version, int]]:
+def owned_greatest(pages: dict[int, Page], names: Set[str], grid: str = "") -> dict[str, tuple[Version, int]]:
     """Of each of these names the greatest version that is shown, and the session whose page shows it."""
     found: dict[str, tuple[Version, int]] = {}
     for session, page in pages.items():
-        for line in page.lines:
-            if line.name not in names:
-                continue
-            here = (version_of(line, session, grid), session)
-            found[line.name] = max(here, found.get(line.name, here))
+        for name in page.by_name.keys() & names:
+            here = (version_of(page.by_name[name], session, grid), session)
+            found[name] = max(here, found.get(name, here))
     return found
 
 

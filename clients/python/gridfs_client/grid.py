@@ -41,6 +41,11 @@ class Shape:
         return bool(self.rows_up(silent) and self.columns_up(silent))
 
 
+def told_shape(told: PlanTold) -> Shape | None:
+    """How the nodes are arranged, as a node told it; None where it is of before, and did not."""
+    return Shape(told.rows, told.columns) if told.rows else None
+
+
 def possible_shapes(nodes: int) -> list[Shape]:
     """The shapes that a grid of so many nodes can have."""
     rows = [number for number in range(1, MOST_ROWS + 1) if nodes % number == 0]

@@ -8,7 +8,7 @@ from dataclasses import dataclass
 from typing import cast
 
 from .carriers import Carrier
-from .chunk_lines import MOST_CHUNK
+from .chunk_lines import CHUNK_CHARGE, MOST_CHUNK
 from .chunks import ROOM_LASTS, Chunks, Rooms, Wanted
 from .contents import InChunks, InSlots, PartList, Part, digest_in_hex, parse_part, to_base64
 from .errors import CarrierFault, Damaged, NoRoom, Unanswered
@@ -54,16 +54,21 @@ class ChunkContents:
 
     def expect_room(self, name: str, size: int | None) -> int:
         """The column for a content of so many bytes. NoRoom where all columns together have too little; Unanswered where none is wholly up."""
+        wanted, least = self.room_for(size or 1), self.room_for(min(size or 1, self.most))
         for lasts in (ROOM_LASTS, 0):  # (as it was told last, and then as it is)
             rooms = self.chunks.rooms(lasts)
             usable = self.chunks.usable(rooms)
-            column = self.chunks.column_for(rooms, size or 1, min(size or 1, self.most))
-            if column is not None and sum(usable.values()) >= (size or 1):
+            column = self.chunks.column_for(rooms, wanted, least)
+            if column is not None and sum(usable.values()) >= wanted:
                 return column
         if usable:
             told = ", ".join(f"column {each} has {free}" for each, free in usable.items())
-            raise NoRoom(f"{name}: no room: {size or 'some'} bytes are wanted, and {told} free")
+            raise NoRoom(f"{name}: no room: {f'{size} bytes take {wanted}' if size else 'some bytes are wanted'}, and {told} free")
         raise Unanswered(f"session {self.chunks.number}: no column of nodes that give room for chunks is wholly up")
+
+    def room_for(self, size: int) -> int:
+        """The room that so many bytes take: each of their chunks is charged some more."""
+        return size + CHUNK_CHARGE * -(-size // self.most)
 
     def put(self, source: Source, column: int, progress: Callable[[int, int | None], None]) -> InChunks:
         """The content in chunks, which no line names yet. NoRoom, Unanswered, and faults of the source."""
@@ -78,13 +83,14 @@ class ChunkContents:
                 if not piece:
                     return
                 left = None if left is None else left - len(piece)
-                digest.update(piece)
+                if source.sha256 is None:
+                    digest.update(piece)
                 size += len(piece)
                 yield piece
             source.expect_end()
 
         runs = self.chunks.keep(pieces(), column, lambda done: progress(done, count))
-        return InChunks(size, to_base64(digest.digest()), runs)
+        return InChunks(size, to_base64(source.sha256 or digest.digest()), runs)
 
     def put_list(self, entries: Iterable[tuple[Part, str]], column: int) -> PartList:
         """A list of contents in chunks, each with a word or none beside it, which no line names yet."""

@@ -67,7 +67,7 @@ def length_of_signposts(page: Page) -> int:
 
 def length_of_lines(lines: Iterable[Line]) -> int:
     """The bytes that lines take in a page, behind its first one."""
-    return sum(len(line_text(line).encode()) for line in lines)
+    return len("".join(map(line_text, lines)).encode())
 
 
 def line_text(line: Line) -> str:

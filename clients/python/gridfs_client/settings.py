@@ -6,8 +6,9 @@ import os
 import re
 import shlex
 import time
-from collections.abc import Mapping, Sequence
+from collections.abc import Callable, Mapping, Sequence
 from contextlib import suppress
+from functools import cached_property
 from pathlib import Path
 from typing import IO, NamedTuple
 
@@ -46,7 +47,7 @@ SETTINGS: dict[str, Setting] = {
     "helpers": Setting("3", "N", "how many more of these move a content in many pieces, besides"),
     "timeout": Setting("30", "SECONDS", "how long an answer is waited for, from the beginning of the command or from the last one"),
     "locks": Setting(None, "FOLDER", "where commands tell each other the sessions they use (~/.cache/gridfs): one for all users of a tenant"),
-    "grid": Setting(None, "ROWSxCOLUMNS", "how the nodes are arranged, as 2x3; a square if left out, since nodes tell only how many there are"),
+    "grid": Setting(None, "ROWSxCOLUMNS", "how the nodes are arranged, as 2x3: nodes of before do not tell it"),
 }
 NAME = re.compile(r"(?!server\Z)[a-z]{1,16}\Z")
 
@@ -260,9 +261,14 @@ class Settings:
 
     def notes(self) -> Path:
         """The folder where commands tell each other something."""
-        folder = Path(self.values["locks"]) if "locks" in self.values else default_locks()
+        folder = Path(self.locks)
         folder.mkdir(parents=True, exist_ok=True)
         return folder
+
+    @cached_property
+    def locks(self) -> str:
+        """Its path."""
+        return self.values["locks"] if "locks" in self.values else str(default_locks())
 
     def end_path(self, number: int) -> Path:
         """The note of where the session came to its end (ends.py)."""
@@ -284,9 +290,14 @@ class Settings:
         return found
 
     def locked(self, number: int, word: str, how: int) -> IO[str] | None:
-        folder = self.notes()
         # (for reading, so that commands of several users can lock what one of them has made)
-        lock = open(folder / f"{self.tenant}-{number}.{word}", opener=lambda path, _: os.open(path, os.O_RDONLY | os.O_CREAT, 0o644))
+        opener: Callable[[str, int], int] = lambda path, _: os.open(path, os.O_RDONLY | os.O_CREAT, 0o644)
+        path = os.path.join(self.locks, f"{self.tenant}-{number}.{word}")
+        try:
+            lock = open(path, opener=opener)
+        except FileNotFoundError:
+            self.notes()
+            lock = open(path, opener=opener)
         try:
             fcntl.flock(lock, how)
             return lock

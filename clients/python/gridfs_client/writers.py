@@ -44,12 +44,14 @@ class Writer:
     def change(self, bucket: Bucket, journal: Page) -> None:
         """Announces and carries a journal, and notes the slots that its page doesn't name any more: once that was carried, no page that does is seen
         again."""
-        before = bucket.change(journal)
-        self.not_named(bucket.number, before.in_chunks() - journal.in_chunks())
-        self.keeper.release(before.slots(self.me) - journal.slots(self.me))
-        ended = before.puts() - journal.puts()
+        gone = bucket.change(journal).without(journal)
+        if not any(line.content and line.content.parts for line in gone.lines):
+            return
+        self.not_named(bucket.number, gone.in_chunks() - journal.in_chunks())
+        self.keeper.release(gone.slots(self.me) - journal.slots(self.me))
+        ended = gone.puts() - journal.puts()
         self.release_puts(ended)
-        if any(strand.session != self.me for part in before.parts() if part.put in ended for strand in part.strands):
+        if any(strand.session != self.me for part in gone.parts() if part.put in ended for strand in part.strands):
             with suppress(Unanswered):
                 self.keeper.flush()  # so that those who lent slots can see it
 

@@ -71,6 +71,11 @@ class Checks:
     def checksum(self, algorithm: str) -> Checksum:
         return checksums.of_digest(algorithm, self.sums[algorithm].digest())
 
+    def digest(self) -> bytes | None:
+        """SHA-256 of the content, where it was taken."""
+        found = self.sha256 or self.sums.get("sha256")
+        return found.digest() if found else None
+
     def told(self) -> list[Checksum]:
         """The checksums that the content came with, once they were judged."""
         return [self.checksum(algorithm) for algorithm in self.sums]
@@ -102,7 +107,8 @@ class Body:
         """Some bytes that came; None at the end, once all was found right but the digests. 400 RequestTimeout where they don't come, or too slowly."""
         self.begun = self.begun or time.monotonic()
         try:
-            data = await asyncio.wait_for(anext(self.parts, None), IDLE)
+            async with asyncio.timeout(IDLE):
+                data = await anext(self.parts, None)
         except asyncio.TimeoutError:
             raise S3Error("RequestTimeout") from None
         self.came += len(data or b"")
@@ -229,8 +235,8 @@ def body_of(asked: Asked, is_of_content: bool = True) -> Body:
 class Here:
     """A content that is here already, as one that is read by a thread."""
 
-    def __init__(self, size: int, md5: str, told: Sequence[Checksum] = ()):
-        self.told_size, self.md5, self.at = size, md5, 0
+    def __init__(self, size: int, md5: str, told: Sequence[Checksum] = (), sha256: bytes | None = None):
+        self.told_size, self.md5, self.at, self.sha256 = size, md5, 0, sha256
         self.told = {each.algorithm: each for each in told}
 
     def piece(self, at: int, length: int) -> bytes:
@@ -259,8 +265,8 @@ class Here:
 class Whole(Here):
     """One in memory."""
 
-    def __init__(self, data: bytes, md5: str, told: Sequence[Checksum] = ()):
-        super().__init__(len(data), md5, told)
+    def __init__(self, data: bytes, md5: str, told: Sequence[Checksum] = (), sha256: bytes | None = None):
+        super().__init__(len(data), md5, told, sha256)
         self.data = data
 
     def piece(self, at: int, length: int) -> bytes:
@@ -270,8 +276,8 @@ class Whole(Here):
 class Spooled(Here):
     """One in a file."""
 
-    def __init__(self, spool: Spool, md5: str, told: Sequence[Checksum] = ()):
-        super().__init__(spool.size, md5, told)
+    def __init__(self, spool: Spool, md5: str, told: Sequence[Checksum] = (), sha256: bytes | None = None):
+        super().__init__(spool.size, md5, told, sha256)
         self.spool = spool
 
     def piece(self, at: int, length: int) -> bytes:

@@ -44,12 +44,12 @@ class Buckets(Operations):
         return answer(document("ListAllMyBucketsResult", self.gateway.owner(), many("Buckets", *rows), *tail))
 
     async def create_bucket(self, asked: Asked) -> web.Response:
-        """200. 409 BucketAlreadyOwnedByYou; 400 InvalidBucketName, InvalidArgument (another region), MalformedXML."""
+        """200. 409 BucketAlreadyOwnedByYou; 400 InvalidBucketName, InvalidLocationConstraint (another region), MalformedXML."""
         check_bucket(asked.bucket)
         if body_of(asked).told_size:
             wanted = (await self.gateway.document(asked, "CreateBucketConfiguration")).told("LocationConstraint")
             if wanted not in (None, "", "EU", self.gateway.region):
-                raise S3Error("InvalidArgument", f"The only region here is {self.gateway.region}.")
+                raise S3Error("InvalidLocationConstraint", f"The only region here is {self.gateway.region}.")
         name = BUCKETS + asked.bucket
 
         def make(store: Store) -> None:

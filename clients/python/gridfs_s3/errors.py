@@ -26,6 +26,7 @@ ERRORS = {
     "InvalidArgument": (400, "A parameter is malformed."),
     "InvalidBucketName": (400, "A bucket's name has 3 to 63 of a-z, 0-9, - and ., a letter or digit at both ends, and is no address."),
     "InvalidDigest": (400, "Content-MD5 is malformed."),
+    "InvalidLocationConstraint": (400, "There is no such region here."),
     "InvalidPart": (400, "A part is not there, or has another ETag."),
     "InvalidPartOrder": (400, "The parts are not in ascending order."),
     "InvalidPolicyDocument": (400, "The policy of a form is JSON in base64, with an expiration and conditions."),

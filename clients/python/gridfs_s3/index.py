@@ -12,7 +12,7 @@ import threading
 import time
 from bisect import bisect_left
 from collections import OrderedDict
-from collections.abc import Iterable, Iterator, Sequence
+from collections.abc import Iterable, Iterator, Mapping, Sequence
 from contextlib import AbstractContextManager, ExitStack, contextmanager, nullcontext, suppress
 from heapq import merge
 from itertools import groupby, islice
@@ -343,10 +343,9 @@ class Index:
     def keep_text(self, page: int, session: int, known: Known, text: bytes) -> None:
         before = self.known(page, session)
         self.base.execute("insert or replace into pages values (?, ?, ?, ?)", (page * 64 + session, known.tag.number, known.tag.session, text))
-        self.change_rows(before.page.lines if before else (), known.page.lines, session)
+        self.change_rows(before.page.by_name if before else {}, known.page.by_name, session)
 
-    def change_rows(self, before: tuple[Line, ...], after: tuple[Line, ...], session: int) -> None:
-        old, new = {line.name: line for line in before}, {line.name: line for line in after}
+    def change_rows(self, old: Mapping[str, Line], new: Mapping[str, Line], session: int) -> None:
         changed = [name for name in old.keys() | new.keys() if old.get(name) is not new.get(name) and old.get(name) != new.get(name)]
         gone = [(name.encode(), session) for name in changed if name in old and name not in new]
         come = [stored(new[name], session, self.grid) for name in changed if name in new]
@@ -363,7 +362,7 @@ class Index:
         """The lines of a name."""
         return self.base.execute(f"select {COLUMNS} from rows where key = ? and name = ''", (name.encode(),)).fetchall()
 
-    def keys_of(self, name: str, old: dict[str, Line]) -> set[bytes]:
+    def keys_of(self, name: str, old: Mapping[str, Line]) -> set[bytes]:
         """The key of an object whose name does not tell it, as the lines say it that were known until now."""
         words = [each[WORDS] for each in self.lines(name)] + ([old[name].words] if name in old else [])
         return {key for key in (key_beside(name, each) for each in words) if key}

@@ -9,8 +9,9 @@ from .errors import S3Error
 from .gateway import Operations
 from .index import Names, Row, by_keys
 from .markup import document, element, many
-from .places import UPLOADS, number_of, of_words, upload_of
+from .places import NULL, UPLOADS, number_of, of_words, upload_of
 from .requests import Asked, answer, iso, place_of, token_of
+from .versions import ID
 
 
 def coding_of(asked: Asked) -> str | None:
@@ -157,8 +158,10 @@ class Listings(Operations):
         which the last one was cut, it goes on with all that are left of the key. 400 InvalidArgument, 404 NoSuchBucket."""
         await self.gateway.need_bucket(asked.bucket)
         after, version, coding = asked.query.get("key-marker", ""), asked.query.get("version-id-marker", ""), coding_of(asked)
-        if version and not after:
-            raise S3Error("InvalidArgument", "version-id-marker is wanted with key-marker.")
+        if version and "key-marker" not in asked.query:
+            raise S3Error("InvalidArgument", "A version-id marker cannot be specified without a key marker.")
+        if version and version != NULL and not ID.fullmatch(version):
+            raise S3Error("InvalidArgument", "Invalid version id specified")
         prefix, delimiter, most = self.words_of(asked)
         latest = set[str]()  # names of those versions that are the latest of their keys
 

@@ -131,7 +131,7 @@ class Get:
         self.spool: Spool | None = None
         self.came, self.is_whole = asyncio.Event(), False
         self.giving: asyncio.Task[None] | None = None
-        self.begun, self.given = 0.0, 0
+        self.begun, self.given, self.counted = 0.0, 0, metrics.given.labels(gateway.tenant)
 
     def choose(self, held: Held | None) -> tuple[int, int]:
         found = self.place.expect(held)
@@ -155,11 +155,12 @@ class Get:
     async def give(self, data: bytes) -> None:
         """A TimeoutError where it is not taken in time, or all is taken too slowly."""
         assert self.response is not None
-        await asyncio.wait_for(self.response.write(data), IDLE)
+        async with asyncio.timeout(IDLE):
+            await self.response.write(data)
         self.given += len(data)
         if is_too_slow(self.loop.time() - self.begun, self.given):
             raise asyncio.TimeoutError("it is taken too slowly")
-        metrics.given.labels(self.gateway.tenant).inc(len(data))
+        self.counted.inc(len(data))
 
     async def give_on(self) -> None:
         """Gives what comes into the file until it is whole."""
@@ -298,10 +299,10 @@ class Objects(Operations):
         async with self.gateway.places.one(asked) if body.told_size > LONG else nullcontext():
             await let_body_come(asked)
             if body.told_size <= IN_MEMORY:
-                yield Whole(await body.all(IN_MEMORY), body.checks.md5.hexdigest(), body.checks.told())
+                yield Whole(await body.all(IN_MEMORY), body.checks.md5.hexdigest(), body.checks.told(), body.checks.digest())
                 return
             with closing(await body.spooled()) as spool:
-                yield Spooled(spool, body.checks.md5.hexdigest(), body.checks.told())
+                yield Spooled(spool, body.checks.md5.hexdigest(), body.checks.told(), body.checks.digest())
 
     async def put_object(self, asked: Asked) -> web.Response:
         """200. With If-None-Match or If-Match: 412 PreconditionFailed, 404 NoSuchKey. 404 NoSuchBucket; 411 MissingContentLength; 507

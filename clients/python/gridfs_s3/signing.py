@@ -71,6 +71,17 @@ def seconds_of(stamp: str, code: str) -> int:
         raise S3Error(code, "The request has no time of the form 20260101T000000Z.") from None
 
 
+def expiry_of(text: str, code: str) -> int:
+    """For how many seconds a URL is good. What is wrong with it is told in the words of S3."""
+    if not re.fullmatch(r"-?[0-9]{1,19}", text) or int(text) >= 1 << 63:
+        raise S3Error(code, "X-Amz-Expires should be a number")
+    if int(text) < 1:
+        raise S3Error(code, "X-Amz-Expires must be non-negative, and is not 0")
+    if int(text) > LONGEST_EXPIRY:
+        raise S3Error(code, f"X-Amz-Expires must be less than a week (in seconds); that is, the given X-Amz-Expires must be less than {LONGEST_EXPIRY} seconds")
+    return int(text)
+
+
 ODD = re.compile("[\ud800-\udfff]")
 
 
@@ -143,10 +154,7 @@ def check(method: str, path: str, query: str, headers: list[tuple[str, str]], ke
         if abs(now - seconds) > SKEW:
             raise S3Error("RequestTimeTooSkewed")
     else:
-        expires = in_query.get("X-Amz-Expires", "")
-        if not re.fullmatch(r"[0-9]{1,7}", expires) or not 1 <= int(expires) <= LONGEST_EXPIRY:
-            raise S3Error(code, f"X-Amz-Expires is from 1 to {LONGEST_EXPIRY} seconds.")
-        if now > seconds + int(expires) or now < seconds - SKEW:
+        if now > seconds + expiry_of(in_query.get("X-Amz-Expires", ""), code) or now < seconds - SKEW:
             raise S3Error("AccessDenied", "Request has expired.")
     if access not in keys:
         raise S3Error("InvalidAccessKeyId")
