@@ -12,8 +12,9 @@ from servers import Servers
 
 from gridfs_client import BadSettings, Damaged, NamedFiles, NoRoom, NoSuchName, Replaced, Unanswered
 from gridfs_client.chunk_lines import CHUNK_CHARGE
-from gridfs_client.contents import InChunks, InSlots, PartList, parse_part
+from gridfs_client.contents import InChunks, Inline, InSlots, PartList, joined, parse_part
 from gridfs_client.pages import parse_line
+from gridfs_client.renewing import Renewed, renew
 from gridfs_client.status import usage_lines, usage_value
 from gridfs_client.usage import usage_of
 from registers import Stream
@@ -175,6 +176,167 @@ class Names(unittest.TestCase):
         self.assertGreater(len(files.writer.keeper.free()), free)
         self.assertEqual(self.world.client(2).get("name")[0], LONG)
         self.assertEqual(self.world.client(2).get("stays")[0], OLD)
+
+    def in_slots(self, **contents):
+        """Contents that were put before there was room for chunks, by session 1, with slots of session 2 where they want many."""
+        self.world = World(slots=16)
+        self.servers = self.world.servers
+        with mock.patch.object(Servers, "take", lambda *_: b"refused bad"):
+            files = self.world.client(1, helpers=(2,))
+            files.many_pieces = 3
+            for name, content in contents.items():
+                files.put(name, content, lambda: f"words-of-{name}")
+            files.close()
+            lines = [files.bucket(name).held(name) for name in contents]
+        self.assertTrue(all(isinstance(line.content, InSlots) for line in lines if line.content.size > 64))
+        return lines
+
+    def free(self, number):
+        """The slots that a session could take after a sweep."""
+        files = self.world.client(number)
+        files.writer.keeper.recall()
+        return len(files.writer.keeper.free())
+
+    def test_renew(self):
+        free = [16, 16]
+        before = self.in_slots(name=OLD, stays=NEW, long=os.urandom(1_500), short=b"in its line")
+        self.assertLess(self.free(2), free[1])  # (some were lent)
+        other = self.world.client(2)
+        contents = {held.name: other.get(held.name)[0] for held in before}
+        other.put("name", LONG)  # by then the first session's line is no more than an older one
+        files = self.world.client(1)
+        self.assertEqual(renew(files), Renewed(2, SHORT + 1_500, 0))
+        files.close()
+        self.assertEqual([self.free(number) for number in (1, 2)], free)
+        for reader in (other, self.world.client(1)):
+            self.assertEqual(reader.get("name")[0], LONG)
+            for held in before[1:]:
+                told, entry = reader.get(held.name)
+                self.assertEqual((told, entry.version, entry.session, entry.words), (contents[held.name], held.version.number, 1, held.words))
+        self.assertEqual(renew(self.world.client(1)), Renewed())
+        self.swept()
+
+    def joined(self):
+        """A session with one name, whose content is joined of two that were put before it."""
+        self.in_slots(one=OLD, two=LONG)
+        files = self.world.client(1)
+        bucket = files.bucket("one")
+        bucket.refresh()
+        bucket.look()
+        files.commit(bucket, "joined", joined([bucket.held(name).content for name in ("one", "two")]), besides=frozenset(["one", "two"]))
+        return files
+
+    def test_renew_joined(self):
+        files = self.joined()
+        self.assertEqual(renew(files), Renewed(1, len(OLD + LONG), 0))
+        files.close()
+        reader = self.refreshed(self.world.client(2), "joined")
+        self.assertEqual([type(part) for part in content_of(reader, "joined").parts], [InChunks, InChunks])
+        self.assertEqual(reader.get("joined")[0], OLD + LONG)
+
+    def test_renew_joined_without_room_for_all(self):
+        files = self.joined()
+        for server in self.servers.at.values():
+            server.allowed = 3 * (SHORT + CHUNK_CHARGE)
+        self.assertRaises(NoRoom, renew, files)
+        files.close()
+        self.assertEqual(self.world.kept(), set())
+        self.assertEqual(self.world.client(2).get("joined")[0], OLD + LONG)
+
+    def test_renew_dies_at_each_step(self):
+        for step in itertools.count(1):
+            self.setUp()
+            contents = {"name": OLD, "long": LONG, "more": os.urandom(120)}
+            self.in_slots(**contents)
+            files = self.world.client(1, kill_at(step))
+            try:
+                renew(files)
+                files.close()
+                is_done = True
+            except Killed:
+                is_done = False
+            files.session.carrier.die()
+            self.world.surface()
+            other = self.world.client(2)
+            self.assertEqual({name: other.get(name)[0] for name in contents}, contents)
+            self.world.client(1).put("last", NEW)
+            self.world.lines_come()
+            again = self.world.client(1)
+            renew(again)
+            again.close()
+            self.assertEqual({name: other.get(name)[0] for name in contents}, contents)
+            self.assertEqual(other.get("last")[0], NEW)
+            self.swept()
+            if is_done:
+                break
+        self.assertGreater(step, 15)
+
+    def test_renew_while_others_put(self):
+        """A put of another session at each step of it counts afterwards, and a get that it overtakes tells the same bytes."""
+        for at in itertools.count(1):
+            self.setUp()
+            self.in_slots(name=OLD, long=LONG)
+            other = self.world.client(2)
+            other.get("name")
+            is_put = False
+
+            def step(now):
+                nonlocal is_put
+                if now == at:
+                    is_put = True
+                    other.put("name", NEW)
+
+            files = self.world.client(1, step)
+            renew(files)
+            files.close()
+            for reader in (other, self.world.client(1)):
+                self.assertEqual((reader.get("name")[0], reader.get("long")[0]), (NEW if is_put else OLD, LONG))
+            other.close()
+            self.assertEqual(self.world.kept(), self.world.named())
+            self.swept()
+            if not is_put:
+                break
+        self.assertGreater(at, 15)
+
+    def test_renew_without_room(self):
+        self.in_slots(name=OLD, long=LONG)
+        with mock.patch.object(Servers, "take", lambda *_: b"refused bad"):
+            self.assertRaises(BadSettings, renew, self.world.client(1))
+        for server in self.servers.at.values():
+            server.allowed = 3 * (SHORT + CHUNK_CHARGE)
+        files = self.world.client(1)
+        self.assertRaises(NoRoom, renew, files)  # (the first content has room, and has moved)
+        files.close()
+        reader = self.world.client(2)
+        self.assertEqual([type(content_of(self.refreshed(reader, name), name)) for name in ("name", "long")], [InChunks, InSlots])
+        self.assertEqual((reader.get("name")[0], reader.get("long")[0]), (OLD, LONG))
+        self.assertEqual(self.world.kept(), self.world.named())
+        self.swept()
+
+    def refreshed(self, files, name):
+        files.stat(name)
+        return files
+
+    def test_renew_in_a_full_page(self):
+        """Words of chunks are longer than those of slots. What its page has no room for stays, and can be put and taken away as before."""
+        self.world = World(slots=30)
+        names, kept = [f"name-{number}" for number in range(30)], {}
+        with mock.patch.object(Servers, "take", lambda *_: b"refused bad"):
+            files = self.world.client(1)
+            try:
+                for name in names:
+                    files.put(name, OLD[: 65 + len(kept)])
+                    kept[name] = OLD[: 65 + len(kept)]
+            except NoRoom:
+                pass
+            files.close()
+        files = self.world.client(1)
+        told = renew(files)
+        self.assertGreater(told.left, 0)
+        self.assertEqual(told.moved + told.left, len(kept))
+        reader = self.world.client(2)
+        self.assertEqual({name: reader.get(name)[0] for name in kept}, kept)
+        files.remove("name-0")
 
     def test_a_node_is_silent_amid_a_put(self):
         self.servers.at[2].is_up = False  # column 0 is not wholly up

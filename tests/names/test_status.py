@@ -313,6 +313,39 @@ class Waiting(unittest.TestCase):
                 sessions.close()
 
 
+    def test_a_silent_home_and_sessions_that_are_used(self):
+        """One home is silent, and the session of the other one comes free: it is waited for, and the silent one is tried once."""
+        home = Home(1)
+
+        def play(node, body):
+            if body == "plan":
+                return [(str(node), "plan 2 0 2 3000 16 8.16")]
+            return home(node, body) if node == 1 else []
+
+        for freed in (None, 20):
+            carrier, home.last = Played(play), 0
+            with tempfile.TemporaryDirectory() as folder:
+                sessions = self.opened(carrier, folder)
+                lock = sessions.settings.lock(2)
+
+                def sleep(seconds):
+                    carrier.clock += seconds
+                    if freed and carrier.clock > freed:
+                        lock.close()
+
+                with mock.patch("time.sleep", sleep), lock:
+                    if not freed:
+                        with self.assertRaisesRegex(SessionTaken, "session all is used by other commands"):
+                            sessions.first()
+                        self.assertLess(carrier.clock, 34)
+                        continue
+                    session = sessions.first()
+                self.assertEqual(session.number, 2)
+                self.assertLess(carrier.clock, 21)
+                self.assertGreater(session.pace.timeout, 25)
+                sessions.close()
+
+
 class Used(unittest.TestCase):
     def test_usage(self):
         memory = Memory(sessions=2, pages=2, slots=8, slot_blocks=2)

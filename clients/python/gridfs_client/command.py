@@ -25,8 +25,10 @@ from .layout import BLOCK, layout_of
 from .local import INPUT, complain, content_of, cut, go_to, json_of, out, out_lines, rewindable, to_target
 from .mirror import GRID, Removal, ToFolder, ToGrid, prefix_of, shown
 from .names import Entry, NamedFiles, place_to_cut
-from .open_grids import OpenGrids
+from .open_grids import OpenGrids, one_by_one
 from .opening import LEAST, OpenSessions, turn_of
+from .renewing import Renewed
+from .renewing import renew as renewed
 from .sessions import Session
 from .settings import SETTINGS, Settings, default_file
 from .status import nodes_lines, nodes_value, usage_lines, usage_value
@@ -138,6 +140,10 @@ class Opened:
     def turn_of(self, name: str) -> int:
         return turn_of(name, len(self.sessions.numbers))
 
+    def one_by_one(self) -> Iterator[tuple[str, NamedFiles | None]]:
+        """The names by one session after another; None for one that can't be had."""
+        return ((str(number), names) for number, names in one_by_one(self.settings, self.told, self.carrier, self.progress))
+
     @contextmanager
     def names_for(self, name: str) -> Iterator[NamedFiles]:
         """The names by a session of their own, the one that depends on the name if that is free; others may have it again afterwards."""
@@ -173,6 +179,9 @@ class OpenedFleet:
 
     def prepare(self) -> None:
         self.grids.take_latest_map()
+
+    def one_by_one(self) -> Iterator[tuple[str, NamedFiles | None]]:
+        return self.grids.one_by_one()
 
     def turn_of(self, name: str) -> int:
         return self.grids.turn_of(name)
@@ -234,6 +243,7 @@ def parser() -> argparse.ArgumentParser:
     word("sweep", sweep, "forget names that were taken away, and find room that dead commands left taken; of all sessions that nobody uses",
          **{"--catch-up": dict(is_given, help="after damage: first let pages that are older than others ask for catch up"),
             "--erase": dict(is_given, help="write each slot that no name needs empty at every column, so that no node keeps an older copy")})  # fmt: skip
+    word("renew", renew, "move contents that are in slots to chunks, once a plan gives room for these; by one session after another, so that others go on")
     # What lies below names: the numbered files themselves.
     word("write", write, "write a numbered file; what names stand on can be spoilt so", volume=volume, file=number, path=source)
     word("read", read, "tell a numbered file's content", volume=volume, file=number, path=target)
@@ -346,6 +356,18 @@ def sweep(opened: Opened | OpenedFleet, args: argparse.Namespace) -> None:
     if swept.absent:
         text += f"; {'sessions' if len(swept.absent) > 1 else 'session'} {listed(swept.absent)} could not be had"
     tell(args, value | ({"caught_up": caught_up} if args.catch_up else {}), text)
+
+
+def renew(opened: Opened | OpenedFleet, args: argparse.Namespace) -> None:
+    opened.prepare()
+    told, absent = Renewed(), []
+    for session, names in opened.one_by_one():
+        if names:
+            told += renewed(names)
+        else:
+            absent.append(session)
+    text = f"contents: {told.moved} moved to chunks, {told.bytes} bytes; {told.left} left in slots, since their pages are too full"
+    tell(args, vars(told) | {"absent": absent}, text + (f"; {'sessions' if len(absent) > 1 else 'session'} {listed(absent)} could not be had" if absent else ""))
 
 
 def write(opened: Opened, args: argparse.Namespace) -> None:
@@ -502,7 +524,7 @@ def run(words: list[str]) -> None:
 
 def run_over_grids(args: argparse.Namespace, settings: Settings) -> None:
     """A command about the names of several grids."""
-    if args.call not in (put, get, ls, rm, stat, mirror, status, sweep):
+    if args.call not in (put, get, ls, rm, stat, mirror, status, sweep, renew):
         raise BadSettings(f"{args.word} is about one grid: leave `map` out, and name the settings of that grid")
     name = vars(args).get("name") or vars(args).get("names", [""])[0]
     is_shown = sys.stderr is not None and sys.stderr.isatty() and not args.quiet

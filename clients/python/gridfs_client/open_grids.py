@@ -5,10 +5,11 @@ from collections.abc import Collection, Iterator
 from contextlib import ExitStack, closing, contextmanager
 from typing import IO
 
-from .answers import MOST_SESSIONS
+from .answers import MOST_SESSIONS, PlanTold
 from .asking import SILENCE, ask_all, ask_plan
+from .carriers import Carrier
 from .errors import BadSettings, CarrierFault, ClientError, NoSuchName, SessionTaken, Unanswered
-from .fleet import MAP_NAME, FleetFiles, in_threads
+from .fleet import MAP_NAME, FleetFiles, ground_of, in_threads
 from .fleet_map import FleetMap, parse_map
 from .grid import Nodes, listed
 from .layout import Layout, layout_of
@@ -83,6 +84,19 @@ class OpenGrid:
         self.carrier.close()
 
 
+def one_by_one(settings: Settings, told: PlanTold, carrier: Carrier, progress: Progress | None, ground: Ground | None = None) -> Iterator[tuple[int, NamedFiles | None]]:
+    """The files by one session after another, so that others can be used meanwhile; None for one whose home is silent, or that others keep."""
+    for number in settings.session_numbers(told.sessions):
+        with closing(OpenSessions(settings.of_session(number), carrier.told or told, carrier, begun=carrier.now())) as sessions:
+            try:
+                files = NamedFiles(sessions.first(), layout_of(told), progress, ground=ground)
+            except (SessionTaken, Unanswered):
+                yield number, None
+                continue
+            yield number, files
+            files.close()
+
+
 @contextmanager
 def faults_of(grid: str) -> Iterator[None]:
     """Has a fault name the grid."""
@@ -105,6 +119,14 @@ class OpenGrids:
             with faults_of(grid):
                 self.open[grid] = OpenGrid(self.settings.of_grid(self.map.path, grid, self.map.grids[grid]), self.name)
         return self.open[grid]
+
+    def one_by_one(self) -> Iterator[tuple[str, NamedFiles | None]]:
+        """The files of one grid after another, by one session after another, as `one_by_one` has them."""
+        for name in self.map.grids:
+            grid = self.grid(name)
+            with faults_of(name):
+                for number, files in one_by_one(grid.settings, grid.told, grid.carrier, self.progress, ground_of(self.map, name)):
+                    yield f"{number} of {name}", files
 
     def layout(self, grid: str) -> Layout:
         return self.grid(grid).layout

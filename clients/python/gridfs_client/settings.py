@@ -158,6 +158,10 @@ class Settings:
         kept = ["timeout", "helpers", *(["session"] if self.values.get("session", "all") != "all" else [])]
         return Settings(values | {key: self.values[key] for key in kept if key in self.values})
 
+    def of_session(self, number: int) -> "Settings":
+        """Those of a command that may use this session alone."""
+        return Settings(self.values | {"session": str(number)})
+
     def need(self, key: str) -> str:
         if key not in self.values:
             raise BadSettings(f"{key} is not set: {SETTINGS[key].meaning}")

@@ -91,9 +91,13 @@ class Writer:
     def announcement(self, bucket: Bucket, line: Line, besides: Collection[str] = ()) -> Page | None:
         """The journal that announces a line; None for no room. An eighth of the page is kept for removals, so that names can be taken away from a
         full one."""
-        room = self.layout.lines_room if line.content is None else self.layout.contents_room
         journal = bucket.changed(line, besides)
-        return journal if length_of_lines(journal.lines) + length_of_signposts(journal) <= room else None
+        return journal if self.has_room(journal, line.content is None) else None
+
+    def has_room(self, journal: Page, for_removals: bool = False) -> bool:
+        """Whether a page has room for these lines, beside what is kept for removals."""
+        room = self.layout.lines_room if for_removals else self.layout.contents_room
+        return length_of_lines(journal.lines) + length_of_signposts(journal) <= room
 
     def find_room(self) -> None:
         """Looks through all pages of the session for slots that are taken and not needed: left by a client that died, or of lines that can go. A
