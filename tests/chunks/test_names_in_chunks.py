@@ -5,6 +5,7 @@ import itertools
 import os
 import random
 import unittest
+from dataclasses import replace
 from unittest import mock
 
 from memory_with_chunks import SHORT, Killed, World
@@ -483,6 +484,15 @@ class Names(unittest.TestCase):
         end = ["; chunks are lacking at node 64", "; node 3 did not answer"]
         self.assertEqual(lines, [f"chunks in column {each}: {used[each]} bytes used of {64 << 20}{end[each]}" for each in (0, 1)])
         self.assertEqual(usage_value(usage, None)["chunks"][1], {"column": 1, "used": used[1], "allowed": 64 << 20, "silent": (3,), "lacking": ()})
+
+    def test_the_status_tells_no_slots_where_there_are_none(self):
+        files = self.world.client(1)
+        files.put("name", LONG)
+        usage = usage_of(files)
+        self.assertTrue(any("slots" in line for line in usage_lines(usage, None)))
+        for usage in (replace(usage, slots_free=1), replace(usage, slots_free=0)):
+            self.assertEqual([line for line in usage_lines(usage, None) if "slots" in line or line.startswith("bytes")], [f"bytes: {len(LONG)} used"])
+        self.assertTrue(any("slots" in line for line in usage_lines(replace(usage, slots_taken=1), None)))
 
     def test_what_is_replaced_can_be_read_for_a_while(self):
         files = self.world.client(1)

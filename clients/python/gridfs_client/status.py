@@ -79,13 +79,23 @@ def nodes_lines(nodes: Nodes) -> list[str]:
 def usage_lines(usage: Usage | None, left_out: str | None) -> list[str]:
     if usage is None:
         return [f"names, pages, slots, bytes: left out: {left_out}"]
-    page, unnamed = usage.fullest, usage.slots_without_a_name
+    page = usage.fullest
     return [
         f"names: {usage.names}",
         f"pages: {usage.pages}, the fullest at {page.percent} percent (page {page.page} of session {page.session}, {page.bytes} of {page.most} bytes)",
+        *slot_lines(usage),
+        *map(column_line, usage.columns),
+    ]
+
+
+def slot_lines(usage: Usage) -> list[str]:
+    """What is used, and slots, where the plan has any: a tenant whose contents are all in chunks has one small file behind its names."""
+    if usage.columns and not usage.slots_taken and usage.slots_free <= 1:
+        return [f"bytes: {usage.bytes_used} used"]
+    unnamed = usage.slots_without_a_name
+    return [
         f"slots: {usage.slots_taken} used{f', of which {unnamed} are freed when room is wanted' if unnamed else ''}, {usage.slots_free} free",
         f"bytes: {usage.bytes_used} used, {usage.bytes_free} free{' in slots' * bool(usage.columns)}",
-        *map(column_line, usage.columns),
     ]
 
 

@@ -9,8 +9,8 @@
                         mqtt    a broker, mosquitto, with nginx before it (docs/MACHINES.md has its packages)
     --s3              with an endpoint of S3: a gateway for each tenant with names, and nginx before them (docs/S3.md). A later
                       start has it too, unless it is told --no-s3
-    --plan FILE       the plan of a first start: who may store how much. Without it tenants ann, bob and carol, some 80 MB, and
-                      120 MiB of memory a node. Later a plan that goes on from the last one (docs/OPERATING.md, Grow)
+    --plan FILE       the plan of a first start: who may store how much. Without it tenants ann, bob and carol, who has 10 GiB
+                      on disk. Later a plan that goes on from the last one (docs/OPERATING.md, Grow)
     --replace N       node N was lost with its journal: a new node, N + 64, takes its place (docs/FAULTS.md)
     --program FILE    the program `gridfs` ($GRIDFS, or else the one of this checkout, which is built at first, in two to four minutes)
 

@@ -5,7 +5,7 @@ import os
 TOP = os.path.realpath(os.path.join(os.path.dirname(os.path.abspath(__file__)), "..", "..", ".."))
 CLIENT = os.path.join(TOP, "clients", "python", "gridfs-client")
 PROGRAM = os.path.join(TOP, "gridfs")
-PLAN = os.path.join(TOP, "examples", "nodes", "plan-with-room")  # of a first start, where none is named
+PLAN = os.path.join(TOP, "examples", "nodes", "plan-in-chunks")  # of a first start, where none is named
 S3_PLAN = os.path.join(TOP, "deploy", "s3", "plan")
 GATEWAY = os.path.join(TOP, "clients", "python", "gridfs-s3")
 CARRIERS = os.path.join(TOP, "deploy", "carrier")
