@@ -934,7 +934,7 @@ class Requests(Case):
         with urllib.request.urlopen(f"{URL}/metrics") as told:
             text = told.read().decode()
         self.assertRegex(text, r'gridfs_s3_requests_total\{operation="PutObject",status="200",tenant="\w+"\} \d+')
-        self.assertRegex(text, r'gridfs_s3_slot_bytes\{grid="",state="left",tenant="\w+"\} [1-9]')
+        self.assertRegex(text, r'gridfs_s3_(slot|chunk)_bytes\{grid="",state="left",tenant="\w+"\} [1-9]')
         self.assertEqual(self.ask("GET", "/metrics", sign=False, headers={"X-Forwarded-For": "1.2.3.4"})[0], 403)
 
 
