@@ -714,6 +714,7 @@ class Requests(Case):
         self.assertEqual(self.code(self.ask("GET", "/", secret="wrong")), "SignatureDoesNotMatch")
         self.assertEqual(self.code(self.ask("GET", "/", access="nobody")), "AccessDenied" if IS_BEHIND else "InvalidAccessKeyId")
         self.assertEqual(self.code(self.ask("GET", "/", sign=False, headers={"Authorization": "AWS carol:abc"})), "InvalidRequest")
+        self.assertEqual(self.code(self.ask("GET", f"/{self.bucket}/a?AWSAccessKeyId=carol&Signature=abc&Expires=1", sign=False)), "InvalidRequest")
         status, text, request = self.ask("GET", "/")
         self.assertEqual(status, 200)
         # A header of Amazon's that is not signed
