@@ -313,6 +313,11 @@ class Asked(unittest.TestCase):
         for body in (b"got 1 2 3", b"kept 1 2", b"kept 1 2 x", b"chunks 1", b"chunks 1 0 0 5", b"room 1 2 3", b"refused room 1 2", b"refused nofile 1 2 3 4", b"done", b"none 1"):
             self.assertIsNone(parse_chunk(0, body), body)
         self.assertEqual(parse_chunk(3, b"refused bad").word, "bad")
+        for word, content in ((b"~a\\040b\\\\", b"a b\\"), (b"~", b""), (b"=a\\sb", b"a b"), (b"~" + b"x" * 200, b"x" * 200)):
+            told = parse_chunk(3, b"got 16 18446744073709551615 1048576 1048575 " + word)
+            self.assertEqual((told.key, told.numbers, told.content), ((16, 18446744073709551615), (1048576, 1048575), content))
+        for body in (b"got 1 2 3 4", b"got 1 2 3 4 ", b"got 1 2 3 4 x", b"got 1 2 3 x ~a", b"got 1 2 3 4 ~a b", b"got 1 2 3 4  ~a", b"got 1 2 3 ~a"):
+            self.assertIsNone(parse_chunk(0, body), body)
 
 
 if __name__ == "__main__":

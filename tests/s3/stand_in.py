@@ -36,7 +36,8 @@ def tenants_of(text):
         if words[0] == "tenant":
             found[words[1]] = Tenant(int(words[3]), int(words[2]), int(words[5]))
         elif words[1:2] == ["open"]:
-            found[words[0]].volumes.append((int(words[2]), int(words[3])))
+            times = int(words[5]) if words[4:5] == ["times"] else 1
+            found[words[0]].volumes += [(int(words[2]), int(words[3]))] * times
         elif words[1:2] == ["chunks"]:
             found[words[0]].chunks = Server(0, 1024 * int(words[2]))
     return found

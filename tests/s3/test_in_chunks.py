@@ -11,13 +11,14 @@ from unittest import mock
 
 HERE = os.path.dirname(os.path.abspath(__file__))
 sys.path[:0] = [HERE, os.path.join(HERE, "..", "chunks"), os.path.join(HERE, "..", "names")]
-import code_of_s3  # noqa: F401  (which says where the code is)
+import code_of_s3
 import endpoint
 from bodies_in_memory import Body
 from memory_with_chunks import Killed, World
 
 from gridfs_client import OneByOne
 from gridfs_client.contents import Joined, PartList
+from gridfs_client.errors import Replaced
 from gridfs_client.in_chunks import ChunkContents
 from gridfs_s3.errors import S3Error
 from gridfs_s3.part_lists import Uploaded
@@ -28,6 +29,18 @@ from gridfs_s3.versions import Target
 
 NAME, BUCKET, MIB = "bucket/key", "bucket", 1 << 20
 OLD, PARTS = os.urandom(330), [os.urandom(250), os.urandom(10), os.urandom(400)]
+
+
+SHORT_FILES = """
+import sys
+from gridfs_s3 import objects, program
+class Spool(objects.Spool):
+    def close(self):
+        print("a file of", self.size, file=sys.stderr, flush=True)
+        super().close()
+objects.Spool, objects.OF_A_FILE = Spool, 2_000_000
+program.main(sys.argv[1:])
+"""
 
 
 def new_world():
@@ -188,6 +201,24 @@ class Many(unittest.TestCase):
         self.assertLess(len(gets), 102)  # (so many parts may have that many bytes)
         self.assertEqual(sum(int(body.split()[4]) for body in gets), 100)
 
+    def test_read_some_parts_at_a_time(self):
+        """What is told at a time ends behind a part. Once the object is replaced, and its chunks are forgotten, there is no more of it."""
+        complete(self.objects, self.upload)
+        other, whole, most = store(self.world, 2), b"".join(self.parts.values()), 1_000
+        held, ends = other.look(NAME), set(itertools.accumulate(map(len, self.parts.values())))
+        for first, end in ((0, len(whole)), (77, 9_000)):
+            at = first
+            while at < end:
+                told = b"".join(other.content(held, at, end, most))
+                self.assertEqual(told, whole[at : at + len(told)])
+                at += len(told)
+                self.assertTrue(at == end or at in ends and most <= len(told) < most + 130, (at, len(told)))
+            self.assertEqual(at, end)
+        put(self.objects, NAME, b"new" * 500)
+        self.objects.recall()
+        with self.assertRaises(Replaced):
+            list(store(self.world, 2).content(held, most, len(whole), most))
+
     def test_some_of_them_are_chosen(self):
         wanted = [number for number in self.parts if number % 3]
         complete(self.objects, self.upload, wanted)
@@ -258,6 +289,40 @@ class Through(unittest.TestCase):
         chosen = [{"PartNumber": number, "ETag": each} for number, each in enumerate(told, 1)]
         self.client.complete_multipart_upload(Bucket="bucket", Key="key", UploadId=upload, MultipartUpload={"Parts": chosen})
         self.assertEqual(self.get("key"), b"".join(b"%d " % number * 20 for number in range(1, count + 1)))
+
+    def test_a_long_get_fills_no_disk(self):
+        """Its bytes come by files of some parts each, one after another, by whichever sessions; and not on once nobody takes them."""
+        self.gateway.end()
+        self.enterContext(mock.patch.dict(os.environ, {"PYTHONPATH": code_of_s3.CODE}))
+        (found,) = self.enterContext(endpoint.gateways(self.room, program=(sys.executable, "-B", "-c", SHORT_FILES)))
+        client, parts = found.client(), [os.urandom(MIB + 300_000) for _ in range(8)]
+        upload = {"Bucket": "bucket", "Key": "key"}
+        upload["UploadId"] = client.create_multipart_upload(**upload)["UploadId"]
+        chosen = [{"PartNumber": number, "ETag": client.upload_part(**upload, PartNumber=number, Body=part)["ETag"]} for number, part in enumerate(parts, 1)]
+        client.complete_multipart_upload(**upload, MultipartUpload={"Parts": chosen})
+        whole = b"".join(parts)
+
+        def get(**words):
+            before = len(found.told())
+            content = client.get_object(Bucket="bucket", Key="key", **words)["Body"].read()
+            time.sleep(0.2)
+            return content, [int(words.split()[3]) for words in found.told(before).splitlines() if words.startswith("a file of ")]
+
+        content, files = get()
+        self.assertEqual(content, whole)
+        self.assertEqual((sum(files), max(files), len(files)), (len(whole), 2 * len(parts[0]), 4))
+        content, files = get(Range=f"bytes=1000000-{len(whole) - 5}")
+        self.assertEqual(content, whole[1_000_000 : len(whole) - 4])
+        self.assertLessEqual(max(files), 3 * len(parts[0]))
+        body = client.get_object(Bucket="bucket", Key="key")["Body"]
+        begun = body.read(100)
+        time.sleep(1)
+        self.assertEqual(begun + body.read(), whole)
+        body = client.get_object(Bucket="bucket", Key="key")["Body"]
+        body.read(100)
+        body.close()
+        self.assertEqual(client.get_object(Bucket="bucket", Key="key", Range="bytes=0-9")["Body"].read(), whole[:10])
+        self.assertNotIn("Traceback", found.told())
 
     def test_what_a_killed_gateway_leaves(self):
         self.client.put_object(Bucket="bucket", Key="key", Body=os.urandom(3 * MIB))

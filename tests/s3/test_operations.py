@@ -714,6 +714,7 @@ class Requests(Case):
         self.assertEqual(self.code(self.ask("GET", "/", secret="wrong")), "SignatureDoesNotMatch")
         self.assertEqual(self.code(self.ask("GET", "/", access="nobody")), "AccessDenied" if IS_BEHIND else "InvalidAccessKeyId")
         self.assertEqual(self.code(self.ask("GET", "/", sign=False, headers={"Authorization": "AWS carol:abc"})), "InvalidRequest")
+        self.assertEqual(self.code(self.ask("GET", f"/{self.bucket}/a?AWSAccessKeyId=carol&Signature=abc&Expires=1", sign=False)), "InvalidRequest")
         status, text, request = self.ask("GET", "/")
         self.assertEqual(status, 200)
         # A header of Amazon's that is not signed
@@ -934,7 +935,7 @@ class Requests(Case):
         with urllib.request.urlopen(f"{URL}/metrics") as told:
             text = told.read().decode()
         self.assertRegex(text, r'gridfs_s3_requests_total\{operation="PutObject",status="200",tenant="\w+"\} \d+')
-        self.assertRegex(text, r'gridfs_s3_slot_bytes\{grid="",state="left",tenant="\w+"\} [1-9]')
+        self.assertRegex(text, r'gridfs_s3_(slot|chunk)_bytes\{grid="",state="left",tenant="\w+"\} [1-9]')
         self.assertEqual(self.ask("GET", "/metrics", sign=False, headers={"X-Forwarded-For": "1.2.3.4"})[0], 403)
 
 

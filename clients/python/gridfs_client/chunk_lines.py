@@ -8,6 +8,7 @@ CHUNK_CHARGE = 512  # bytes of room that each chunk takes beside its own
 ROOM = 0, 0  # by which an answer about room is known; others by a session and a number
 WORDS = frozenset((b"kept", b"got", b"none", b"lacks", b"damaged", b"forgot", b"chunks", b"room"))
 REFUSALS = frozenset((b"differs", b"below", b"room"))
+MOST_HEAD = 128  # bytes before the content that is told, at most
 ESCAPED = ((b"\\s", b" "), (b"\\n", b"\n"), (b"\\b", b"\\"))  # in a content behind `=`; the backslash is the last one
 
 
@@ -29,14 +30,14 @@ def content_word(content: bytes) -> bytes:
     return b"~" + content.replace(b"\\", b"\\\\").replace(b"\n", b"\\n").replace(b" ", b"\\040")
 
 
-def content_in(word: bytes) -> bytes:
-    """The content that a word is; a ValueError where it is none."""
-    if word.startswith(b"~"):
-        content: bytes = codecs.escape_decode(memoryview(word)[1:])[0] if b"\\" in word else word[1:]  # type: ignore[assignment]
+def content_in(line: bytes, at: int = 0) -> bytes:
+    """The content that a word is with which a line ends; a ValueError where it is none. (It may be long, so it is copied once.)"""
+    if line.startswith(b"~", at):
+        content: bytes = codecs.escape_decode(memoryview(line)[at + 1 :])[0] if line.find(b"\\", at) >= 0 else line[at + 1 :]  # type: ignore[assignment]
         return content
-    if not word.startswith(b"="):
-        raise ValueError(word[:1])
-    content = word[1:]
+    if not line.startswith(b"=", at):
+        raise ValueError(line[at : at + 1])
+    content = line[at + 1 :]
     for text, byte in ESCAPED:
         content = content.replace(text, byte)
     return content
@@ -54,12 +55,13 @@ def parse_list(node: int, words: list[bytes]) -> ChunkTold:
 
 
 def parse_got(node: int, body: bytes) -> ChunkTold:
-    """A content that is told. (It may be long, so it is copied as few times as can be.)"""
-    _, *head, word = body.split(b" ", 5)
-    session, number, size, first = map(int, head)
-    if b" " in word:
-        raise ValueError(head)
-    return ChunkTold(node, "got", (session, number), (size, first), content_in(word))
+    """A content that is told."""
+    head = body[:MOST_HEAD].split(b" ", 5)
+    session, number, size, first = map(int, head[1:5])
+    at = sum(len(word) + 1 for word in head[:5])
+    if len(head) < 6 or body.find(b" ", at) >= 0:
+        raise ValueError(head[:5])
+    return ChunkTold(node, "got", (session, number), (size, first), content_in(body, at))
 
 
 def parse_chunk(node: int, body: bytes) -> ChunkTold | None:

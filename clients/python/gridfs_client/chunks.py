@@ -351,6 +351,12 @@ class Chunks:
         every = ([self.ahead.rooms[place].allowed for place in self.shape.column(column) if place in self.ahead.rooms] for column in range(self.shape.columns))
         return sum(max(allowed, default=0) for allowed in every)
 
+    def room_told(self) -> tuple[int, int]:
+        """The bytes that are used in all columns, and those that are left, as it was told last: of each column by its fullest node."""
+        columns = ([self.ahead.rooms[place] for place in self.shape.column(column) if place in self.ahead.rooms] for column in range(self.shape.columns))
+        found = [(max(room.used for room in here), min(room.free for room in here)) for here in columns if here]
+        return sum(used for used, _ in found), sum(free for _, free in found)
+
     def ask_rooms(self, seconds: float) -> Rooms | None:
         """The same, asked for anew; None where no node answers in so many seconds."""
         places = range(self.told.nodes)

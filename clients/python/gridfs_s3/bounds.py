@@ -23,6 +23,7 @@ MOST_CONNECTIONS = 2_048  # with more the oldest one ends on which nothing is as
 # Of bodies and answers
 IN_MEMORY = 1 << 16  # bytes up to which they are held in memory
 LONG = 1 << 20  # bytes from which on they want a place
+OF_A_FILE = 256 << 20  # bytes of an answer after which it goes on in another file, behind the part in which they end
 IDLE = 60.0  # seconds in which the next bytes have to come, or to be taken
 LEAST_RATE, GRACE = 4_096, 60.0  # bytes a second that have to come, or to be taken, on the whole; and seconds besides
 PLACES, OF_A_KEY, OF_A_URL = 64, 32, 4  # of long ones that are under way: in all, of an access key, of a signed URL or form

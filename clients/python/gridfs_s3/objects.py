@@ -2,7 +2,7 @@
 
 import asyncio
 import re
-from collections.abc import AsyncIterator, Callable
+from collections.abc import AsyncIterator, Callable, Iterator
 from contextlib import asynccontextmanager, closing, nullcontext
 
 from aiohttp import web
@@ -11,7 +11,7 @@ from gridfs_client.buckets import Held
 
 from . import bodies, metrics, tags
 from .bodies import Spooled, Whole, body_of
-from .bounds import BODY_PIECE, IDLE, IN_HAND, IN_MEMORY, LONG, Spool, is_too_slow
+from .bounds import BODY_PIECE, IDLE, IN_HAND, IN_MEMORY, LONG, OF_A_FILE, Spool, is_too_slow
 from .buckets import Buckets
 from .checksums import HEADER, algorithm_of
 from .errors import S3Error, error_of, tell
@@ -20,6 +20,7 @@ from .markup import document, element, many
 from .places import MOST_KEPT, MOST_METADATA, Object, Values
 from .requests import SERVER, Asked, answer, http_date, judge, range_wanted
 from .store import Body, Condition, Store
+from .trips import Elsewhere
 from .versions import HEADER as VERSION, MARKER, Place, Target, target_of
 
 MANY = 4 << 20  # bytes from which on idle sessions help
@@ -120,7 +121,8 @@ class IsLong(Exception):
 
 class Get:
     """One get: what is chosen of the object, and its answer, which begins once the first bytes are there. A session puts what is longer than a little into a
-    file, from which it is given as it is taken: so no session waits for who takes it."""
+    file, from which it is given as it is taken: so no session waits for who takes it. What is very long comes into one file after another, each once the one
+    before was taken: so whoever is slow does not fill the disk either."""
 
     def __init__(self, gateway: Gateway, asked: Asked, place: Place):
         self.gateway, self.asked, self.place = gateway, asked, place
@@ -129,9 +131,11 @@ class Get:
         self.loop = asyncio.get_running_loop()
         self.has_place = False
         self.spool: Spool | None = None
+        self.held: Held | None = None
+        self.next, self.end = 0, 0  # of the object: the byte to read next, and that behind the last one that is wanted
         self.came, self.is_whole = asyncio.Event(), False
         self.giving: asyncio.Task[None] | None = None
-        self.begun, self.given, self.counted = 0.0, 0, metrics.given.labels(gateway.tenant)
+        self.begun, self.given, self.of_file, self.counted = 0.0, 0, 0, metrics.given.labels(gateway.tenant)
 
     def choose(self, held: Held | None) -> tuple[int, int]:
         found = self.place.expect(held)
@@ -149,6 +153,10 @@ class Get:
 
     async def begin_to_give(self, held: Held) -> None:
         await self.begin(held)
+        self.begin_file()
+
+    def begin_file(self) -> None:
+        self.of_file, self.is_whole = 0, False
         self.giving = self.loop.create_task(self.give_on())
         self.giving.add_done_callback(lambda giving: giving.cancelled() or giving.exception())  # (whoever waits for it is told)
 
@@ -158,6 +166,7 @@ class Get:
         async with asyncio.timeout(IDLE):
             await self.response.write(data)
         self.given += len(data)
+        self.of_file += len(data)
         if is_too_slow(self.loop.time() - self.begun, self.given):
             raise asyncio.TimeoutError("it is taken too slowly")
         self.counted.inc(len(data))
@@ -168,7 +177,7 @@ class Get:
         while True:
             self.came.clear()
             is_whole = self.is_whole
-            while data := self.spool.read(self.given, BODY_PIECE):
+            while data := self.spool.read(self.of_file, BODY_PIECE):
                 await self.give(data)
             if is_whole:
                 return
@@ -176,22 +185,49 @@ class Get:
 
     def send(self, store: Store) -> tuple[Held, bytes] | None:
         """(A thread's.) Has what is read given; or tells it, where it is little."""
-        held, parts, data = store.read(self.place.name, self.choose, self.place.is_latest)
+        held, parts, data = store.read(self.place.name, self.choose, self.place.is_latest, OF_A_FILE)
         first, end = self.part or (0, held.content.size)
         with closing(parts):  # (what it reads ahead ends before the session has other work)
             if len(data) == end - first <= IN_MEMORY:
                 for _ in parts:
                     pass
                 return held, data
-            self.spool = self.spool or Spool()
+            self.held, self.next, self.end, self.spool = held, first, end, self.spool or Spool()
             asyncio.run_coroutine_threadsafe(self.begin_to_give(held), self.loop).result()
-            while data:
-                self.spool.add(data)
-                self.loop.call_soon_threadsafe(self.came.set)
-                if self.giving and self.giving.done():
-                    raise ConnectionResetError("the client has gone")
-                data = next(parts, b"")
+            self.fill(parts, data)
         return None
+
+    def send_on(self, store: Store) -> None:
+        """(A thread's.) Has more of the same content given, by the next file. Replaced where it is gone."""
+        assert self.held
+        if self.held.version.grid != store.grid:
+            raise Elsewhere(self.held.version.grid)
+        with closing(store.content(self.held, self.next, self.end, OF_A_FILE)) as parts:
+            self.fill(parts, next(parts))
+
+    def fill(self, parts: Iterator[bytes], data: bytes) -> None:
+        assert self.spool
+        while data:
+            self.spool.add(data)
+            self.next += len(data)
+            self.loop.call_soon_threadsafe(self.came.set)
+            if self.giving and self.giving.done():
+                raise ConnectionResetError("the client has gone")
+            data = next(parts, b"")
+
+    async def give_all(self) -> None:
+        """Gives the rest of the file, and then what is left of the object, file by file."""
+        while self.giving:
+            self.is_whole = True
+            self.came.set()
+            await self.giving
+            if self.next == self.end:
+                return
+            if self.spool:
+                self.spool.close()
+            self.spool, begin = Spool(), self.next
+            self.begin_file()
+            await self.gateway.look(self.place.name, self.send_on, HELPERS, lambda begin=begin: self.next > begin)  # type: ignore[misc]
 
     async def run(self) -> web.StreamResponse:
         try:
@@ -208,10 +244,8 @@ class Get:
                 held, data = rest
                 await self.begin(held)
                 await self.give(data)
-            elif self.giving:
-                self.is_whole = True
-                self.came.set()
-                await self.giving
+            else:
+                await self.give_all()
         except (Exception, asyncio.CancelledError) as fault:
             if self.response is None:
                 raise

@@ -1,7 +1,7 @@
 """Reading objects by one session: what names hold, and contents by ranges."""
 
 import hashlib
-from collections.abc import Callable, Generator, Iterator, Sequence
+from collections.abc import Callable, Generator, Iterable, Iterator, Sequence
 from contextlib import closing
 from dataclasses import dataclass
 from functools import partial
@@ -11,7 +11,7 @@ from gridfs_client.answers import Row
 from gridfs_client.buckets import Bucket, Held, held_of
 from gridfs_client.contents import Inline, InSlots, Part, digest_in_hex
 from gridfs_client.errors import Damaged, Replaced, Unanswered
-from gridfs_client.in_chunks import Gone
+from gridfs_client.in_chunks import Cut, Gone
 from gridfs_client.layout import Layout
 from gridfs_client.names import BEGINNINGS, NamedFiles, read_piece, where_of
 from gridfs_client.pieces import head, without_head
@@ -34,6 +34,16 @@ class Span:
     file: int
     begin: int
     length: int
+
+
+def first_of(cuts: Iterable[Cut], most: int | None) -> Iterator[Cut]:
+    """The first of these, until they have so many bytes."""
+    count = 0
+    for cut in cuts:
+        yield cut
+        count += cut.end - cut.first
+        if most is not None and count >= most:
+            return
 
 
 class Reader(NamedFiles):
@@ -120,16 +130,16 @@ class Reader(NamedFiles):
             if left:
                 raise Damaged(f"{held.name}: its slots don't hold it")
 
-    def content(self, held: Held, first: int, end: int) -> Generator[bytes, None, None]:
+    def content(self, held: Held, first: int, end: int, most: int | None = None) -> Generator[bytes, None, None]:
         """The bytes from the first to before the end. Replaced where a slot has something else by now. Of a part that is read whole the last bytes are told
-        once its digest was found right."""
+        once its digest was found right. With `most` those of a content in chunks end behind the part in which so many are told."""
         if isinstance(held.content, Inline):
             yield held.content.content[first:end]
             return
         if any(isinstance(part, InSlots) for part in held.content.parts):
             yield from self.content_in_order(held, first, end)
         else:
-            yield from self.in_chunks(held, held.content.parts, first, end)
+            yield from self.in_chunks(held, held.content.parts, first, end, most)
 
     def content_in_order(self, held: Held, first: int, end: int) -> Generator[bytes, None, None]:
         """The same of a content of which some parts are in slots: parts in chunks, and between them those that are in slots together."""
@@ -144,10 +154,10 @@ class Reader(NamedFiles):
                     yield from self.in_chunks(held, some, first - begin, end - begin)
             begin = behind
 
-    def in_chunks(self, held: Held, parts: Sequence[Part], first: int, end: int) -> Generator[bytes, None, None]:
+    def in_chunks(self, held: Held, parts: Sequence[Part], first: int, end: int, most: int | None = None) -> Generator[bytes, None, None]:
         contents = self.chunk_contents(held.name)
         try:
-            with closing(contents.read_cuts(contents.cuts(parts, first, end))) as found:
+            with closing(contents.read_cuts(first_of(contents.cuts(parts, first, end), most))) as found:
                 yield from found
         except Gone:
             raise Replaced(f"{held.name}: replaced while it was read") from None
@@ -191,16 +201,18 @@ class Reader(NamedFiles):
                     raise
                 self.more, self.helpers = lambda _: (), {}
 
-    def read(self, name: str, choose: Callable[[Held | None], tuple[int, int]], is_latest: bool = False) -> tuple[Held, Generator[bytes, None, None], bytes]:
-        """What a name holds, or the latest version of the object of this name; its bytes in the range that is chosen by that, and before them the first ones, which
-        are there for sure."""
+    def read(
+        self, name: str, choose: Callable[[Held | None], tuple[int, int]], is_latest: bool = False, most: int | None = None
+    ) -> tuple[Held, Generator[bytes, None, None], bytes]:
+        """What a name holds, or the latest version of the object of this name; its bytes in the range that is chosen by that, as `content` has them, and before them
+        the first ones, which are there for sure."""
         for _ in range(BEGINNINGS):
             held = self.latest(name) if is_latest else self.look(name)
             first, end = choose(held)
             assert held
             if held.version.grid != self.grid:
                 raise Elsewhere(held.version.grid)
-            parts = self.content(held, first, end)
+            parts = self.content(held, first, end, most)
             try:
                 return held, parts, next(parts, b"")
             except Replaced:

@@ -15,10 +15,12 @@ from typing import Any, TypeVar
 from gridfs_client.answers import NO_SESSION, PlanTold
 from gridfs_client.asking import ask_plan
 from gridfs_client.carriers import Carrier
+from gridfs_client.chunks import Chunks
 from gridfs_client.core import Page
 from gridfs_client.ends import End, parse_end, read_end, write_end
 from gridfs_client.errors import BadSettings, CarrierFault, ClientError, NoSuchName, SessionTaken, Unanswered
 from gridfs_client.fleet_map import Move
+from gridfs_client.in_chunks import ChunkContents
 from gridfs_client.layout import Layout, layout_of
 from gridfs_client.names import NamedFiles
 from gridfs_client.opening import SOON
@@ -92,9 +94,13 @@ class Pool:
             others = self.claims.told()
             raise SessionTaken(f"other clients use all sessions that the settings name{': ' * bool(others)}{others}")
         self.carrier, self.sessions = carrier, told.sessions
-        contents = next((worker.store.writer.contents for worker in self.workers.values()), None)
-        if contents:
-            contents.chunks.ask_rooms(SOON)
+        self.ask_room()
+
+    def ask_room(self) -> None:
+        """(A thread's.) Asks nodes what room they have for chunks."""
+        if contents := self.chunk_contents():
+            each = contents.chunks
+            Chunks(each.carrier, each.told, each.number, each.shape, self.settings.pace).ask_rooms(SOON)
 
     def add(self, carrier: Carrier, number: int, home: int) -> Worker | None:
         """A worker of a session, or one that is there by this carrier; None where another client has it."""
@@ -183,9 +189,19 @@ class Pool:
     @property
     def most_bytes(self) -> int:
         """What all slots of all sessions have room for; or all columns, where there is room for chunks."""
-        contents = [worker.store.writer.contents for worker in self.workers.values()]
-        in_chunks = max((each.chunks.allowed() for each in contents if each), default=0)
+        contents = self.chunk_contents()
+        in_chunks = contents.chunks.allowed() if contents else 0
         return in_chunks or sum(slot.room for session in range(1, self.sessions + 1) for slot in self.layout.slots(session))
+
+    @property
+    def in_chunks(self) -> tuple[int, int]:
+        """The bytes of chunks, and those for which there is room, as nodes told them some seconds ago."""
+        contents = self.chunk_contents()
+        return contents.chunks.room_told() if contents else (0, 0)
+
+    def chunk_contents(self) -> ChunkContents | None:
+        """Those of some session, where it is said how the nodes are arranged."""
+        return next((worker.store.writer.contents for worker in self.workers.values()), None)
 
     def renew(self, worker: Worker) -> None:
         """Forgets all that the worker knows of files; its pages are settled anew, by and by."""
@@ -520,6 +536,8 @@ class Pool:
                 continue
             async with self.asking:
                 layout = await self.loop.run_in_executor(self.threads, self.grown, self.carrier)
+                with suppress(ClientError):
+                    await self.loop.run_in_executor(self.threads, self.ask_room)
             if layout:
                 await self.take_layout(layout)
 
