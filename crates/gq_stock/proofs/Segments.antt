@@ -1,6 +1,6 @@
 -- Chunks that lie in a segment, one number after another.
-use Rattle.std.proofs.Common.{◌≡◌, ◌≤◌, ◌<◌, ℕ, Bool, true, false, Some, None, sym, ap, subst, ◌∙◌, arith, inl, inr, ◌⊎◌, zero, suc}
-use Rattle.std.specs.Prelude.{IsSome, Option}
+use Rattle.std.proofs.Common.{◌≡◌, ◌≤◌, ◌<◌, ℕ, true, false, Some, None, sym, ap, subst, ◌∙◌, arith, inl, inr, ◌⊎◌}
+use Rattle.std.specs.Prelude.{IsSome}
 use Rattle.std.proofs.lemmas.Bool.{cases_order, cases_lt}
 use Rattle.gq_ledger.specs.Steps.{Book}
 use Rattle.gq_stock.specs.Segments.{lies_in, has_in, NoneIn, SomeIn}
