@@ -149,6 +149,7 @@ abbrev pub IsFaultOf : ShelfFault → Fault → Type 0
 IsFaultOf (Shelf.Memory refused) fault = fault ≡ Ends.Memory refused
 IsFaultOf Shelf.Read fault = fault ≡ Ends.JournalRead
 IsFaultOf Shelf.Write fault = fault ≡ Ends.JournalWrite
+IsFaultOf Shelf.Full fault = fault ≡ Ends.JournalWrite
 IsFaultOf (Shelf.Damaged segment) fault = fault ≡ Ends.JournalRead
 
 -- memory was wanting, or the shelf refused a call

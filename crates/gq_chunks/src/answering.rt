@@ -122,6 +122,15 @@ fn put_kept(
                 Piece::Number(free),
             ],
         ),
+        Keeping::NoSpace => put_words(
+            out,
+            &[
+                Piece::Text(b"refused"),
+                Piece::Text(b"full"),
+                session,
+                number,
+            ],
+        ),
     }
 }
 

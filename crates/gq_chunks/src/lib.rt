@@ -16,7 +16,7 @@ mod writing;
 
 pub use answering::put_chunk_answer;
 pub use asking::read_chunk_request;
-pub use gq_depot::{ChunkAnswer, ChunkFact, ChunkRequest};
+pub use gq_depot::{ChunkAnswer, ChunkFact, ChunkRequest, Sweep};
 pub use longest::longest_of;
 pub use machine::ChunkMachine;
 pub use reading::read_chunk_fact;

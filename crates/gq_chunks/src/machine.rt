@@ -1,10 +1,12 @@
 //! The machine of a server's chunks: lines in, facts and answers out, over a shelf.
 
-ghost use Rattle.std.specs.Prelude.{◌≡◌, ◌<◌, ◌++◌, [], length, slice_get, true, IfOk, IfErr, OnOk};
+ghost use Rattle.std.specs.Prelude.{◌≡◌, ◌+◌, ◌<◌, ◌≤◌, ◌++◌, [], length, slice_get, true, IfOk, IfErr, IfSome, OnOk};
 ghost use Rattle.std.specs.List.{list_any};
 ghost use Rattle.gq_text.specs.Canonical.{IsPlan};
 ghost use Rattle.gq_journal.specs.Batches.{lines_text};
 ghost use Rattle.gq_keeper.specs.Runs.{Takes};
+ghost use Rattle.gq_shelf.specs.Extents.{place_of};
+ghost use Rattle.gq_depot.specs.Segments.{NoneLies};
 ghost use Rattle.gq_depot.specs.declared.answer.ChunkAnswer.TheVariants.{Bad};
 ghost use Rattle.gq_chunks.specs.Answers.{chunk_answer_text};
 ghost use Rattle.gq_chunks.specs.Machines.{chunks, fact_lines, FactStands, depot_reads, IsFaultOf, IsShelfRefusal, Answers, Took, Recalled, IsNewFor};
@@ -14,7 +16,7 @@ use crate::needed::put_tenants;
 use crate::new_depots::{column_losses, new_depots};
 use crate::ranges::{plan_is_sound, put_sound_fact};
 use crate::{ChunkAnswer, ChunkFact, ChunkRequest, put_chunk_answer, read_chunk_fact};
-use gq_depot::{Answered, Depots};
+use gq_depot::{Answered, Depots, Sweep};
 use gq_desk::Plan;
 use gq_grid::MOST_SERVERS;
 use gq_keeper::{Fault, Lasting, Machine, Unread};
@@ -40,7 +42,7 @@ fn fault_of(fault: ShelfFault) -> Fault
 {
     match fault {
         ShelfFault::Memory(refused) => Fault::Memory(refused),
-        ShelfFault::Write => Fault::JournalWrite,
+        ShelfFault::Write | ShelfFault::Full => Fault::JournalWrite,
         ShelfFault::Read | ShelfFault::Damaged(_) => Fault::JournalRead,
     }
 }
@@ -88,6 +90,15 @@ impl<S: Shelf + Drop> ChunkMachine<S> {
             }
         }
         false
+    }
+
+    /// Does one part of a look for segments of the shelf in which no chunk lies, and tells which one it removed, if one. Who calls sees to it that all facts that the
+    /// machine gave are synced. Where the shelf refuses it, or memory is wanting, nothing is removed, and the next look tries again.
+    pub fn sweep(&self, sweep: &mut Sweep) -> Result<Option<u32>, ShelfFault>
+        ensures dead { IfOk result (λ removed. IfSome removed (λ segment. NoneLies segment self.now.depots.depots.items)) }
+        ensures below { IfOk result (λ removed. IfSome removed (λ segment. place_of (segment + 1) 0 ≤ S.end self.now.depots.shelf)) }
+    {
+        self.depots.sweep(sweep)
     }
 
     // Appends the line of the fact, if there is one.

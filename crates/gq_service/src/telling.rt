@@ -2,13 +2,16 @@
 
 use crate::console::Console;
 use crate::served::Served;
+use gq_chunks::Sweep;
 use gq_grid::MOST_SERVERS;
 use gq_keeper::Watch;
 use gq_machine::NodeMachine;
 use gq_wire::LINE_FORM;
+use std::alloc::Global;
 
 /// Watches the node of this number. It tells once that the server has all files, where it lacked some; and each time another node tells that
-/// it speaks another form of lines than it told last, where that is not this program's.
+/// it speaks another form of lines than it told last, where that is not this program's. It has segments of the shelf removed in which no chunk lies: all facts are synced
+/// each time that it looks. Where that fails it tells it once, until one is removed again.
 #[derive(Drop)]
 pub(crate) struct Telling<'x, C: Console> {
     console: &'x C,
@@ -16,16 +19,21 @@ pub(crate) struct Telling<'x, C: Console> {
     lacks: bool,
     // for each place the form of lines that was seen last
     forms: [Option<u32>; MOST_SERVERS],
+    sweep: Sweep,
+    // whether it was told that a segment can't be removed
+    is_told: bool,
 }
 
 impl<'x, C: Console> Telling<'x, C> {
     /// Of the node of this number, whose server lacks files or none.
-    pub(crate) fn new(console: &'x C, number: u16, lacks: bool) -> Telling<'x, C> {
+    pub(crate) fn new(alloc: Global, console: &'x C, number: u16, lacks: bool) -> Telling<'x, C> {
         Telling {
             console,
             number,
             lacks,
             forms: [None; MOST_SERVERS],
+            sweep: Sweep::new(alloc),
+            is_told: false,
         }
     }
 
@@ -49,10 +57,25 @@ impl<'x, C: Console> Telling<'x, C> {
             _ => {}
         }
     }
+
+    // Has a part of the look for segments done.
+    fn sweep<M: Served>(&mut self, machine: &M) {
+        match machine.sweep(&mut self.sweep) {
+            Ok(Some(_removed)) => self.is_told = false,
+            Ok(None) => {}
+            Err(_) => {
+                if !self.is_told {
+                    self.is_told = true;
+                    self.console.keeps_segment(self.number);
+                }
+            }
+        }
+    }
 }
 
 impl<C: Console, M: Served> Watch<M> for Telling<'_, C> {
     fn took(&mut self, machine: &M) {
+        self.sweep(machine);
         let machine = machine.registers();
         if self.lacks && !machine.lacks_some() {
             self.lacks = false;

@@ -21,6 +21,9 @@ use std::{fs, io, str};
 // A segment of so many bytes or more does not grow.
 const SEGMENT_BYTES: u64 = 268_435_456;
 
+// A segment of so many bytes or more is left where the system has no space for one content more: it can be removed, once nothing on it is wanted.
+const LEFT_BYTES: u64 = 16_777_216;
+
 // So many bytes of a folder are read at once.
 const BLOCK_BYTES: usize = 65_536;
 
@@ -326,8 +329,8 @@ impl<R: Files<File = File> + Drop> FileShelf<R> {
         Ok(())
     }
 
-    // What was written of a content for which there was no space is cut off, and takes no space then. Where that fails, or a file can't be longer, the next
-    // content begins a segment.
+    // What was written of a content for which there was no space is cut off, and takes no space then. Where that fails, or the segment is long or can't be longer, the
+    // next content begins another one.
     fn cut(&mut self, error: &io::Error)
         ensures notes { self.new.notes ≡ self.old.notes }
         ensures segment { self.new.segment ≡ self.old.segment }
@@ -340,7 +343,7 @@ impl<R: Files<File = File> + Drop> FileShelf<R> {
             Some(file) => file.set_len(at).is_ok(),
             None => false,
         };
-        if !is_cut || error.kind() == io::ErrorKind::FileTooLarge {
+        if !is_cut || at >= LEFT_BYTES || error.kind() == io::ErrorKind::FileTooLarge {
             self.at = u64::MAX;
         }
     }
