@@ -1,11 +1,12 @@
 /* A disk that stops, is full, or lies: it is loaded before the C library, by LD_PRELOAD, into the process of a node.
 
    The calls by which a node changes its files or writes to standard output are counted from 1: write, fsync, fdatasync, ftruncate,
-   rename, and unlink of a segment, a file whose name has ten digits. With STOP=N in the environment the process is killed before call N, with STOP=N+ behind it, with STOP=N/ when it has done half
-   of a write (before any other call). With FAIL=N call N fails; where that is a write it does half, and all writes behind it fail, as on a
-   full disk. With FAIL=N+ all that follow fail too. Calls on standard output don't fail. With LIES=1 a sync does nothing, and says that it did.
-   At the end of the process, also where it is killed here or ends by _exit, the calls stand in the file that CALLS names, a letter each:
-   w, s, t, r, u, S for a sync of a folder, o for a write to standard output.
+   rename, and unlink of a segment, a file whose name has ten digits. With STOP=N in the environment the process is killed before call
+   N, with STOP=N+ behind it, with STOP=N/ when it has done half of a write (before any other call). With FAIL=N call N fails; where
+   that is a write it does half, and all writes behind it fail, as on a full disk. With FAIL=N+ all that follow fail too. Calls on
+   standard output don't fail. With LIES=1 a sync does nothing, and says that it did. At the end of the process, also where it is
+   killed here or ends by _exit, the calls stand in the file that CALLS names, a letter each: w, s, t, r, u, S for a sync of a folder,
+   o for a write to standard output.
 
    With FULL=FILE, and while FILE is there, each write to a segment does half and the rest finds no space.
 

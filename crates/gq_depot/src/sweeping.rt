@@ -21,8 +21,8 @@ enum Part {
     Rest(u32),
     // Chunks are looked at.
     Look,
-    // A segment is removed of which no chunk was seen.
-    Remove,
+    // So many are passed over, and then a segment is removed of which no chunk was seen.
+    Remove(u32),
 }
 
 /// How far a look for segments has come in which no chunk lies. Of those that were there as it began it leaves the ones of which it saw no chunk. What comes
@@ -36,6 +36,8 @@ pub struct Sweep {
     tenant: usize,
     session: usize,
     number: u64,
+    // how many parts of the look there were
+    parts: u32,
 }
 
 impl Sweep {
@@ -47,6 +49,7 @@ impl Sweep {
             tenant: 0,
             session: 0,
             number: 0,
+            parts: 0,
         }
     }
 
@@ -54,6 +57,7 @@ impl Sweep {
     fn begin(&mut self, segments: Vec<u32>) {
         self.part = Part::Look;
         self.left = segments;
+        self.parts = 0;
         self.tenant = 0;
         self.session = 0;
         self.number = 0;
@@ -77,6 +81,12 @@ impl Sweep {
     fn pass_session(&mut self) {
         self.session = self.session.saturating_add(1);
         self.number = 0;
+    }
+
+    // All chunks were looked at, or a segment was, of which none was seen. To look at all of them at once takes as long as all parts of the look, so some parts are passed
+    // over before each.
+    fn wait(&mut self) {
+        self.part = Part::Remove(self.parts / 4);
     }
 
     // No segment is left.
@@ -120,9 +130,10 @@ impl<S: Shelf + Drop> Depots<S> {
 
     // Looks at some chunks more.
     fn look(&self, sweep: &mut Sweep) {
+        sweep.parts = sweep.parts.saturating_add(1);
         for _ in 0..MOST_LOOKED {
             if sweep.left.is_empty() || !self.look_on(sweep) {
-                sweep.part = Part::Remove;
+                sweep.wait();
                 return;
             }
         }
@@ -146,6 +157,7 @@ impl<S: Shelf + Drop> Depots<S> {
             sweep.end();
             return Ok(None);
         };
+        sweep.wait();
         if self.remove(segment)? {
             Ok(Some(segment))
         } else {
@@ -172,7 +184,11 @@ impl<S: Shelf + Drop> Depots<S> {
                 self.look(sweep);
                 Ok(None)
             }
-            Part::Remove => self.remove_last(sweep),
+            Part::Remove(0) => self.remove_last(sweep),
+            Part::Remove(more) => {
+                sweep.part = Part::Remove(more - 1);
+                Ok(None)
+            }
         }
     }
 }

@@ -1,6 +1,6 @@
 //! A machine of chunks, line by line.
 
-use gq_chunks::{ChunkMachine, is_chunk_fact, taker_of};
+use gq_chunks::{ChunkMachine, Sweep, is_chunk_fact, taker_of};
 use gq_keeper::{Lasting, Machine};
 use gq_pair::Taker;
 use gq_setup::{Setup, read_setup};
@@ -269,6 +269,10 @@ fn notes_what_is_forgotten_until_it_is_filled(rt: HostRuntime) {
         it,
         b"forgot ann 1 9 1 0\nchunk ann 1 7 1 =abc\nfilled ann\n",
     );
+    let mut sweep = Sweep::new(alloc);
+    for _ in 0..9 {
+        assert!(&rt; matches!(it.sweep(&mut sweep), Ok(None)));
+    }
 }
 
 #[test]
