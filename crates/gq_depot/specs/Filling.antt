@@ -1,8 +1,10 @@
 -- What a server that lacks chunks of a tenant makes of what a peer gives.
-use Rattle.std.specs.Prelude.{◌≡◌, ℕ, Bool, true, false, not, ◌&&◌, nat_lt, List, Option, Some, None, MatchBool}
+use Rattle.std.specs.Prelude.{◌≡◌, ℕ, Bool, true, false, not, ◌&&◌, nat_lt, List, length, Option, Some, None, MatchBool, MatchOption}
 use Rattle.gq_shelf.specs.declared.extent.Extent.{Extent}
 use Rattle.gq_ledger.specs.Ledgers.{book_of}
+use Rattle.gq_stock.specs.declared.chunk.Chunk.{Chunk}
 use Rattle.gq_stock.specs.declared.session.Session.{Session}
+use Rattle.gq_stock.specs.declared.run.Run.{Run}
 use Rattle.gq_depot.specs.Answers.{In, BySession, PutIs, fits, is_told}
 use Rattle.gq_depot.specs.Depots.{standing_of}
 use Rattle.gq_depot.specs.declared.depot.Depot.{Depot}
