@@ -44,7 +44,7 @@ fn has_length(bytes: &[u8]) -> bool
 impl Depot {
     ghost use Rattle.gq_depot.specs.Depots.{LeadsTo, FactIsSure, ReadsFact, StaysWithin};
     ghost use Rattle.gq_depot.specs.Answers.{In, PutIs};
-    ghost use Rattle.gq_depot.specs.Filling.{wants_at, GivenAt, GiveGives, RaisedAt, RaiseGives, EndGives, Fills};
+    ghost use Rattle.gq_depot.specs.Filling.{wants_at, wants_of, GivenAt, GiveGives, RaisedAt, RaiseGives, EndGives, Fills};
 
     // Whether a peer's content of the number is wanted, of the session at this place: the server lacks chunks, has none that was given under it, and did not
     // forget it since.
@@ -61,7 +61,9 @@ impl Depot {
 
     /// Whether a peer's content of the session's number is wanted: the server lacks chunks of the tenant, has none under the number that was given, and did not forget
     /// it since.
-    pub fn wants(&self, session: u32, number: u64) -> bool {
+    pub fn wants(&self, session: u32, number: u64) -> bool
+        ensures { result ≡ wants_of self.now session number }
+    {
         match self.place_of(session) {
             Some(place) => self.wants_at(place, number),
             None => false,
