@@ -65,6 +65,10 @@ impl<S: Shelf + Drop> Served for Pair<NodeMachine, ChunkMachine<S>, ByVerb> {
     fn registers(&self) -> &NodeMachine {
         &self.first
     }
+
+    fn chunks_lacked(&self) -> (usize, u64) {
+        (self.second.lacking(), self.second.contents_came())
+    }
 }
 
 // The chunks of the node, never started, over a shelf. `before` was read of the plan with which its journal begins.

@@ -24,6 +24,10 @@ impl Served for NodeMachine {
     fn registers(&self) -> &NodeMachine {
         self
     }
+
+    fn chunks_lacked(&self) -> (usize, u64) {
+        (0, 0)
+    }
 }
 
 /// The registers of the node, never started. `before` was read of the plan with which its journal begins.

@@ -24,6 +24,9 @@ pub trait Served: Lasting {
 
     /// Its registers.
     fn registers(&self) -> &NodeMachine;
+
+    /// Of how many tenants it lacks chunks, and how many of their contents came since it was started.
+    fn chunks_lacked(&self) -> (usize, u64);
 }
 
 /// What makes the machine with which a start begins.
