@@ -359,13 +359,10 @@ fn is_given_chunks_by_a_peer(rt: HostRuntime) {
     // one was spoilt: all is sought once more
     says(&rt, alloc, it, "65 65 tick", "");
     assert!(rt; it.lacking() == 1 && it.contents_came() == 3);
-    let mut ticks = 0;
-    while ticks < 20 {
-        let mut facts = Vec::new(alloc);
-        let mut out = Vec::new(alloc);
-        assert!(rt; it.take(b"65 65 tick", &mut facts, &mut out).is_ok());
-        ticks = if out.is_empty() { ticks + 1 } else { 20 };
+    for _pause in 0..16 {
+        says(&rt, alloc, it, "65 65 tick", "");
     }
+    says(&rt, alloc, it, "65 65 tick", "0 65 ann seeks 1 1 0\n");
     says(
         &rt,
         alloc,
