@@ -23,7 +23,7 @@ class Server:
 
     def __init__(self, number, allowed, losses=0):
         self.number, self.allowed, self.losses, self.lacks = number, allowed, losses, number >= PLACES
-        self.chunks, self.floors, self.damaged, self.is_up, self.knows_chunks = {}, {}, set(), True, True
+        self.chunks, self.floors, self.damaged, self.is_up, self.knows_chunks, self.has_space = {}, {}, set(), True, True, True
         self.tombs = set()  # what was forgotten while it lacks chunks
 
     def used(self):
@@ -53,6 +53,8 @@ class Server:
             return b"refused below %d %d %d" % (*key, self.floors[session])
         if self.used() + len(content) + CHUNK_CHARGE > self.allowed:
             return b"refused room %d %d %d" % (*key, max(0, self.allowed - self.used()))
+        if not self.has_space:
+            return b"refused full %d %d" % key
         self.chunks[key] = content
         return b"kept %d %d %d" % (*key, self.losses)
 

@@ -130,6 +130,18 @@ class Kept(unittest.TestCase):
         with self.assertRaisesRegex(NoRoom, "node [02] has room for 0 bytes of chunks more"):
             self.chunks.keep(iter(pieces), 0)
 
+    def test_a_disk_without_space(self):
+        pieces = [bytes([at]) * MOST for at in range(6)]
+        self.servers.at[2].has_space = False
+        runs = self.chunks.keep(iter(pieces), 0)
+        self.assertEqual({run.column for run in runs}, {1})
+        self.expect_kept(runs, pieces)
+        self.servers.at[3].has_space = False
+        with self.assertRaisesRegex(NoRoom, "the disk of node [23] has no space for chunks"):
+            self.chunks.keep(iter(pieces), 0)
+        self.servers.at[2].has_space = True
+        self.expect_kept(self.chunks.keep(iter([b"later"]), 0), [b"later"])
+
     def test_numbers_that_are_taken(self):
         self.chunks.last = 1 << 60
         first = self.chunks.keep(iter([b"first"]), 0)
@@ -310,7 +322,7 @@ class Asked(unittest.TestCase):
         for it in (b"", b"\\", b"\\\\n \n\\040", b" \\s=~", draw.randbytes(100_000)):
             self.assertEqual(content_in(content_word(it)), it)
             self.assertEqual(content_in(b"=" + it.replace(b"\\", b"\\b").replace(b"\n", b"\\n").replace(b" ", b"\\s")), it)
-        for body in (b"got 1 2 3", b"kept 1 2", b"kept 1 2 x", b"chunks 1", b"chunks 1 0 0 5", b"room 1 2 3", b"refused room 1 2", b"refused nofile 1 2 3 4", b"done", b"none 1"):
+        for body in (b"got 1 2 3", b"kept 1 2", b"kept 1 2 x", b"chunks 1", b"chunks 1 0 0 5", b"room 1 2 3", b"refused room 1 2", b"refused full 1", b"refused full 1 2 3", b"refused nofile 1 2 3 4", b"done", b"none 1"):
             self.assertIsNone(parse_chunk(0, body), body)
         self.assertEqual(parse_chunk(3, b"refused bad").word, "bad")
         for word, content in ((b"~a\\040b\\\\", b"a b\\"), (b"~", b""), (b"=a\\sb", b"a b"), (b"~" + b"x" * 200, b"x" * 200)):

@@ -1,13 +1,18 @@
 /* A disk that stops, is full, or lies: it is loaded before the C library, by LD_PRELOAD, into the process of a node.
 
-   The calls by which a node changes its files or writes to standard output are counted from 1: write, fsync, fdatasync, ftruncate and
-   rename. With STOP=N in the environment the process is killed before call N, with STOP=N+ behind it, with STOP=N/ when it has done half
-   of a write (before any other call). With FAIL=N call N fails; where that is a write it does half, and all writes behind it fail, as on a
-   full disk. With FAIL=N+ all that follow fail too. Calls on standard output don't fail. With LIES=1 a sync does nothing, and says that it did.
-   At the end of the process, also where it is killed here or ends by _exit, the calls stand in the file that CALLS names, a letter each:
-   w, s, t, r, S for a sync of a folder, o for a write to standard output.
+   The calls by which a node changes its files or writes to standard output are counted from 1: write, fsync, fdatasync, ftruncate,
+   rename, and unlink of a segment, a file whose name has ten digits. With STOP=N in the environment the process is killed before call
+   N, with STOP=N+ behind it, with STOP=N/ when it has done half of a write (before any other call). With FAIL=N call N fails; where
+   that is a write it does half, and all writes behind it fail, as on a full disk. With FAIL=N+ all that follow fail too. Calls on
+   standard output don't fail. With LIES=1 a sync does nothing, and says that it did. At the end of the process, also where it is
+   killed here or ends by _exit, the calls stand in the file that CALLS names, a letter each: w, s, t, r, u, S for a sync of a folder,
+   o for a write to standard output.
+
+   With FULL=FILE, and while FILE is there, each write to a segment does half and the rest finds no space.
 
    With NAMES=1 a sync of a folder leaves a file NAME.named beside each of its files that has no dot in its name.
+
+   A segment that is removed is kept, with .gone behind, until its folder is synced.
 
    How much of a file is synced stands in the file of its name with .synced behind. What a rename replaces is kept, as with .before behind,
    until the folder is synced; where it replaces nothing, that is marked, by .fresh. So who starts the node again can take away what a
@@ -84,9 +89,34 @@ static int refuse(int error) {
     return -1;
 }
 
+static void drop(const char *name) { syscall(SYS_unlinkat, AT_FDCWD, name, 0); }
+
+/* Whether the path is that of a segment. */
+static int is_segment(const char *path) {
+    const char *last = strrchr(path, '/');
+    last = last ? last + 1 : path;
+    return strlen(last) == 10 && strspn(last, "0123456789") == 10;
+}
+
 static int is_file(int file, mode_t kind) {
     struct stat is;
     return file > 2 && fstat(file, &is) == 0 && (is.st_mode & S_IFMT) == kind;
+}
+
+static void name_of(int file, char *name) {
+    char link[64];
+    snprintf(link, sizeof link, "/proc/self/fd/%d", file);
+    ssize_t length = readlink(link, name, PATH_MAX - 16);
+    name[length > 0 ? length : 0] = 0;
+}
+
+/* Whether it is a segment, and there is no space for it. */
+static int has_no_space(int file) {
+    char path[PATH_MAX];
+    const char *full = getenv("FULL");
+    if (!full || access(full, F_OK) || !is_file(file, S_IFREG)) return 0;
+    name_of(file, path);
+    return is_segment(path);
 }
 
 ssize_t write(int file, const void *bytes, size_t size) {
@@ -99,16 +129,13 @@ ssize_t write(int file, const void *bytes, size_t size) {
         is_full = 1;
         return done > 0 ? done : refuse(ENOSPC);
     }
+    if (has_no_space(file)) {
+        ssize_t part = size > 1 ? syscall(SYS_write, file, bytes, size / 2) : 0;
+        return part > 0 ? part : refuse(ENOSPC);
+    }
     ssize_t done = syscall(SYS_write, file, bytes, size);
     end();
     return done;
-}
-
-static void name_of(int file, char *name) {
-    char link[64];
-    snprintf(link, sizeof link, "/proc/self/fd/%d", file);
-    ssize_t length = readlink(link, name, PATH_MAX - 16);
-    name[length > 0 ? length : 0] = 0;
 }
 
 static void beside(char *name, const char *path, const char *ending) { snprintf(name, PATH_MAX, "%.4000s%s", path, ending); }
@@ -170,7 +197,7 @@ static void note_folder(int file) {
     int lock = lock_of(path);
     note_names(folder);
     for (struct dirent *it; (it = readdir(folder));)
-        if (ends_with(it->d_name, ".before") || ends_with(it->d_name, ".before.synced") || ends_with(it->d_name, ".fresh"))
+        if (ends_with(it->d_name, ".before") || ends_with(it->d_name, ".before.synced") || ends_with(it->d_name, ".fresh") || ends_with(it->d_name, ".gone"))
             unlinkat(dirfd(folder), it->d_name, 0);
     close(lock);
     closedir(folder);
@@ -201,6 +228,20 @@ int ftruncate(int file, off_t size) {
     return done;
 }
 
+int unlink(const char *path) {
+    if (!is_segment(path)) return syscall(SYS_unlinkat, AT_FDCWD, path, 0);
+    char name[PATH_MAX];
+    int half, fails;
+    begin('u', &half, &fails);
+    if (fails) return refuse(EIO);
+    beside(name, path, ".gone");
+    drop(name);
+    if (link(path, name)) drop(name);
+    int done = syscall(SYS_unlinkat, AT_FDCWD, path, 0);
+    end();
+    return done;
+}
+
 int rename(const char *from, const char *to) {
     char name[PATH_MAX], other[PATH_MAX];
     int half, fails;
@@ -208,7 +249,7 @@ int rename(const char *from, const char *to) {
     if (fails) return refuse(ENOSPC);
     int lock = lock_beside(to);
     beside(name, to, ".before");
-    unlink(name);
+    drop(name);
     if (link(to, name)) {
         beside(name, to, ".fresh");
         close(open(name, O_WRONLY | O_CREAT, 0644));

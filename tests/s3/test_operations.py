@@ -932,6 +932,7 @@ class Requests(Case):
 
     @unittest.skipIf(IS_BEHIND, "metrics are told on the machine of the gateway alone")
     def test_metrics(self):
+        self.put("counted", b"x")
         with urllib.request.urlopen(f"{URL}/metrics") as told:
             text = told.read().decode()
         self.assertRegex(text, r'gridfs_s3_requests_total\{operation="PutObject",status="200",tenant="\w+"\} \d+')

@@ -16,7 +16,6 @@ import code_of_s3
 import endpoint
 import stand_in
 from gridfs_client.chunk_lines import CHUNK_CHARGE
-from gridfs_client.contents import digest_of
 from gridfs_client.layout import Layout, Volume
 from gridfs_s3.page import size_of
 

@@ -7,7 +7,7 @@ MOST_CHUNK = 1 << 20  # bytes
 CHUNK_CHARGE = 512  # bytes of room that each chunk takes beside its own
 ROOM = 0, 0  # by which an answer about room is known; others by a session and a number
 WORDS = frozenset((b"kept", b"got", b"none", b"lacks", b"damaged", b"forgot", b"chunks", b"room"))
-REFUSALS = frozenset((b"differs", b"below", b"room"))
+REFUSALS = frozenset((b"differs", b"below", b"room", b"full"))
 MOST_HEAD = 128  # bytes before the content that is told, at most
 ESCAPED = ((b"\\s", b" "), (b"\\n", b"\n"), (b"\\b", b"\\"))  # in a content behind `=`; the backslash is the last one
 
@@ -89,7 +89,7 @@ def parse_chunk(node: int, body: bytes) -> ChunkTold | None:
             session, floor, first, _ = numbers
             return ChunkTold(node, "forgot", (session, first), (floor,))
         session, number, *more = numbers
-        wanted = 0 if verb in (b"none", b"lacks", b"damaged", b"refused differs") else 1
+        wanted = 0 if verb in (b"none", b"lacks", b"damaged", b"refused differs", b"refused full") else 1
         return ChunkTold(node, verb.decode(), (session, number), tuple(more)) if len(more) == wanted else None
     except ValueError:
         return None

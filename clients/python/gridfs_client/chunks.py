@@ -579,6 +579,8 @@ class Keeper:
                 self.is_kept(at, keeping)
         elif told.word == "refused room":
             self.leave([at], f"node {told.node} has room for {told.numbers[0]} bytes of chunks more", NoRoom)
+        elif told.word == "refused full":
+            self.leave([at], f"the disk of node {told.node} has no space for chunks", NoRoom)
         elif told.word == "refused below":
             self.chunks.begin_above(told.numbers[0])
             self.again(at)

@@ -30,14 +30,14 @@ each_more P [] x each one (suc t) y is = never y is
 each_more P (z ∷ xs) x each one zero y is = each 0 y is
 each_more P (z ∷ xs) x each one (suc t) y is = each_more (λ k. P (suc k)) xs x (λ k w at. each (suc k) w at) one t y is
 
-pub recalled_ok : {E : Type 0} (r : Result Bool E) (plan : CheckedPlan) (node losses after : ℕ) (olds news : List Depot) (noted now : Noted) (t : ℕ) (fact : ChunkFact) →
+pub recalled_ok : {E : Type 0} (r : Result Bool E) (plan : CheckedPlan) (node : ℕ) (lost : List ℕ) (losses after : ℕ) (olds news : List Depot) (noted now : Noted) (t : ℕ) (fact : ChunkFact) →
     IfOk r (λ is_read. is_read ≡ true → LeadsOwn olds t (Some fact) news) → ApartFrom t olds news → length news ≡ length olds → after ≡ losses → now ≡ noted →
-    IfOk r (λ is_read. is_read ≡ true → Recalled (chunks plan node losses olds noted) t fact (chunks plan node after news now))
-recalled_ok (Err e) plan node losses after olds news noted now t fact own apart tenants same shelf = tt
-recalled_ok (Ok read) plan node losses after olds news noted now t fact own apart tenants same shelf = λ is. record {
+    IfOk r (λ is_read. is_read ≡ true → Recalled (chunks plan node lost losses olds noted) t fact (chunks plan node lost after news now))
+recalled_ok (Err e) plan node lost losses after olds news noted now t fact own apart tenants same shelf = tt
+recalled_ok (Ok read) plan node lost losses after olds news noted now t fact own apart tenants same shelf = λ is. record {
   leads = own is;
   apart = apart;
-  site = record { plan = refl; node = refl; losses = same; tenants = tenants };
+  site = record { plan = refl; node = refl; lost = refl; losses = same; tenants = tenants };
   noted = shelf;
 }
 

@@ -6,3 +6,5 @@ pub mod Begun
 pub mod Taken
 pub mod Apart
 pub mod Telling
+pub mod Sayings
+pub mod Searching

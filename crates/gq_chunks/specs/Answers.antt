@@ -1,13 +1,13 @@
 -- The line of what a tenant is told of its chunks: `T NODE` and words. S is a session, N a number, P how many nodes of the column were lost.
 -- `kept S N P`; `damaged S N`; `got S N SIZE FROM CONTENT`, `none S N`, `lacks S N`; `forgot S FLOOR FIRST LAST`; `chunks S AFTER FLOOR N.SIZE .. end`, without `end`
--- where these are not all; `room USED ALLOWED P LACKS`; and `refused` with its cause: `bad`, `nosession S N`, `toolong S N LENGTH`, `differs S N`, `below S N FLOOR`, `room S N FREE`, `lacks S FLOOR`.
+-- where these are not all; `room USED ALLOWED P LACKS`; and `refused` with its cause: `bad`, `nosession S N`, `toolong S N LENGTH`, `differs S N`, `below S N FLOOR`, `room S N FREE`, `full S N`, `lacks S FLOOR`.
 use Rattle.std.specs.Prelude.{ℕ, ◌*◌, List, [], ◌∷◌, ◌++◌, Bool, true, false, nat_le, length, take, drop, map, codes, decimal, if◌then◌else◌}
 use Rattle.gq_desk.specs.CheckedPlan.{CheckedPlan, row_at}
 use Rattle.gq_quote.specs.Quote.{quoted}
 use Rattle.gq_stock.specs.declared.finding.Found.{Found}
 use Rattle.gq_stock.specs.declared.finding.Found.TheVariants as Finds
 use Rattle.gq_stock.specs.declared.keeping.Keeping.{Keeping}
-use Rattle.gq_stock.specs.declared.keeping.Keeping.TheVariants.{New, Same, Differs, Damaged, Below, Full}
+use Rattle.gq_stock.specs.declared.keeping.Keeping.TheVariants.{New, Same, Differs, Damaged, Below, Full, NoSpace}
 use Rattle.gq_text.specs.Words.{Word}
 use Rattle.gq_text.specs.AnswerText.{bytes_word, line_text}
 use Rattle.gq_depot.specs.declared.answer.ChunkAnswer.{ChunkAnswer}
@@ -39,6 +39,7 @@ kept_words s n p floor free Differs = codes "refused" ∷ codes "differs" ∷ de
 kept_words s n p floor free Damaged = codes "damaged" ∷ decimal s ∷ decimal n ∷ []
 kept_words s n p floor free Below = codes "refused" ∷ codes "below" ∷ decimal s ∷ decimal n ∷ decimal floor ∷ []
 kept_words s n p floor free Full = codes "refused" ∷ codes "room" ∷ decimal s ∷ decimal n ∷ decimal free ∷ []
+kept_words s n p floor free NoSpace = codes "refused" ∷ codes "full" ∷ decimal s ∷ decimal n ∷ []
 
 -- of a number under which nothing is told
 abbrev pub nothing_word : (lacks : Bool) → Word

@@ -1,9 +1,10 @@
 -- What a machine of chunks owes that lasts.
-use Rattle.std.proofs.Common.{◌≡◌, ◌≢◌, ◌<◌, ◌-◌, ℕ, List, [], ◌∷◌, ◌++◌, length, Bool, true, false, Option, Some, None, refl, sym, ap, subst, ◌∙◌, arith}
-use Rattle.std.specs.Prelude.{◌==◌, ◌≤◌, ◌&&◌, ◌||◌, nat_le, not, max, slice_get, if◌then◌else◌}
+use Rattle.std.proofs.Common.{◌≡◌, ◌≢◌, ◌<◌, ◌-◌, ℕ, List, [], ◌∷◌, ◌++◌, length, Bool, true, false, Option, Some, None, inl, inr, refl, sym, ap, subst, ◌∙◌, arith}
+use Rattle.std.specs.Prelude.{◌⊎◌, ⊤, ◌==◌, ◌≤◌, ◌&&◌, ◌||◌, nat_le, not, max, slice_get, if◌then◌else◌}
 use Rattle.std.specs.List.{list_all}
 use Rattle.std.proofs.lemmas.Bool.{and_from, and_parts, leb-true, eqb-true, eq-eqb, true≢false}
 use Rattle.std.proofs.lemmas.Option.{same_Some, slice_get_within}
+use Rattle.gq_shelf.specs.Notes.{GoesOn}
 use Rattle.gq_shelf.specs.Places.{long_at}
 use Rattle.gq_shelf.specs.declared.place.Place.{Place}
 use Rattle.gq_shelf.specs.declared.place.Place.TheVariants.{Fresh, Shelved}
@@ -20,11 +21,18 @@ use Rattle.gq_depot.specs.declared.limits.TheConstants.{MOST_CHUNK}
 use Rattle.gq_depot.specs.declared.depot.Depot.{Depot}
 use Rattle.gq_depot.specs.declared.fact.ChunkFact.{ChunkFact}
 use Rattle.gq_depot.specs.declared.fact.ChunkFact.TheVariants.{Put, Forgot, Filled}
+use Rattle.gq_depot.specs.declared.answer.ChunkAnswer.{ChunkAnswer}
+use Rattle.gq_depot.specs.declared.filling.Filling.{Filling}
+use Rattle.gq_depot.specs.declared.filling.Filling.TheVariants.{Give, Raise, End}
 use Rattle.gq_depot.specs.declared.request.ChunkRequest.{ChunkRequest}
+use Rattle.gq_depot.specs.declared.request.ChunkRequest.TheVariants.{Get, List as ListChunks}
 use Rattle.gq_depot.proofs.Standing.{there}
 use Rattle.gq_depot.proofs.Tenants.{after_same, same_on}
 use Rattle.gq_chunks.specs.Facts.{place_verb, verb_of, own_words, chunk_fact_line, chunk_fact_of_line}
-use Rattle.gq_chunks.specs.Machines.{Chunks, IsSite, Asked, asked_in, fact_lines, FactStands, depot_reads, Took, StepsBy, ChunkSteps, reads_told, chunk_reads, Recalled, ChunkRecalls, room_of_lines, lacks_at_first, IsBare, IsBlank, ChunksAreBlank, AllFit, GoneFits, IsSound, AreSound, HasRoom, ChunksAreOf, DepotRests, ChunksRest}
+use Rattle.gq_chunks.specs.Answers.{chunk_answer_text}
+use Rattle.gq_chunks.specs.Coming.{Coming, Asked, Said, Ticked, Nothing}
+use Rattle.gq_chunks.specs.PeerLines.{Saying, Seeks, Found, Wants, Gives, Misses, Spoilt, peer_answer_text}
+use Rattle.gq_chunks.specs.Machines.{Chunks, IsSite, coming_in, fact_lines, FactStands, depot_reads, Took, Fills, Fed, Waits, may_answer, AnswersPeer, whole_length, SaidBy, StepsBy, ChunkSteps, reads_told, chunk_reads, Recalled, ChunkRecalls, room_of_lines, lacks_at_first, IsBare, IsBlank, ChunksAreBlank, AllFit, GoneFits, IsSound, AreSound, HasRoom, ChunksAreOf, DepotRests, ChunksRest}
 
 -- ---- machines that have chunks
 
@@ -42,13 +50,13 @@ pub same_itself : (a : Standing) → IsSame a a
 same_itself a = record { at = λ k n. refl; floor = λ k. refl; gone = λ k n. refl; lacks = refl }
 
 pub site_on : (a b c : Chunks) → IsSite a b → IsSite b c → IsSite a c
-site_on a b c one two = record { plan = two.plan ∙ one.plan; node = two.node ∙ one.node; losses = two.losses ∙ one.losses; tenants = two.tenants ∙ one.tenants }
+site_on a b c one two = record { plan = two.plan ∙ one.plan; node = two.node ∙ one.node; lost = two.lost ∙ one.lost; losses = two.losses ∙ one.losses; tenants = two.tenants ∙ one.tenants }
 
 site_back : (a b : Chunks) → IsSite a b → IsSite b a
-site_back a b site = record { plan = sym site.plan; node = sym site.node; losses = sym site.losses; tenants = sym site.tenants }
+site_back a b site = record { plan = sym site.plan; node = sym site.node; lost = sym site.lost; losses = sym site.losses; tenants = sym site.tenants }
 
 pub site_itself : (a : Chunks) → IsSite a a
-site_itself a = record { plan = refl; node = refl; losses = refl; tenants = refl }
+site_itself a = record { plan = refl; node = refl; lost = refl; losses = refl; tenants = refl }
 
 -- the depot of the same tenant
 pub across : (xs ys : List Depot) (t : ℕ) (y : Depot) → length ys ≡ length xs → slice_get ys t ≡ Some y → (x : Depot) × (slice_get xs t ≡ Some x)
@@ -75,14 +83,24 @@ went_nowhere old t = record {
   site = site_itself old;
 }
 
-went_took : (old : Chunks) (t : ℕ) (request : ChunkRequest) (facts : List Line) (told : List ℕ) (new : Chunks) (took : Took old t request facts told new) → Went old t took.answered.fact new
-went_took old t request facts told new took = record {
+went_took : (text : ChunkAnswer → List ℕ) (old : Chunks) (t : ℕ) (request : ChunkRequest) (facts : List Line) (told : List ℕ) (new : Chunks) (took : Took text old t request facts told new) → Went old t took.answered.fact new
+went_took text old t request facts told new took = record {
   leads = λ was is at_was at_is. (took.answers.own was is at_was at_is).leads;
   reads = λ was at_was.
       let is : (x : Depot) × (slice_get new.depots t ≡ Some x) = across new.depots old.depots t was (sym took.answers.site.tenants) at_was in
       (took.answers.own was is.0 at_was is.1).reads;
   apart = took.answers.apart;
   site = took.answers.site;
+}
+
+went_filled : (old : Chunks) (t : ℕ) (filling : Filling) (facts : List Line) (new : Chunks) (fills : Fills old t filling facts new) → Went old t fills.fact new
+went_filled old t filling facts new fills = record {
+  leads = λ was is at_was at_is. (fills.done.own was is at_was at_is).leads;
+  reads = λ was at_was.
+      let is : (x : Depot) × (slice_get new.depots t ≡ Some x) = across new.depots old.depots t was (sym fills.done.site.tenants) at_was in
+      (fills.done.own was is.0 at_was is.1).reads;
+  apart = fills.done.apart;
+  site = fills.done.site;
 }
 
 pub went_recalled : (old : Chunks) (t : ℕ) (fact : ChunkFact) (new : Chunks) → depot_reads (slice_get old.depots t) fact ≡ true → Recalled old t fact new → Went old t (Some fact) new
@@ -93,22 +111,73 @@ went_recalled old t fact new reads recalled = record {
   site = recalled.site;
 }
 
--- a step is that of some tenant and fact
-record WentSome (old new : Chunks) : Type 0 where
-  tenant : ℕ
-  fact : Option ChunkFact
-  went : Went old tenant fact new
+-- the tenant's depot reads the fact, if there is one
+abbrev pub FactIsRead : Chunks → (t : ℕ) → Option ChunkFact → Type 0
+FactIsRead old t None = ⊤
+FactIsRead old t (Some fact) = depot_reads (slice_get old.depots t) fact ≡ true
 
-step_went : (old : Chunks) (line : List ℕ) (facts : List Line) (told : List ℕ) (new : Chunks) → ChunkSteps old line facts told new → WentSome old new
-step_went old line facts told new step = by (asked_in old line) step
+fact_read : (old : Chunks) (t : ℕ) (fact : Option ChunkFact) → t < length old.depots → ((was : Depot) → slice_get old.depots t ≡ Some was → ReadsFact (length was.stock.sessions.items) fact) → FactIsRead old t fact
+fact_read old t None within reads = tt
+fact_read old t (Some fact) within reads =
+    let was : (x : Depot) × (slice_get old.depots t ≡ Some x) = there old.depots t within in
+    ap (λ (o : Option Depot). depot_reads o fact) was.1 ∙ reads was.0 was.1
+
+-- a step is that of some tenant and fact, and gives the lines of this fact
+pub record WentSome (old : Chunks) (facts : List Line) (new : Chunks) : Type 0 where
+  pub tenant : ℕ
+  pub fact : Option ChunkFact
+  pub went : Went old tenant fact new
+  pub facts_are : facts ≡ fact_lines old.plan tenant fact
+  pub stands : FactStands old.plan tenant fact
+  pub is_read : FactIsRead old tenant fact
+  pub goes_on : GoesOn old.noted new.noted
+
+stayed : (old : Chunks) (facts : List Line) (new : Chunks) → new ≡ old → facts ≡ [] → WentSome old facts new
+stayed old facts new same none = record {
+  tenant = 0;
+  fact = None;
+  went = subst (λ (z : Chunks). Went old 0 None z) (sym same) (went_nowhere old 0);
+  facts_are = none;
+  stands = tt;
+  is_read = tt;
+  goes_on = subst (λ (z : Chunks). GoesOn old.noted z.noted) (sym same) (λ written clean. clean);
+}
+
+took_some : (text : ChunkAnswer → List ℕ) (old : Chunks) (t : ℕ) (request : ChunkRequest) (facts : List Line) (told : List ℕ) (new : Chunks) → Took text old t request facts told new → WentSome old facts new
+took_some text old t request facts told new took =
+    let went : Went old t took.answered.fact new = went_took text old t request facts told new took in
+    record { tenant = t; fact = took.answered.fact; went = went; facts_are = took.facts_are; stands = took.stands; is_read = fact_read old t took.answered.fact took.within went.reads; goes_on = took.answers.goes_on }
+
+filled_some : (old : Chunks) (t : ℕ) (filling : Filling) (facts : List Line) (new : Chunks) → Fills old t filling facts new → WentSome old facts new
+filled_some old t filling facts new fills =
+    let went : Went old t fills.fact new = went_filled old t filling facts new fills in
+    record { tenant = t; fact = fills.fact; went = went; facts_are = fills.facts_are; stands = fills.stands; is_read = fact_read old t fills.fact fills.within went.reads; goes_on = fills.done.goes_on }
+
+pub step_went : (old : Chunks) (line : List ℕ) (facts : List Line) (told : List ℕ) (new : Chunks) → ChunkSteps old line facts told new → WentSome old facts new
+step_went old line facts told new step = by (coming_in old line) step
   where
-    stayed : new ≡ old → WentSome old new
-    stayed same = record { tenant = 0; fact = None; went = subst (λ (z : Chunks). Went old 0 None z) (sym same) (went_nowhere old 0) }
+    peer : (may : Bool) (t from : ℕ) (request : ChunkRequest) → AnswersPeer may old t from request facts told new → WentSome old facts new
+    peer true t from request took = took_some (peer_answer_text old.plan old.node from t) old t request facts told new took
+    peer false t from request stays = stayed old facts new stays.same stays.facts_are
 
-    by : (asked : Asked) → StepsBy asked old facts told new → WentSome old new
-    by None stays = stayed stays.same
-    by (Some (t, None)) stays = stayed stays.same
-    by (Some (t, Some request)) took = record { tenant = t; fact = took.answered.fact; went = went_took old t request facts told new took }
+    said : (t from : ℕ) (saying : Saying) → SaidBy saying old t from facts told new → WentSome old facts new
+    said t from (Seeks p s after) its = peer (may_answer old t p) t from (ListChunks s after) its
+    said t from (Wants s n) its = peer (may_answer old t 0) t from (Get s n 0 whole_length) its
+    said t from (Found s after floor is_all chunks) fed = filled_some old t (Raise s floor) facts new fed.fills
+    said t from (Gives s n bytes) fed = filled_some old t (Give s n bytes) facts new fed.fills
+    said t from (Misses s n) waits = stayed old facts new waits.same waits.facts_are
+    said t from (Spoilt s n) waits = stayed old facts new waits.same waits.facts_are
+
+    ticked : (t : ℕ) → Waits old t facts told new ⊎ Fed old t End facts told new → WentSome old facts new
+    ticked t (inl waits) = stayed old facts new waits.same waits.facts_are
+    ticked t (inr fed) = filled_some old t End facts new fed.fills
+
+    by : (its : Coming) → StepsBy its old facts told new → WentSome old facts new
+    by Nothing stays = stayed old facts new stays.same stays.facts_are
+    by (Asked t None) stays = stayed old facts new stays.same stays.facts_are
+    by (Asked t (Some request)) took = took_some (chunk_answer_text old.plan old.node t) old t request facts told new took
+    by (Said t from saying) its = said t from saying its
+    by Ticked its = ticked its.0 its.1
 
 pub recall_went : (old : Chunks) (line : List ℕ) (new : Chunks) (recalled : ChunkRecalls old line new) → Went old recalled.tenant (Some recalled.fact) new
 recall_went old line new recalled = went_recalled old recalled.tenant recalled.fact new recalled.reads recalled.recalled
@@ -224,39 +293,20 @@ lines_are_facts plan t (Some fact) stands =
     and_from (is_batch_line line && not (is_head line)) true (and_from (is_batch_line line) (not (is_head line)) stands.1 (never_heads fact (spaced ((row_at plan t).name ∷ own_words fact)))) refl
 
 pub gives_facts : (old : Chunks) (line : List ℕ) (facts : List (List ℕ)) (told : List ℕ) (new : Chunks) → ChunkSteps old line facts told new → are_facts facts ≡ true
-gives_facts old line facts told new step = by (asked_in old line) step
-  where
-    none : facts ≡ [] → are_facts facts ≡ true
-    none is = ap are_facts is
+gives_facts old line facts told new step =
+    let some : WentSome old facts new = step_went old line facts told new step in
+    ap are_facts some.facts_are ∙ lines_are_facts old.plan some.tenant some.fact some.stands
 
-    by : (asked : Asked) → StepsBy asked old facts told new → are_facts facts ≡ true
-    by None stays = none stays.facts_are
-    by (Some (t, None)) stays = none stays.facts_are
-    by (Some (t, Some request)) took = ap are_facts took.facts_are ∙ lines_are_facts old.plan t took.answered.fact took.stands
-
-lines_read : (old other : Chunks) (t : ℕ) (depot : Depot) (fact : Option ChunkFact) → KeepsShape old other → slice_get old.depots t ≡ Some depot → FactStands old.plan t fact → ReadsFact (length depot.stock.sessions.items) fact → list_all (chunk_reads other) (fact_lines old.plan t fact) ≡ true
-lines_read old other t depot None shape at stands reads = refl
-lines_read old other t depot (Some fact) shape at stands reads =
+lines_read : (old other : Chunks) (t : ℕ) (fact : Option ChunkFact) → KeepsShape old other → FactStands old.plan t fact → FactIsRead old t fact → list_all (chunk_reads other) (fact_lines old.plan t fact) ≡ true
+lines_read old other t None shape stands reads = refl
+lines_read old other t (Some fact) shape stands reads =
     let line : List ℕ = chunk_fact_line old.plan t fact in
-    let its : depot_reads (slice_get old.depots t) fact ≡ true = ap (λ (o : Option Depot). depot_reads o fact) at ∙ reads in
-    and_from (chunk_reads other line) true (reads_as old other shape line ∙ (ap (reads_told old.depots) stands.0 ∙ its)) refl
+    and_from (chunk_reads other line) true (reads_as old other shape line ∙ (ap (reads_told old.depots) stands.0 ∙ reads)) refl
 
 pub gives_readable : (plan : List (List ℕ)) (old : Chunks) (line : List ℕ) (facts : List (List ℕ)) (told : List ℕ) (new other : Chunks) → ChunkSteps old line facts told new → ChunksAreBlank plan old other → list_all (chunk_reads other) facts ≡ true
-gives_readable plan old line facts told new other step blank = by (asked_in old line) step
-  where
-    none : facts ≡ [] → list_all (chunk_reads other) facts ≡ true
-    none is = ap (list_all (chunk_reads other)) is
-
-    took_read : (t : ℕ) (request : ChunkRequest) (took : Took old t request facts told new) → list_all (chunk_reads other) facts ≡ true
-    took_read t request took =
-        let was : (x : Depot) × (slice_get old.depots t ≡ Some x) = there old.depots t took.within in
-        let is : (x : Depot) × (slice_get new.depots t ≡ Some x) = across new.depots old.depots t was.0 (sym took.answers.site.tenants) was.1 in
-        ap (list_all (chunk_reads other)) took.facts_are ∙ lines_read old other t was.0 took.answered.fact (blank_shape (room_of_lines plan) old other blank) was.1 took.stands (took.answers.own was.0 is.0 was.1 is.1).reads
-
-    by : (asked : Asked) → StepsBy asked old facts told new → list_all (chunk_reads other) facts ≡ true
-    by None stays = none stays.facts_are
-    by (Some (t, None)) stays = none stays.facts_are
-    by (Some (t, Some request)) took = took_read t request took
+gives_readable plan old line facts told new other step blank =
+    let some : WentSome old facts new = step_went old line facts told new step in
+    ap (list_all (chunk_reads other)) some.facts_are ∙ lines_read old other some.tenant some.fact (blank_shape (room_of_lines plan) old other blank) some.stands some.is_read
 
 -- ---- what a start begins with
 
@@ -273,7 +323,7 @@ blank_back first old new other shape blank = record { site = site_on old new oth
 
 pub keeps_blank : (plan : List (List ℕ)) (old : Chunks) (line : List ℕ) (facts : List (List ℕ)) (told : List ℕ) (new other : Chunks) → ChunkSteps old line facts told new → ChunksAreBlank plan new other → ChunksAreBlank plan old other
 keeps_blank plan old line facts told new other step blank =
-    let some : WentSome old new = step_went old line facts told new step in
+    let some : WentSome old facts new = step_went old line facts told new step in
     blank_back (room_of_lines plan) old new other (went_shape old some.tenant some.fact new some.went) blank
 
 -- ---- of which plan it is
@@ -405,7 +455,7 @@ went_of plan old t fact new went has = record {
 
 pub keeps_plan : (plan : List (List ℕ)) (old : Chunks) (line : List ℕ) (facts : List (List ℕ)) (told : List ℕ) (new : Chunks) → ChunkSteps old line facts told new → ChunksAreOf plan old → ChunksAreOf plan new
 keeps_plan plan old line facts told new step has =
-    let some : WentSome old new = step_went old line facts told new step in
+    let some : WentSome old facts new = step_went old line facts told new step in
     went_of plan old some.tenant some.fact new some.went has
 
 pub recalls_plan : (plan : List (List ℕ)) (old : Chunks) (line : List ℕ) (new : Chunks) → ChunkRecalls old line new → ChunksAreOf plan old → ChunksAreOf plan new
@@ -451,18 +501,10 @@ recalled_went plan t (Some fact) before after is stands (next, one, last) =
     subst (λ (z : Chunks). Went before t (Some fact) z) last (subst (λ (x : ℕ × ChunkFact). Went before x.0 (Some x.1) next) same (recall_went before line next one))
 
 pub keeps_rest : (old : Chunks) (line : List ℕ) (facts : List (List ℕ)) (told : List ℕ) (new before after : Chunks) → ChunkSteps old line facts told new → ChunksRest old before → RecallsAll ChunkRecalls before facts after → ChunksRest new after
-keeps_rest old line facts told new before after step rests r = by (asked_in old line) step
-  where
-    stayed : new ≡ old → facts ≡ [] → ChunksRest new after
-    stayed same is =
-        subst (λ (z : Chunks). ChunksRest z after) (sym same) (subst (λ (z : Chunks). ChunksRest old z) (subst (λ (lines : List Line). RecallsAll ChunkRecalls before lines after) is r) rests)
-
-    by : (asked : Asked) → StepsBy asked old facts told new → ChunksRest new after
-    by None stays = stayed stays.same stays.facts_are
-    by (Some (t, None)) stays = stayed stays.same stays.facts_are
-    by (Some (t, Some request)) took =
-        let read : RecallsAll ChunkRecalls before (fact_lines old.plan t took.answered.fact) after = subst (λ (lines : List Line). RecallsAll ChunkRecalls before lines after) took.facts_are r in
-        rests_on t took.answered.fact old new before after (went_took old t request facts told new took) (recalled_went old.plan t took.answered.fact before after rests.site.plan took.stands read) rests
+keeps_rest old line facts told new before after step rests r =
+    let some : WentSome old facts new = step_went old line facts told new step in
+    let read : RecallsAll ChunkRecalls before (fact_lines old.plan some.tenant some.fact) after = subst (λ (lines : List Line). RecallsAll ChunkRecalls before lines after) some.facts_are r in
+    rests_on some.tenant some.fact old new before after some.went (recalled_went old.plan some.tenant some.fact before after rests.site.plan some.stands read) rests
 
 -- ---- a start once more
 

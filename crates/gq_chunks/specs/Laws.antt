@@ -1,5 +1,5 @@
 -- What is read of lines that are written.
-use Rattle.std.specs.Prelude.{◌≡◌, ◌<◌, ◌≤◌, ◌+◌, ◌*◌, ◌^◌, ℕ, List, length, true, Some}
+use Rattle.std.specs.Prelude.{◌≡◌, ◌<◌, ◌≤◌, ◌+◌, ◌*◌, ◌^◌, ℕ, List, [], ◌∷◌, length, true, Some}
 use Rattle.gq_shelf.specs.declared.place.Place.{Place}
 use Rattle.gq_shelf.specs.declared.place.Place.TheVariants.{Fresh, Shelved}
 use Rattle.gq_desk.specs.CheckedPlan.{CheckedPlan}
@@ -9,6 +9,8 @@ use Rattle.gq_text.specs.Words.{words_after}
 use Rattle.gq_journal.specs.Batches.{is_batch_line}
 use Rattle.gq_chunks.specs.Facts.{chunk_fact_line, chunk_fact_of_line}
 use Rattle.gq_chunks.specs.Answers.{told_content}
+use Rattle.gq_chunks.specs.PeerLines.{Saying, Seeks, Found, Wants, Gives, Misses, Spoilt, saying_words, saying_by}
+use Rattle.gq_depot.specs.declared.answer.ListedChunk.{ListedChunk}
 use Rattle.gq_chunks.specs.Requests.{chunk_content_of, request_words, chunk_request_by}
 use Rattle.gq_depot.specs.declared.request.ChunkRequest.{ChunkRequest}
 use Rattle.gq_depot.specs.declared.request.ChunkRequest.TheVariants.{Keep, Get, Forget, List as ListChunks, Room}
@@ -53,3 +55,21 @@ ContentsReadBack = (bytes : List ℕ) → chunk_content_of (told_content bytes) 
 -- it is written in at most two bytes for each, and one more
 abbrev pub ContentsAreShort : Type 0
 ContentsAreShort = (bytes : List ℕ) → length (told_content bytes) ≤ 2 * length bytes + 1
+
+-- the numbers of a listing fit in words of a line
+abbrev pub FitsChunks : List ListedChunk → Type 0
+FitsChunks [] = Unit {0}
+FitsChunks (chunk ∷ chunks) = (chunk.number < 2 ^ 64) × (chunk.size < 2 ^ 64) × FitsChunks chunks
+
+-- so do those that nodes of a column say
+abbrev pub FitsSaying : Saying → Type 0
+FitsSaying (Seeks losses session after) = (losses < 2 ^ 64) × IsNumber session × (after < 2 ^ 64)
+FitsSaying (Found session after floor is_all chunks) = IsNumber session × (after < 2 ^ 64) × (floor < 2 ^ 64) × FitsChunks chunks
+FitsSaying (Wants session number) = IsNumber session × (number < 2 ^ 64)
+FitsSaying (Gives session number bytes) = IsNumber session × (number < 2 ^ 64)
+FitsSaying (Misses session number) = IsNumber session × (number < 2 ^ 64)
+FitsSaying (Spoilt session number) = IsNumber session × (number < 2 ^ 64)
+
+-- what nodes of a column write to each other is read as that
+abbrev pub SayingsReadBack : Type 0
+SayingsReadBack = (saying : Saying) → FitsSaying saying → saying_by (words_after (spaced (saying_words saying))) ≡ Some saying

@@ -1,6 +1,10 @@
 pub mod Facts
 pub mod Requests
 pub mod Answers
+pub mod PeerLines
+pub mod Peers
+pub mod Coming
+pub mod Search
 pub mod Takers
 pub mod Laws
 pub mod Longest

@@ -1,73 +1,64 @@
 -- What a machine of chunks has, and what a line makes of it. Nothing here names the shelf: only what was noted of it.
-use Rattle.std.specs.Prelude.{◌≡◌, ◌<◌, ◌≤◌, ◌*◌, ◌%◌, ℕ, List, [], ◌∷◌, length, map, Bool, true, false, ◌&&◌, ◌==◌, nat_lt, Option, Some, None, slice_get, Ok, Err, ⊤, if◌then◌else◌}
+use Rattle.std.specs.Prelude.{◌≡◌, ◌⊎◌, ◌<◌, ◌≤◌, ◌*◌, ◌%◌, ◌^◌, ◌-◌, not, nat_le, ℕ, List, [], ◌++◌, length, map, Bool, true, false, ◌&&◌, ◌==◌, nat_lt, Option, Some, None, slice_get, Ok, Err, ⊤, if◌then◌else◌}
 use Rattle.std.specs.List.{sum_by}
 use Rattle.std.specs.Option.{option_to_list}
 use Rattle.gq_shelf.specs.Notes.{Noted, GoesOn}
 use Rattle.gq_shelf.specs.Places.{long_at}
 use Rattle.gq_desk.specs.CheckedPlan.{CheckedPlan, row_at}
-use Rattle.gq_journal.specs.Batches.{Line, lines_text, is_batch_line}
+use Rattle.gq_journal.specs.Batches.{Line, lines_text, is_batch_line, are_batch_lines}
 use Rattle.gq_keeper.specs.declared.fault.Fault.{Fault}
 use Rattle.gq_keeper.specs.declared.fault.Fault.TheVariants as Ends
 use Rattle.gq_shelf.specs.declared.fault.ShelfFault.{ShelfFault}
 use Rattle.gq_shelf.specs.declared.fault.ShelfFault.TheVariants as Shelf
 use Rattle.gq_replace.specs.Plans.{generation, place_of}
-use Rattle.gq_text.specs.Words.{Word, words_of, number_of}
-use Rattle.gq_text.specs.Input.{place_named}
-use Rattle.gq_wire.specs.Incoming.{is_to}
 use Rattle.gq_setup.specs.Setups.{Setup, SetupReading, kib_of}
 use Rattle.gq_setup.specs.Texts.{setup_of_node_text}
 use Rattle.gq_depot.specs.Depots.{Placed, Standing, standing_of, bare, IsSame, reads_fact}
-use Rattle.gq_depot.specs.Tenants.{TakesOwn, LeadsOwn, ApartFrom, DamageOf}
+use Rattle.gq_depot.specs.Tenants.{TakesOwn, FillsOwn, LeadsOwn, ApartFrom, DamageOf}
+use Rattle.gq_depot.specs.Seeking.{Sought, AreAsks}
 use Rattle.gq_depot.specs.declared.limits.TheConstants.{MOST_CHUNK}
 use Rattle.gq_depot.specs.declared.answer.Answered.{Answered}
+use Rattle.gq_depot.specs.declared.answer.ChunkAnswer.{ChunkAnswer}
 use Rattle.gq_depot.specs.declared.answer.ChunkAnswer.TheVariants.{Bad}
 use Rattle.gq_depot.specs.declared.depot.Depot.{Depot}
 use Rattle.gq_depot.specs.declared.fact.ChunkFact.{ChunkFact}
+use Rattle.gq_depot.specs.declared.filling.Filling.{Filling}
+use Rattle.gq_depot.specs.declared.filling.Filling.TheVariants.{Give, Raise, End}
 use Rattle.gq_depot.specs.declared.request.ChunkRequest.{ChunkRequest}
+use Rattle.gq_depot.specs.declared.request.ChunkRequest.TheVariants.{Get, List as ListChunks}
+use Rattle.gq_depot.specs.declared.seeking.Ask.{Ask}
 use Rattle.gq_chunks.specs.Answers.{chunk_answer_text}
 use Rattle.gq_chunks.specs.Facts.{chunk_fact_line, chunk_fact_of_line}
-use Rattle.gq_chunks.specs.Requests.{chunk_request_by}
+use Rattle.gq_chunks.specs.Coming.{Coming, Asked, Said, Ticked, Nothing, coming_of}
+use Rattle.gq_chunks.specs.PeerLines.{Saying, Seeks, Found, Wants, Gives, Misses, Spoilt, asks_text, peer_answer_text}
+use Rattle.gq_chunks.specs.Peers.{is_peer}
 
--- The plan's tenants, the number of the node, how many nodes of its column were lost, what each tenant has, by its place in the plan, and what was noted of
--- the shelf.
+-- The plan's tenants, the number of the node, the places whose nodes were lost, how many of them are of its column, what each tenant has, by its place in the plan, and what was noted of
+-- the shelf. What the node asked of its peers is no part of it.
 pub record Chunks : Type 0 where
   pub plan : CheckedPlan
   pub node : ℕ
+  pub lost : List ℕ
   pub losses : ℕ
   pub depots : List Depot
   pub noted : Noted
 
-abbrev pub chunks : CheckedPlan → (node losses : ℕ) → List Depot → Noted → Chunks
-chunks plan node losses depots noted = record { plan = plan; node = node; losses = losses; depots = depots; noted = noted }
+abbrev pub chunks : CheckedPlan → (node : ℕ) → (lost : List ℕ) → (losses : ℕ) → List Depot → Noted → Chunks
+chunks plan node lost losses depots noted = record { plan = plan; node = node; lost = lost; losses = losses; depots = depots; noted = noted }
 
 -- it is the node of the same number and plan
 pub record IsSite (old new : Chunks) : Type 0 where
   pub plan : new.plan ≡ old.plan
   pub node : new.node ≡ old.node
+  pub lost : new.lost ≡ old.lost
   pub losses : new.losses ≡ old.losses
   pub tenants : length new.depots ≡ length old.depots
 
--- ---- what a line asks
+-- ---- what a line is
 
--- which tenant asks, and what; none where its words have no form
-abbrev pub Asked : Type 0
-Asked = Option (ℕ × Option ChunkRequest)
-
-abbrev pub asked_by : (tenants : ℕ) → Option ℕ → List Word → Asked
-asked_by tenants None body = None
-asked_by tenants (Some t) body = if nat_lt t tenants then Some (t, chunk_request_by body) else None
-
--- a line `TO FROM BODY` to the node, of one of the first tenants of the plan, so many; any other is passed over
-abbrev pub asked_of_words : CheckedPlan → (node tenants : ℕ) → List Word → Asked
-asked_of_words plan node tenants (to ∷ from ∷ body) = if is_to node (number_of to) then asked_by tenants (place_named plan from) body else None
-asked_of_words plan node tenants _ = None
-
-abbrev pub asked_of : CheckedPlan → (node tenants : ℕ) → List ℕ → Asked
-asked_of plan node tenants line = asked_of_words plan node tenants (words_of line)
-
--- what it asks of the machine, which has a depot for each tenant
-abbrev pub asked_in : Chunks → List ℕ → Asked
-asked_in m line = asked_of m.plan m.node (length m.depots) line
+-- to the machine, which has a depot for each tenant
+abbrev pub coming_in : Chunks → List ℕ → Coming
+coming_in m line = coming_of m.plan m.node m.lost (length m.depots) line
 
 -- ---- a step
 
@@ -93,12 +84,12 @@ pub record Answers (old : Chunks) (t : ℕ) (request : ChunkRequest) (answered :
   pub goes_on : GoesOn old.noted new.noted
   pub site : IsSite old new
 
--- The tenant at this place asked this: the machine gave the fact and told the answer.
-pub record Took (old : Chunks) (t : ℕ) (request : ChunkRequest) (facts : List Line) (told : List ℕ) (new : Chunks) : Type 0 where
+-- This was asked of the tenant at this place: the machine gave the fact and told the answer, as this text.
+pub record Took (text : ChunkAnswer → List ℕ) (old : Chunks) (t : ℕ) (request : ChunkRequest) (facts : List Line) (told : List ℕ) (new : Chunks) : Type 0 where
   pub answered : Answered
   pub answers : Answers old t request answered new
   pub facts_are : facts ≡ fact_lines old.plan t answered.fact
-  pub told_is : told ≡ chunk_answer_text old.plan old.node t answered.answer
+  pub told_is : told ≡ text answered.answer
   pub within : t < length old.depots
   pub stands : FactStands old.plan t answered.fact
 
@@ -108,14 +99,106 @@ pub record Stays (old : Chunks) (facts : List Line) (told : List ℕ) (text : Li
   pub facts_are : facts ≡ []
   pub told_is : told ≡ text
 
+-- ---- a node that lacks chunks, and one that gives them
+
+-- A peer is asked this about the tenant at this place.
+pub record AsksPeer (plan : CheckedPlan) (node : ℕ) (lost : List ℕ) (losses t : ℕ) (told : List ℕ) : Type 0 where
+  pub to : ℕ
+  pub peer : is_peer plan node lost to ≡ true
+  pub sought : Sought
+  pub asks : List Ask
+  pub are_asks : AreAsks sought asks
+  pub text : told ≡ asks_text plan node to t losses asks
+
+-- nothing is told, or a peer is asked
+abbrev pub MayAsk : CheckedPlan → (node : ℕ) → (lost : List ℕ) → (losses t : ℕ) → (told : List ℕ) → Type 0
+MayAsk plan node lost losses t told = (told ≡ []) ⊎ AsksPeer plan node lost losses t told
+
+abbrev pub MayAskOf : Chunks → (t : ℕ) → (told : List ℕ) → Type 0
+MayAskOf m t told = MayAsk m.plan m.node m.lost m.losses t told
+
+-- This came of what was done for the tenant at this place. It hangs on this tenant's chunks alone, and all others stay.
+pub record FillsDone (old : Chunks) (t : ℕ) (filling : Filling) (fact : Option ChunkFact) (new : Chunks) : Type 0 where
+  pub own : FillsOwn new.noted old.depots t filling fact new.depots
+  pub apart : ApartFrom t old.depots new.depots
+  pub goes_on : GoesOn old.noted new.noted
+  pub site : IsSite old new
+
+-- This was done for the tenant at this place of what a peer gave, or since all was given.
+pub record Fills (old : Chunks) (t : ℕ) (filling : Filling) (facts : List Line) (new : Chunks) : Type 0 where
+  pub fact : Option ChunkFact
+  pub done : FillsDone old t filling fact new
+  pub facts_are : facts ≡ fact_lines old.plan t fact
+  pub within : t < length old.depots
+  pub stands : FactStands old.plan t fact
+
+-- it was done; a peer may be asked for more
+pub record Fed (old : Chunks) (t : ℕ) (filling : Filling) (facts : List Line) (told : List ℕ) (new : Chunks) : Type 0 where
+  pub fills : Fills old t filling facts new
+  pub asks : MayAskOf old t told
+
+-- nothing is done; a peer may be asked for more
+pub record Waits (old : Chunks) (t : ℕ) (facts : List Line) (told : List ℕ) (new : Chunks) : Type 0 where
+  pub same : new ≡ old
+  pub facts_are : facts ≡ []
+  pub asks : MayAskOf old t told
+
+-- whether the tenant is there, and none of its chunks is lacked
+abbrev pub lacks_none : Option Depot → Bool
+lacks_none None = false
+lacks_none (Some depot) = not depot.lacks
+
+-- a peer is answered about the tenant only where none of the tenant's chunks is lacked, and the plan tells as many losses of the column
+abbrev pub may_answer : Chunks → (t losses : ℕ) → Bool
+may_answer m t losses = lacks_none (slice_get m.depots t) && nat_le losses m.losses
+
+-- It is told what a tenant would be, of a request that changes nothing; else it is told nothing.
+abbrev pub AnswersPeer : (may : Bool) → Chunks → (t from : ℕ) → ChunkRequest → List Line → List ℕ → Chunks → Type 0
+AnswersPeer true old t from request facts told new = Took (peer_answer_text old.plan old.node from t) old t request facts told new
+AnswersPeer false old t from request facts told new = Stays old facts told [] new
+
+-- all of a content
+abbrev pub whole_length : ℕ
+whole_length = 2 ^ 64 - 1
+
+-- what a peer says about the tenant at this place
+abbrev pub SaidBy : Saying → Chunks → (t from : ℕ) → List Line → List ℕ → Chunks → Type 0
+SaidBy (Seeks p s after) old t from facts told new = AnswersPeer (may_answer old t p) old t from (ListChunks s after) facts told new
+SaidBy (Wants s n) old t from facts told new = AnswersPeer (may_answer old t 0) old t from (Get s n 0 whole_length) facts told new
+SaidBy (Found s after floor is_all chunks) old t from facts told new = Fed old t (Raise s floor) facts told new
+SaidBy (Gives s n bytes) old t from facts told new = Fed old t (Give s n bytes) facts told new
+SaidBy (Misses s n) old t from facts told new = Waits old t facts told new
+SaidBy (Spoilt s n) old t from facts told new = Waits old t facts told new
+
+-- at a tick a peer may be asked about a tenant, or a tenant's chunks were all given
+abbrev pub Ticks : Chunks → List Line → List ℕ → Chunks → Type 0
+Ticks old facts told new = (t : ℕ) × (Waits old t facts told new ⊎ Fed old t End facts told new)
+
+-- ---- any line
+
 -- A request is answered, one without form is told to be bad, and another line is passed over.
-abbrev pub StepsBy : Asked → Chunks → List Line → List ℕ → Chunks → Type 0
-StepsBy None old facts told new = Stays old facts told [] new
-StepsBy (Some (t, None)) old facts told new = Stays old facts told (chunk_answer_text old.plan old.node t Bad) new
-StepsBy (Some (t, Some request)) old facts told new = Took old t request facts told new
+abbrev pub StepsBy : Coming → Chunks → List Line → List ℕ → Chunks → Type 0
+StepsBy Nothing old facts told new = Stays old facts told [] new
+StepsBy (Asked t None) old facts told new = Stays old facts told (chunk_answer_text old.plan old.node t Bad) new
+StepsBy (Asked t (Some request)) old facts told new = Took (chunk_answer_text old.plan old.node t) old t request facts told new
+StepsBy (Said t from saying) old facts told new = SaidBy saying old t from facts told new
+StepsBy Ticked old facts told new = Ticks old facts told new
 
 abbrev pub ChunkSteps : Chunks → List ℕ → List (List ℕ) → List ℕ → Chunks → Type 0
-ChunkSteps old line facts told new = StepsBy (asked_in old line) old facts told new
+ChunkSteps old line facts told new = StepsBy (coming_in old line) old facts told new
+
+-- what is told behind the text: nothing, or asks about the tenant
+pub record AddsAsks (m : Chunks) (t : ℕ) (before after : List ℕ) : Type 0 where
+  pub text : List ℕ
+  pub is : after ≡ before ++ text
+  pub asks : MayAskOf m t text
+
+-- the facts that are given of it behind the text
+pub record AddsFacts (old : Chunks) (t : ℕ) (filling : Filling) (before after : List ℕ) (new : Chunks) : Type 0 where
+  pub lines : List Line
+  pub is : after ≡ before ++ lines_text lines
+  pub opened : are_batch_lines lines ≡ true
+  pub fills : Fills old t filling lines new
 
 -- ---- a line of an earlier run
 
@@ -149,6 +232,7 @@ abbrev pub IsFaultOf : ShelfFault → Fault → Type 0
 IsFaultOf (Shelf.Memory refused) fault = fault ≡ Ends.Memory refused
 IsFaultOf Shelf.Read fault = fault ≡ Ends.JournalRead
 IsFaultOf Shelf.Write fault = fault ≡ Ends.JournalWrite
+IsFaultOf Shelf.Full fault = fault ≡ Ends.JournalWrite
 IsFaultOf (Shelf.Damaged segment) fault = fault ≡ Ends.JournalRead
 
 -- memory was wanting, or the shelf refused a call
@@ -265,6 +349,7 @@ AreBare setup first node depots = (t : ℕ) (depot : Depot) → slice_get depots
 pub record IsNewFor (setup : Setup) (first : Option Setup) (node : ℕ) (m : Chunks) : Type 0 where
   pub plan_is : m.plan ≡ setup.plan
   pub node_is : m.node ≡ node
+  pub lost_are : m.lost ≡ setup.lost
   pub losses_are : m.losses ≡ column_losses setup.plan.grid.cols (place_of node) setup.lost
   pub tenants : length m.depots ≡ length setup.plan.rows
   pub depots : AreBare setup first node m.depots

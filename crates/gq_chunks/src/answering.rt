@@ -27,7 +27,7 @@ fn put_head(out: &mut Vec<u8>, plan: &Plan, node: u16, tenant: u8) -> Result<(),
 }
 
 // Appends a space and a number.
-fn put_spaced(out: &mut Vec<u8>, n: u64) -> Result<(), OutOfMemory>
+pub(crate) fn put_spaced(out: &mut Vec<u8>, n: u64) -> Result<(), OutOfMemory>
     ensures ok { OnOk result (out.new.items ≡ out.old.items ++ spaced (decimal n ∷ [])) }
     ensures err { OnErr result (Extends out.old.items out.new.items) }
 {
@@ -60,7 +60,7 @@ fn put_short(out: &mut Vec<u8>, bytes: &[u8]) -> Result<bool, OutOfMemory>
 }
 
 // Appends the word of a content.
-fn put_content(out: &mut Vec<u8>, bytes: &[u8]) -> Result<(), OutOfMemory>
+pub(crate) fn put_content(out: &mut Vec<u8>, bytes: &[u8]) -> Result<(), OutOfMemory>
     ensures ok { OnOk result (out.new.items ≡ out.old.items ++ spaced (told_content bytes.now ∷ [])) }
     ensures err { OnErr result (Extends out.old.items out.new.items) }
 {
@@ -120,6 +120,15 @@ fn put_kept(
                 session,
                 number,
                 Piece::Number(free),
+            ],
+        ),
+        Keeping::NoSpace => put_words(
+            out,
+            &[
+                Piece::Text(b"refused"),
+                Piece::Text(b"full"),
+                session,
+                number,
             ],
         ),
     }

@@ -30,7 +30,7 @@ fn read_content(alloc: Global, word: &[u8]) -> Result<Option<Bytes>, OutOfMemory
 }
 
 // The content of the next word, which is the last.
-fn last_content(alloc: Global, text: &[u8]) -> Result<Option<Bytes>, OutOfMemory>
+pub(crate) fn last_content(alloc: Global, text: &[u8]) -> Result<Option<Bytes>, OutOfMemory>
     ensures { IfOk result (λ read. read ≡ last_chunk_content (words_after text.now)) }
 {
     let Some((word, rest)) = next_long_word(text) else {

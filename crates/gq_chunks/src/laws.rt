@@ -1,7 +1,7 @@
 //! What is read of lines that are written, and what lines of several tenants make.
 
 ghost use Rattle.gq_chunks.specs.Alone.{TenantsApart};
-ghost use Rattle.gq_chunks.specs.Laws.{ContentsAreShort, ContentsReadBack, FactsReadBack, FactsStandInBatches, RequestsReadBack};
+ghost use Rattle.gq_chunks.specs.Laws.{ContentsAreShort, ContentsReadBack, FactsReadBack, FactsStandInBatches, RequestsReadBack, SayingsReadBack};
 
 /// The line of a fact is read as that fact, of its tenant.
 pub fn facts_read_back()
@@ -18,7 +18,12 @@ pub fn requests_read_back()
     ensures { RequestsReadBack }
 {}
 
-/// Whatever lines all tenants sent: what one of them is told, and what is kept of it, is what comes of its own lines alone.
+/// What nodes of a column write to each other about chunks is read as that.
+pub fn sayings_read_back()
+    ensures { SayingsReadBack }
+{}
+
+/// Whatever lines all tenants sent, and peers said: what one tenant is told, and what is kept of it, is what comes of its own lines, of what peers say of it, and of ticks.
 pub fn tenants_apart()
     ensures { TenantsApart }
 {}

@@ -1,24 +1,34 @@
-//! Chunks in lines: what a tenant asks about them and is told, what a node must not forget of them, and the machine that takes such lines.
+//! Chunks in lines: what a tenant asks about them and is told, what nodes of a column say to each other so that a new one gets them, what a node must not forget of them, and
+//! the machine that takes such lines.
 #![tactic(auto)]
 
 mod answering;
-mod asked;
 mod asking;
+mod came;
+mod filling;
+mod hearing;
 pub mod laws;
 mod longest;
 mod machine;
 mod needed;
 mod new_depots;
+mod peer_line;
+mod peers;
 mod ranges;
 mod reading;
+mod saying;
+mod search;
 mod taking;
 mod writing;
 
 pub use answering::put_chunk_answer;
 pub use asking::read_chunk_request;
-pub use gq_depot::{ChunkAnswer, ChunkFact, ChunkRequest};
+pub use gq_depot::{ChunkAnswer, ChunkFact, ChunkRequest, Sweep};
+pub use hearing::read_peer_line;
 pub use longest::longest_of;
 pub use machine::ChunkMachine;
+pub use peer_line::PeerLine;
 pub use reading::read_chunk_fact;
+pub use saying::put_peer_line;
 pub use taking::{is_chunk_fact, taker_of};
 pub use writing::put_chunk_fact;

@@ -1,24 +1,28 @@
 //! The machine of a server's chunks: lines in, facts and answers out, over a shelf.
 
-ghost use Rattle.std.specs.Prelude.{◌≡◌, ◌<◌, ◌++◌, [], length, slice_get, true, IfOk, IfErr, OnOk};
-ghost use Rattle.std.specs.List.{list_any};
+ghost use Rattle.std.specs.Prelude.{◌≡◌, ◌+◌, ◌<◌, ◌≤◌, ◌++◌, [], length, slice_get, true, IfOk, IfErr, IfSome, OnOk};
+ghost use Rattle.std.specs.List.{count_by};
 ghost use Rattle.gq_text.specs.Canonical.{IsPlan};
 ghost use Rattle.gq_journal.specs.Batches.{lines_text};
 ghost use Rattle.gq_keeper.specs.Runs.{Takes};
+ghost use Rattle.gq_shelf.specs.Extents.{place_of};
+ghost use Rattle.gq_depot.specs.Segments.{NoneLies};
 ghost use Rattle.gq_depot.specs.declared.answer.ChunkAnswer.TheVariants.{Bad};
 ghost use Rattle.gq_chunks.specs.Answers.{chunk_answer_text};
 ghost use Rattle.gq_chunks.specs.Machines.{chunks, fact_lines, FactStands, depot_reads, IsFaultOf, IsShelfRefusal, Answers, Took, Recalled, IsNewFor};
 
-use crate::asked::{Asked, read_asked};
+use crate::came::{Came, read_came};
 use crate::needed::put_tenants;
 use crate::new_depots::{column_losses, new_depots};
 use crate::ranges::{plan_is_sound, put_sound_fact};
+use crate::search::Search;
 use crate::{ChunkAnswer, ChunkFact, ChunkRequest, put_chunk_answer, read_chunk_fact};
-use gq_depot::{Answered, Depots};
+use gq_depot::{Answered, Depots, Sweep};
 use gq_desk::Plan;
 use gq_grid::MOST_SERVERS;
 use gq_keeper::{Fault, Lasting, Machine, Unread};
 use gq_memory::OutOfMemory;
+use gq_node::Lost;
 use gq_setup::Setup;
 use gq_shelf::{Shelf, ShelfFault};
 use std::alloc::Global;
@@ -26,21 +30,24 @@ use std::alloc::Global;
 /// The chunks of all tenants at a node, over a shelf. After an `Err` of any call it is given up: a part of what a step gives may have been appended.
 #[derive(Drop)]
 pub struct ChunkMachine<S: Shelf + Drop> {
-    alloc: Global,
-    plan: Plan,
-    node: u16,
-    depots: Depots<S>,
+    pub(crate) alloc: Global,
+    pub(crate) plan: Plan,
+    pub(crate) node: u16,
+    pub(crate) lost: Lost,
+    pub(crate) depots: Depots<S>,
     // how many lines of a journal it read
     facts: u64,
+    // what it asks of its peers where it lacks chunks
+    pub(crate) search: Search,
 }
 
-// Why the machine ends where the shelf refuses.
-fn fault_of(fault: ShelfFault) -> Fault
+/// Why the machine ends where the shelf refuses.
+pub(crate) fn fault_of(fault: ShelfFault) -> Fault
     ensures { IsFaultOf fault result }
 {
     match fault {
         ShelfFault::Memory(refused) => Fault::Memory(refused),
-        ShelfFault::Write => Fault::JournalWrite,
+        ShelfFault::Write | ShelfFault::Full => Fault::JournalWrite,
         ShelfFault::Read | ShelfFault::Damaged(_) => Fault::JournalRead,
     }
 }
@@ -55,7 +62,7 @@ impl<S: Shelf + Drop> ChunkMachine<S> {
         node: u16,
         shelf: S,
     ) -> Result<ChunkMachine<S>, OutOfMemory>
-        ensures is_new { IfOk result (λ m. IsNewFor setup.now first.now node (chunks m.plan m.node m.depots.losses m.depots.depots.items (S.noted m.depots.shelf))) }
+        ensures is_new { IfOk result (λ m. IsNewFor setup.now first.now node (chunks m.plan m.node m.lost m.depots.losses m.depots.depots.items (S.noted m.depots.shelf))) }
         ensures noted { IfOk result (λ m. S.noted m.depots.shelf ≡ S.noted shelf) }
     {
         let cols = setup.plan().grid().cols();
@@ -64,12 +71,14 @@ impl<S: Shelf + Drop> ChunkMachine<S> {
             alloc,
             plan: setup.plan().copy()?,
             node,
+            lost: setup.lost().copy(alloc)?,
             depots: Depots {
                 shelf,
                 depots: new_depots(alloc, setup, first, node)?,
                 losses,
             },
             facts: 0,
+            search: Search::new(alloc),
         })
     }
 
@@ -78,20 +87,35 @@ impl<S: Shelf + Drop> ChunkMachine<S> {
         self.facts
     }
 
-    /// Whether the node lacks chunks of some tenant.
-    pub fn lacks_some(&self) -> bool
-        ensures { result ≡ list_any (λ depot. depot.lacks) self.now.depots.depots.items }
+    /// Of how many tenants the node lacks chunks.
+    pub fn lacking(&self) -> usize
+        ensures { result ≡ count_by (λ depot. depot.lacks) self.now.depots.depots.items }
     {
+        let mut count = 0;
         for depot in self.depots.depots.as_slice() {
             if depot.lacks {
-                return true;
+                count += 1;
             }
         }
-        false
+        count
     }
 
-    // Appends the line of the fact, if there is one.
-    fn put_fact(
+    /// Does one part of a look for segments of the shelf in which no chunk lies, and tells which one it removed, if one. Who calls sees to it that all facts that the
+    /// machine gave are synced. Where the shelf refuses it, or memory is wanting, nothing is removed, and the next look tries again.
+    pub fn sweep(&self, sweep: &mut Sweep) -> Result<Option<u32>, ShelfFault>
+        ensures dead { IfOk result (λ removed. IfSome removed (λ segment. NoneLies segment self.now.depots.depots.items)) }
+        ensures below { IfOk result (λ removed. IfSome removed (λ segment. place_of (segment + 1) 0 ≤ S.end self.now.depots.shelf)) }
+    {
+        self.depots.sweep(sweep)
+    }
+
+    /// How many contents came, of those that it asked for since it was started.
+    pub fn contents_came(&self) -> u64 {
+        self.search.contents
+    }
+
+    /// Appends the line of the fact, if there is one.
+    pub(crate) fn put_fact(
         &self,
         tenant: u8,
         fact: &Option<ChunkFact>,
@@ -108,10 +132,10 @@ impl<S: Shelf + Drop> ChunkMachine<S> {
         }
     }
 
-    // What comes of the tenant's request.
-    fn answer(&mut self, tenant: u8, request: ChunkRequest) -> Result<Answered, Fault>
+    /// What comes of the tenant's request.
+    pub(crate) fn answer(&mut self, tenant: u8, request: ChunkRequest) -> Result<Answered, Fault>
         requires { tenant < length self.old.depots.depots.items }
-        ensures answered { IfOk result (λ answered. Answers (chunks self.old.plan self.old.node self.old.depots.losses self.old.depots.depots.items (S.noted self.old.depots.shelf)) tenant request answered (chunks self.new.plan self.new.node self.new.depots.losses self.new.depots.depots.items (S.noted self.new.depots.shelf))) }
+        ensures answered { IfOk result (λ answered. Answers (chunks self.old.plan self.old.node self.old.lost self.old.depots.losses self.old.depots.depots.items (S.noted self.old.depots.shelf)) tenant request answered (chunks self.new.plan self.new.node self.new.lost self.new.depots.losses self.new.depots.depots.items (S.noted self.new.depots.shelf))) }
         ensures refused { IfErr result (λ fault. IsShelfRefusal fault (S.noted self.old.depots.shelf) (S.noted self.new.depots.shelf)) }
     {
         match self.depots.answer(self.alloc, tenant as usize, request) {
@@ -131,7 +155,7 @@ impl<S: Shelf + Drop> ChunkMachine<S> {
         requires tenant { tenant < length self.old.plan.rows }
         requires there { tenant < length self.old.depots.depots.items }
         requires sound { IsPlan self.old.plan }
-        ensures took { OnOk result (Takes (λ old line facts told new. Took old tenant request facts told new) (chunks self.old.plan self.old.node self.old.depots.losses self.old.depots.depots.items (S.noted self.old.depots.shelf)) [] facts.old.items facts.new.items told.old.items told.new.items (chunks self.new.plan self.new.node self.new.depots.losses self.new.depots.depots.items (S.noted self.new.depots.shelf))) }
+        ensures took { OnOk result (Takes (λ old line facts told new. Took (chunk_answer_text old.plan old.node tenant) old tenant request facts told new) (chunks self.old.plan self.old.node self.old.lost self.old.depots.losses self.old.depots.depots.items (S.noted self.old.depots.shelf)) [] facts.old.items facts.new.items told.old.items told.new.items (chunks self.new.plan self.new.node self.new.lost self.new.depots.losses self.new.depots.depots.items (S.noted self.new.depots.shelf))) }
         ensures refused { IfErr result (λ fault. IsShelfRefusal fault (S.noted self.old.depots.shelf) (S.noted self.new.depots.shelf)) }
     {
         let answered = self.answer(tenant, request)?;
@@ -152,7 +176,7 @@ impl<S: Shelf + Drop> ChunkMachine<S> {
     fn recall_fact(&mut self, tenant: u8, fact: ChunkFact) -> Result<bool, OutOfMemory>
         requires { tenant < length self.old.depots.depots.items }
         ensures read { IfOk result (λ is_read. is_read ≡ depot_reads (slice_get self.old.depots.depots.items tenant) fact) }
-        ensures leads { IfOk result (λ is_read. is_read ≡ true → Recalled (chunks self.old.plan self.old.node self.old.depots.losses self.old.depots.depots.items (S.noted self.old.depots.shelf)) tenant fact (chunks self.new.plan self.new.node self.new.depots.losses self.new.depots.depots.items (S.noted self.new.depots.shelf))) }
+        ensures leads { IfOk result (λ is_read. is_read ≡ true → Recalled (chunks self.old.plan self.old.node self.old.lost self.old.depots.losses self.old.depots.depots.items (S.noted self.old.depots.shelf)) tenant fact (chunks self.new.plan self.new.node self.new.lost self.new.depots.losses self.new.depots.depots.items (S.noted self.new.depots.shelf))) }
     {
         self.facts = self.facts.saturating_add(1);
         self.depots.recall(self.alloc, tenant as usize, fact)
@@ -163,11 +187,11 @@ impl<S: Shelf + Drop> Machine for ChunkMachine<S> {
     ghost use Rattle.gq_chunks.specs.Machines.{ChunkSteps, ChunkRecalls, chunk_reads};
     ghost use Rattle.gq_chunks.specs.Lasting.{reads_on};
 
-    ghost steps = { λ old line facts told new. ChunkSteps (chunks old.plan old.node old.depots.losses old.depots.depots.items (S.noted old.depots.shelf)) line facts told (chunks new.plan new.node new.depots.losses new.depots.depots.items (S.noted new.depots.shelf)) };
+    ghost steps = { λ old line facts told new. ChunkSteps (chunks old.plan old.node old.lost old.depots.losses old.depots.depots.items (S.noted old.depots.shelf)) line facts told (chunks new.plan new.node new.lost new.depots.losses new.depots.depots.items (S.noted new.depots.shelf)) };
 
-    ghost recalls = { λ old line new. ChunkRecalls (chunks old.plan old.node old.depots.losses old.depots.depots.items (S.noted old.depots.shelf)) line (chunks new.plan new.node new.depots.losses new.depots.depots.items (S.noted new.depots.shelf)) };
+    ghost recalls = { λ old line new. ChunkRecalls (chunks old.plan old.node old.lost old.depots.losses old.depots.depots.items (S.noted old.depots.shelf)) line (chunks new.plan new.node new.lost new.depots.losses new.depots.depots.items (S.noted new.depots.shelf)) };
 
-    ghost readable = { λ m line. chunk_reads (chunks m.plan m.node m.depots.losses m.depots.depots.items (S.noted m.depots.shelf)) line };
+    ghost readable = { λ m line. chunk_reads (chunks m.plan m.node m.lost m.depots.losses m.depots.depots.items (S.noted m.depots.shelf)) line };
 
     fn recall(&mut self, line: &[u8]) -> Result<(), Unread> {
         let Some((tenant, fact)) = read_chunk_fact(self.alloc, line, &self.plan)? else {
@@ -182,21 +206,26 @@ impl<S: Shelf + Drop> Machine for ChunkMachine<S> {
         Ok(())
     }
 
-    ghost reads_on = { λ old line new other recalled. reads_on (chunks old.plan old.node old.depots.losses old.depots.depots.items (S.noted old.depots.shelf)) line (chunks new.plan new.node new.depots.losses new.depots.depots.items (S.noted new.depots.shelf)) other recalled };
+    ghost reads_on = { λ old line new other recalled. reads_on (chunks old.plan old.node old.lost old.depots.losses old.depots.depots.items (S.noted old.depots.shelf)) line (chunks new.plan new.node new.lost new.depots.losses new.depots.depots.items (S.noted new.depots.shelf)) other recalled };
 
     fn take(&mut self, line: &[u8], facts: &mut Vec<u8>, told: &mut Vec<u8>) -> Result<(), Fault>
-        ensures takes { OnOk result (Takes (λ old line facts told new. ChunkSteps (chunks old.plan old.node old.depots.losses old.depots.depots.items (S.noted old.depots.shelf)) line facts told (chunks new.plan new.node new.depots.losses new.depots.depots.items (S.noted new.depots.shelf))) self.old line.now facts.old.items facts.new.items told.old.items told.new.items self.new) }
+        ensures takes { OnOk result (Takes (λ old line facts told new. ChunkSteps (chunks old.plan old.node old.lost old.depots.losses old.depots.depots.items (S.noted old.depots.shelf)) line facts told (chunks new.plan new.node new.lost new.depots.losses new.depots.depots.items (S.noted new.depots.shelf))) self.old line.now facts.old.items facts.new.items told.old.items told.new.items self.new) }
         ensures refused { IfErr result (λ fault. IsShelfRefusal fault (S.noted self.old.depots.shelf) (S.noted self.new.depots.shelf)) }
     {
         plan_is_sound(&self.plan);
         let tenants = self.depots.depots.as_slice().len();
-        let Some(asked) = read_asked(self.alloc, line, &self.plan, self.node, tenants)? else {
-            return Ok(());
-        };
-        let Asked { tenant, request } = asked;
-        match request {
-            Some(request) => self.request(tenant, request, facts, told),
-            None => Ok(self.put_bad(tenant, told)?),
+        match read_came(self.alloc, &self.plan, self.node, &self.lost, tenants, line)? {
+            Came::Nothing => Ok(()),
+            Came::Tick => self.tick(facts, told),
+            Came::Said { tenant, from, line } => self.hear(tenant, from, line, facts, told),
+            Came::Asked {
+                tenant,
+                request: Some(request),
+            } => self.request(tenant, request, facts, told),
+            Came::Asked {
+                tenant,
+                request: None,
+            } => Ok(self.put_bad(tenant, told)?),
         }
     }
 }
@@ -206,11 +235,11 @@ impl<S: Shelf + Drop> Lasting for ChunkMachine<S> {
     ghost use Rattle.gq_chunks.specs.Machines.{ChunkSteps, ChunkRecalls, ChunksAreBlank, ChunksAreOf, ChunksRest, in_journals};
     ghost use Rattle.gq_chunks.specs.Lasting.{on_chunks, gives_facts, gives_readable, keeps_blank, keeps_plan, recalls_plan, keeps_rest, reads_again, starts_again};
 
-    ghost blank = { λ plan m new. ChunksAreBlank plan (chunks m.plan m.node m.depots.losses m.depots.depots.items (S.noted m.depots.shelf)) (chunks new.plan new.node new.depots.losses new.depots.depots.items (S.noted new.depots.shelf)) };
+    ghost blank = { λ plan m new. ChunksAreBlank plan (chunks m.plan m.node m.lost m.depots.losses m.depots.depots.items (S.noted m.depots.shelf)) (chunks new.plan new.node new.lost new.depots.losses new.depots.depots.items (S.noted new.depots.shelf)) };
 
-    ghost is_of = { λ plan m. ChunksAreOf plan (chunks m.plan m.node m.depots.losses m.depots.depots.items (S.noted m.depots.shelf)) };
+    ghost is_of = { λ plan m. ChunksAreOf plan (chunks m.plan m.node m.lost m.depots.losses m.depots.depots.items (S.noted m.depots.shelf)) };
 
-    ghost rests = { λ m again. ChunksRest (chunks m.plan m.node m.depots.losses m.depots.depots.items (S.noted m.depots.shelf)) (chunks again.plan again.node again.depots.losses again.depots.depots.items (S.noted again.depots.shelf)) };
+    ghost rests = { λ m again. ChunksRest (chunks m.plan m.node m.lost m.depots.losses m.depots.depots.items (S.noted m.depots.shelf)) (chunks again.plan again.node again.lost again.depots.losses again.depots.depots.items (S.noted again.depots.shelf)) };
 
     ghost contents = { λ m. min (in_journals m.depots.depots.items) (2 ^ 64 - 1) };
 
@@ -227,19 +256,19 @@ impl<S: Shelf + Drop> Lasting for ChunkMachine<S> {
         Ok(put_tenants(self.node, &self.plan, self.depots.depots.as_slice(), facts)?)
     }
 
-    ghost gives_facts = { λ old line facts told new step. gives_facts (chunks old.plan old.node old.depots.losses old.depots.depots.items (S.noted old.depots.shelf)) line facts told (chunks new.plan new.node new.depots.losses new.depots.depots.items (S.noted new.depots.shelf)) step };
+    ghost gives_facts = { λ old line facts told new step. gives_facts (chunks old.plan old.node old.lost old.depots.losses old.depots.depots.items (S.noted old.depots.shelf)) line facts told (chunks new.plan new.node new.lost new.depots.losses new.depots.depots.items (S.noted new.depots.shelf)) step };
 
-    ghost gives_readable = { λ plan old line facts told new other step blank. gives_readable plan (chunks old.plan old.node old.depots.losses old.depots.depots.items (S.noted old.depots.shelf)) line facts told (chunks new.plan new.node new.depots.losses new.depots.depots.items (S.noted new.depots.shelf)) (chunks other.plan other.node other.depots.losses other.depots.depots.items (S.noted other.depots.shelf)) step blank };
+    ghost gives_readable = { λ plan old line facts told new other step blank. gives_readable plan (chunks old.plan old.node old.lost old.depots.losses old.depots.depots.items (S.noted old.depots.shelf)) line facts told (chunks new.plan new.node new.lost new.depots.losses new.depots.depots.items (S.noted new.depots.shelf)) (chunks other.plan other.node other.lost other.depots.losses other.depots.depots.items (S.noted other.depots.shelf)) step blank };
 
-    ghost keeps_blank = { λ plan old line facts told new other step blank. keeps_blank plan (chunks old.plan old.node old.depots.losses old.depots.depots.items (S.noted old.depots.shelf)) line facts told (chunks new.plan new.node new.depots.losses new.depots.depots.items (S.noted new.depots.shelf)) (chunks other.plan other.node other.depots.losses other.depots.depots.items (S.noted other.depots.shelf)) step blank };
+    ghost keeps_blank = { λ plan old line facts told new other step blank. keeps_blank plan (chunks old.plan old.node old.lost old.depots.losses old.depots.depots.items (S.noted old.depots.shelf)) line facts told (chunks new.plan new.node new.lost new.depots.losses new.depots.depots.items (S.noted new.depots.shelf)) (chunks other.plan other.node other.lost other.depots.losses other.depots.depots.items (S.noted other.depots.shelf)) step blank };
 
-    ghost keeps_plan = { λ plan old line facts told new step of. keeps_plan plan (chunks old.plan old.node old.depots.losses old.depots.depots.items (S.noted old.depots.shelf)) line facts told (chunks new.plan new.node new.depots.losses new.depots.depots.items (S.noted new.depots.shelf)) step of };
+    ghost keeps_plan = { λ plan old line facts told new step of. keeps_plan plan (chunks old.plan old.node old.lost old.depots.losses old.depots.depots.items (S.noted old.depots.shelf)) line facts told (chunks new.plan new.node new.lost new.depots.losses new.depots.depots.items (S.noted new.depots.shelf)) step of };
 
-    ghost recalls_plan = { λ plan old line new recalled of. recalls_plan plan (chunks old.plan old.node old.depots.losses old.depots.depots.items (S.noted old.depots.shelf)) line (chunks new.plan new.node new.depots.losses new.depots.depots.items (S.noted new.depots.shelf)) recalled of };
+    ghost recalls_plan = { λ plan old line new recalled of. recalls_plan plan (chunks old.plan old.node old.lost old.depots.losses old.depots.depots.items (S.noted old.depots.shelf)) line (chunks new.plan new.node new.lost new.depots.losses new.depots.depots.items (S.noted new.depots.shelf)) recalled of };
 
-    ghost keeps_rest = { λ old line facts told new before after step rests r. keeps_rest (chunks old.plan old.node old.depots.losses old.depots.depots.items (S.noted old.depots.shelf)) line facts told (chunks new.plan new.node new.depots.losses new.depots.depots.items (S.noted new.depots.shelf)) (chunks before.plan before.node before.depots.losses before.depots.depots.items (S.noted before.depots.shelf)) (chunks after.plan after.node after.depots.losses after.depots.depots.items (S.noted after.depots.shelf)) step rests (on_chunks (λ m. chunks m.plan m.node m.depots.losses m.depots.depots.items (S.noted m.depots.shelf)) facts before after r) };
+    ghost keeps_rest = { λ old line facts told new before after step rests r. keeps_rest (chunks old.plan old.node old.lost old.depots.losses old.depots.depots.items (S.noted old.depots.shelf)) line facts told (chunks new.plan new.node new.lost new.depots.losses new.depots.depots.items (S.noted new.depots.shelf)) (chunks before.plan before.node before.lost before.depots.losses before.depots.depots.items (S.noted before.depots.shelf)) (chunks after.plan after.node after.lost after.depots.losses after.depots.depots.items (S.noted after.depots.shelf)) step rests (on_chunks (λ m. chunks m.plan m.node m.lost m.depots.losses m.depots.depots.items (S.noted m.depots.shelf)) facts before after r) };
 
-    ghost reads_again = { λ plan first last new lines blank r other. reads_again plan (chunks first.plan first.node first.depots.losses first.depots.depots.items (S.noted first.depots.shelf)) (chunks last.plan last.node last.depots.losses last.depots.depots.items (S.noted last.depots.shelf)) (chunks new.plan new.node new.depots.losses new.depots.depots.items (S.noted new.depots.shelf)) lines blank (on_chunks (λ m. chunks m.plan m.node m.depots.losses m.depots.depots.items (S.noted m.depots.shelf)) lines first last r) other };
+    ghost reads_again = { λ plan first last new lines blank r other. reads_again plan (chunks first.plan first.node first.lost first.depots.losses first.depots.depots.items (S.noted first.depots.shelf)) (chunks last.plan last.node last.lost last.depots.losses last.depots.depots.items (S.noted last.depots.shelf)) (chunks new.plan new.node new.lost new.depots.losses new.depots.depots.items (S.noted new.depots.shelf)) lines blank (on_chunks (λ m. chunks m.plan m.node m.lost m.depots.losses m.depots.depots.items (S.noted m.depots.shelf)) lines first last r) other };
 
-    ghost starts_again = { λ plan first last new again lines blank r other s. starts_again plan (chunks first.plan first.node first.depots.losses first.depots.depots.items (S.noted first.depots.shelf)) (chunks last.plan last.node last.depots.losses last.depots.depots.items (S.noted last.depots.shelf)) (chunks new.plan new.node new.depots.losses new.depots.depots.items (S.noted new.depots.shelf)) (chunks again.plan again.node again.depots.losses again.depots.depots.items (S.noted again.depots.shelf)) lines blank (on_chunks (λ m. chunks m.plan m.node m.depots.losses m.depots.depots.items (S.noted m.depots.shelf)) lines first last r) other (on_chunks (λ m. chunks m.plan m.node m.depots.losses m.depots.depots.items (S.noted m.depots.shelf)) lines new again s) };
+    ghost starts_again = { λ plan first last new again lines blank r other s. starts_again plan (chunks first.plan first.node first.lost first.depots.losses first.depots.depots.items (S.noted first.depots.shelf)) (chunks last.plan last.node last.lost last.depots.losses last.depots.depots.items (S.noted last.depots.shelf)) (chunks new.plan new.node new.lost new.depots.losses new.depots.depots.items (S.noted new.depots.shelf)) (chunks again.plan again.node again.lost again.depots.losses again.depots.depots.items (S.noted again.depots.shelf)) lines blank (on_chunks (λ m. chunks m.plan m.node m.lost m.depots.losses m.depots.depots.items (S.noted m.depots.shelf)) lines first last r) other (on_chunks (λ m. chunks m.plan m.node m.lost m.depots.losses m.depots.depots.items (S.noted m.depots.shelf)) lines new again s) };
 }

@@ -1,6 +1,6 @@
 //! The facts that a start needs.
 
-ghost use Rattle.std.specs.Prelude.{◌≡◌, ◌<◌, ◌+◌, ◌^◌, ℕ, Bool, false, length, IsSome, OnOk};
+ghost use Rattle.std.specs.Prelude.{◌≡◌, ◌<◌, ◌+◌, ◌^◌, ℕ, List, Bool, false, length, IsSome, OnOk};
 ghost use Rattle.gq_shelf.specs.Notes.{Noted};
 ghost use Rattle.gq_desk.specs.CheckedPlan.{row_at};
 ghost use Rattle.gq_text.specs.Canonical.{IsPlan};
@@ -238,7 +238,7 @@ pub(crate) fn put_tenants(
     facts: &mut Vec<u8>,
 ) -> Result<(), OutOfMemory>
     requires { IsPlan plan.now }
-    ensures { (losses : ℕ) (noted : Noted) → length depots.now ≡ length plan.now.rows → AreSound plan.now depots.now → OnOk result (WroteTenants (chunks plan.now node losses depots.now noted) (length depots.now) facts.old.items facts.new.items) }
+    ensures { (lost : List ℕ) (losses : ℕ) (noted : Noted) → length depots.now ≡ length plan.now.rows → AreSound plan.now depots.now → OnOk result (WroteTenants (chunks plan.now node lost losses depots.now noted) (length depots.now) facts.old.items facts.new.items) }
 {
     let tenants = plan.tenants().min(depots.len());
     for place in 0..tenants {

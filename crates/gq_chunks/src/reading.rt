@@ -29,7 +29,7 @@ fn sure_of(n: u32) -> Option<bool>
 }
 
 // Whether a chunk is told, and the text behind.
-fn take_sure(text: &[u8]) -> Option<(bool, &[u8])>
+pub(crate) fn take_sure(text: &[u8]) -> Option<(bool, &[u8])>
     ensures { MatchOption result (sure_then (words_after text.now) ≡ None)
         (λ x. sure_then (words_after text.now) ≡ Some (x.0, words_after x.1.now)) }
 {

@@ -1,7 +1,8 @@
 //! Which lines are of chunks.
 
 ghost use Rattle.std.specs.Prelude.{◌≡◌};
-ghost use Rattle.gq_chunks.specs.Takers.{is_chunk_verb, line_taker, is_fact_verb, tells_chunk};
+ghost use Rattle.gq_text.specs.Words.{words_after};
+ghost use Rattle.gq_chunks.specs.Takers.{is_chunk_verb, is_peer_verb, tenant_taker, node_taker, line_taker, is_fact_verb, tells_chunk};
 
 use gq_pair::Taker;
 use gq_text::{first_word, next_word, number};
@@ -27,8 +28,53 @@ fn is_fact_verb(verb: &[u8]) -> bool
         || verb == b"filled".as_slice()
 }
 
-/// Whose a line of a node's input is, where the second machine is one of chunks: that one's where a tenant asks about its chunks, else the first one's. A tick is the
-/// first one's.
+// Whether nodes of a column may say this to each other about chunks of a tenant.
+fn is_peer_verb(verb: &[u8]) -> bool
+    ensures { result ≡ is_peer_verb verb.now }
+{
+    verb == b"seeks".as_slice()
+        || verb == b"found".as_slice()
+        || verb == b"wants".as_slice()
+        || verb == b"gives".as_slice()
+        || verb == b"misses".as_slice()
+        || verb == b"spoilt".as_slice()
+}
+
+// Whose a tenant's line is, by its first word behind its addresses.
+fn tenant_taker(verb: &[u8]) -> Taker
+    ensures { result ≡ tenant_taker verb.now }
+{
+    if is_chunk_verb(verb) {
+        Taker::Second
+    } else {
+        Taker::First
+    }
+}
+
+// Whose a line of a node is, by its first word behind its addresses and those behind it.
+fn node_taker(word: &[u8], text: &[u8]) -> Taker
+    ensures { result ≡ node_taker word.now (words_after text.now) }
+{
+    match next_word(text) {
+        Some((verb, _)) => {
+            if is_peer_verb(verb) {
+                Taker::Second
+            } else {
+                Taker::First
+            }
+        }
+        None => {
+            if word == b"tick".as_slice() {
+                Taker::Both
+            } else {
+                Taker::First
+            }
+        }
+    }
+}
+
+/// Whose a line of a node's input is, where the second machine is one of chunks: that one's where a tenant asks about its chunks, or a node speaks of a tenant's chunks; both
+/// machines' where it is a tick; else the first one's.
 pub fn taker_of(line: &[u8]) -> Taker
     ensures { result ≡ line_taker line.now }
 {
@@ -36,13 +82,13 @@ pub fn taker_of(line: &[u8]) -> Taker
     let Some((from, rest)) = next_word(rest) else {
         return Taker::First;
     };
-    let Some((verb, _)) = next_word(rest) else {
+    let Some((verb, rest)) = next_word(rest) else {
         return Taker::First;
     };
-    if number(from).is_none() && is_chunk_verb(verb) {
-        Taker::Second
+    if number(from).is_none() {
+        tenant_taker(verb)
     } else {
-        Taker::First
+        node_taker(verb, rest)
     }
 }
 

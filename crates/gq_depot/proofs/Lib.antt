@@ -1,4 +1,5 @@
 pub mod Standing
 pub mod Tenants
+pub mod Segments
 pub mod Settling
 pub mod Memory

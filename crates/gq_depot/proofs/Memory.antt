@@ -6,7 +6,7 @@ use Rattle.gq_stock.specs.Stocks.{fresh_in}
 use Rattle.gq_stock.specs.declared.stock.Stock.{Stock}
 use Rattle.gq_stock.specs.declared.limits.TheConstants.{MOST_FRESH_BYTES}
 use Rattle.gq_depot.specs.Depots.{StaysWithin, in_memory}
-use Rattle.gq_depot.specs.Laws.{Deed, Asked, Filled, Does, RanAlone, MemoryIsBounded}
+use Rattle.gq_depot.specs.Laws.{Deed, Asked, Filled, Does, MemoryIsBounded}
 use Rattle.gq_depot.specs.declared.depot.Depot.{Depot}
 
 -- one deed

@@ -16,10 +16,10 @@ use Rattle.gq_stock.specs.Held.{Held, held_by, contents}
 use Rattle.gq_stock.specs.Keeping.{ChangesOnly, KeptAs}
 use Rattle.gq_stock.specs.Stocks.{GivenIn, ChangesIn, StaysIn, KeptIn, SureIn, LongIn, IsEmpty}
 use Rattle.gq_stock.specs.Sure.{PlaceIsSure, IsSureOf, IsLongOf}
-use Rattle.gq_stock.proofs.Deeds.{new_there, same≢new, differs≢new, damaged≢new, below≢new, full≢new}
+use Rattle.gq_stock.proofs.Deeds.{new_there, same≢new, differs≢new, damaged≢new, below≢new, full≢new, space≢new}
 use Rattle.gq_stock.specs.declared.chunk.Chunk.{Chunk}
 use Rattle.gq_stock.specs.declared.keeping.Keeping.{Keeping}
-use Rattle.gq_stock.specs.declared.keeping.Keeping.TheVariants.{New, Same, Differs, Damaged, Below, Full}
+use Rattle.gq_stock.specs.declared.keeping.Keeping.TheVariants.{New, Same, Differs, Damaged, Below, Full, NoSpace}
 use Rattle.gq_stock.specs.declared.run.Run.{Run}
 use Rattle.gq_stock.specs.declared.session.Session.{Session}
 use Rattle.gq_stock.specs.Finding.{FoundAs}
@@ -134,6 +134,7 @@ same_by old new p s n Differs fact was is number others lacks gone was_there is_
 same_by old new p s n Damaged fact was is number others lacks gone was_there is_there keeps gives = subst (λ (f : Option ChunkFact). IsSame (standing_of new) (after_fact f (standing_of old))) (sym gives) (stays_same old new p was is others lacks gone was_there is_there (keeps.1 damaged≢new was is was_there is_there))
 same_by old new p s n Below fact was is number others lacks gone was_there is_there keeps gives = subst (λ (f : Option ChunkFact). IsSame (standing_of new) (after_fact f (standing_of old))) (sym gives) (stays_same old new p was is others lacks gone was_there is_there (keeps.1 below≢new was is was_there is_there))
 same_by old new p s n Full fact was is number others lacks gone was_there is_there keeps gives = subst (λ (f : Option ChunkFact). IsSame (standing_of new) (after_fact f (standing_of old))) (sym gives) (stays_same old new p was is others lacks gone was_there is_there (keeps.1 full≢new was is was_there is_there))
+same_by old new p s n NoSpace fact was is number others lacks gone was_there is_there keeps gives = subst (λ (f : Option ChunkFact). IsSame (standing_of new) (after_fact f (standing_of old))) (sym gives) (stays_same old new p was is others lacks gone was_there is_there (keeps.1 space≢new was is was_there is_there))
 
 pub leads_by : (old new : Depot) (p s n : ℕ) (told : Keeping) (fact : Option ChunkFact) → s ≡ p + 1 → p < length old.stock.sessions.items → length new.stock.sessions.items ≡ length old.stock.sessions.items → new.stock.allowed ≡ old.stock.allowed → new.lacks ≡ old.lacks → new.gone.items ≡ old.gone.items →
     OthersStay old new p → Keeps old new p n told → In new.stock.sessions.items p (λ session. GivesFor told (book_of session.chunks) s n fact) → LeadsTo old fact new
@@ -141,6 +142,12 @@ leads_by old new p s n told fact number within long allowed lacks gone others ke
     let was : (x : Session) × (slice_get old.stock.sessions.items p ≡ Some x) = there old.stock.sessions.items p within in
     let is : (x : Session) × (slice_get new.stock.sessions.items p ≡ Some x) = there new.stock.sessions.items p (omega (arith, within, long)) in
     record { standing = same_by old new p s n told fact was.0 is.0 number others lacks gone was.1 is.1 keeps (gives is.0 is.1); sessions = long; allowed = allowed }
+
+-- a depot of which nothing changed
+pub nothing_led : (old new : Depot) (p s : ℕ) → s ≡ p + 1 → p < length old.stock.sessions.items → length new.stock.sessions.items ≡ length old.stock.sessions.items → new.stock.allowed ≡ old.stock.allowed → new.lacks ≡ old.lacks → new.gone.items ≡ old.gone.items →
+    OthersStay old new p → StaysIn old.stock.sessions.items p new.stock.sessions.items → LeadsTo old None new
+nothing_led old new p s number within long allowed lacks gone others stays =
+    leads_by old new p s 0 Full None number within long allowed lacks gone others (λ is. absurd (full≢new is), λ other. stays) (λ session is. refl)
 
 -- ---- what is told and given
 
@@ -188,6 +195,7 @@ gives_by written olds news p s n bytes sure losses floor free room told fact wit
     by Damaged was is k g = g
     by Below was is k g = g
     by Full was is k g = g
+    by NoSpace was is k g = g
 
 -- what a fact names was made sure of
 sure_new : (o : Option Chunk) (place : Place) (sure : Bool) (noted : Noted) → option_map placed_of o ≡ Some (record { place = place; is_sure = sure }) → IsSureOf o noted → PlaceIsSure place noted
@@ -209,6 +217,7 @@ sure_by news p s n told fact noted within sure gives =
     by Damaged f is at sure g = subst (λ (z : Option ChunkFact). FactIsSure z noted) (sym g) tt
     by Below f is at sure g = subst (λ (z : Option ChunkFact). FactIsSure z noted) (sym g) tt
     by Full f is at sure g = subst (λ (z : Option ChunkFact). FactIsSure z noted) (sym g) tt
+    by NoSpace f is at sure g = subst (λ (z : Option ChunkFact). FactIsSure z noted) (sym g) tt
 
 -- what is given of a new content is read by a start
 long_new : (o : Option Chunk) (place : Place) (sure : Bool) (long : ℕ) → option_map placed_of o ≡ Some (record { place = place; is_sure = sure }) → IsLongOf o long → long_at place ≡ long
@@ -238,6 +247,7 @@ reads_by news p s n sessions {long} told fact number within same few is_long giv
     by Damaged f is at its g = subst (λ (z : Option ChunkFact). ReadsFact sessions z) (sym g) tt
     by Below f is at its g = subst (λ (z : Option ChunkFact). ReadsFact sessions z) (sym g) tt
     by Full f is at its g = subst (λ (z : Option ChunkFact). ReadsFact sessions z) (sym g) tt
+    by NoSpace f is at its g = subst (λ (z : Option ChunkFact). ReadsFact sessions z) (sym g) tt
 
 -- a depot that is new has nothing
 pub bare_new : (depot : Depot) (lacks : Bool) → All IsEmpty depot.stock.sessions.items → depot.lacks ≡ lacks → depot.gone.items ≡ [] → IsSame (standing_of depot) (bare lacks)

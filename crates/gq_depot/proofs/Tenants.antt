@@ -8,7 +8,7 @@ use Rattle.gq_ledger.specs.Steps.{Book, with_at}
 use Rattle.gq_stock.specs.Forgetting.{is_in, is_in_any}
 use Rattle.gq_depot.specs.Depots.{Placed, Standing, standing_of, forgotten, after_fact, IsSame}
 use Rattle.gq_depot.specs.Tenants.{Step, TakesOwn, FillStep, FillsOwn}
-use Rattle.gq_depot.specs.Laws.{Did, Deed, Asked, Filled, fact_of, Does, DoesOwn, Ran, RanAlone, own_with, own, Apart, after_all, FactsRemake}
+use Rattle.gq_depot.specs.Laws.{Did, Deed, Asked, Filled, fact_of, Does, Ran, RanAlone, own_with, own, Apart, after_all, FactsRemake}
 use Rattle.gq_depot.specs.declared.answer.Answered.{Answered}
 use Rattle.gq_depot.specs.declared.depot.Depot.{Depot}
 use Rattle.gq_depot.specs.declared.fact.ChunkFact.{ChunkFact}

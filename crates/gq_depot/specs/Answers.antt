@@ -5,14 +5,14 @@ use Rattle.gq_shelf.specs.Places.{content_at, long_at}
 use Rattle.gq_shelf.specs.declared.extent.Extent.{Extent}
 use Rattle.gq_ledger.specs.Ledgers.{book_of}
 use Rattle.gq_ledger.specs.Steps.{Book}
-use Rattle.gq_stock.specs.Finding.{FoundAs}
+use Rattle.gq_stock.specs.Finding.{FoundAs, LacksSpace}
 use Rattle.gq_stock.specs.Held.{held_by, contents}
 use Rattle.gq_stock.specs.Keeping.{ToldAs}
 use Rattle.gq_stock.specs.Stocks.{used_in, DamagedIn}
 use Rattle.gq_stock.specs.declared.chunk.Chunk.{Chunk}
 use Rattle.gq_stock.specs.declared.keeping.Keeping.{Keeping}
 use Rattle.gq_stock.specs.declared.finding.Found.TheVariants.{Damaged as Unreadable}
-use Rattle.gq_stock.specs.declared.keeping.Keeping.TheVariants.{New, Damaged}
+use Rattle.gq_stock.specs.declared.keeping.Keeping.TheVariants.{New, Damaged, NoSpace}
 use Rattle.gq_stock.specs.declared.run.Run.{Run}
 use Rattle.gq_stock.specs.declared.session.Session.{Session}
 use Rattle.gq_depot.specs.Depots.{place_in, StandsIn}
@@ -192,8 +192,9 @@ Gives is_clean written old _ answer fact = fact ≡ None
 abbrev pub ReadsDamage : Depot → (s n : ℕ) → Noted → Noted → Type 0
 ReadsDamage depot s n old new = DamagedIn depot.stock.sessions.items (s - 1) n old new
 
--- what is told as damaged a read found so
+-- what is told as damaged a read found so; and where it is told that there is no space, the shelf had none for this content
 abbrev pub DamageIs : Depot → Noted → Noted → ChunkAnswer → Type 0
 DamageIs depot old new (Told.Kept s n Damaged losses floor free) = ReadsDamage depot s n old new
+DamageIs depot old new (Told.Kept s n NoSpace losses floor free) = LacksSpace old new
 DamageIs depot old new (Told.Found s n from long Unreadable lacks) = ReadsDamage depot s n old new
 DamageIs depot old new _ = ⊤

@@ -1,12 +1,10 @@
 -- What a server that lacks chunks of a tenant makes of what a peer gives.
-use Rattle.std.specs.Prelude.{◌≡◌, ℕ, Bool, true, false, not, ◌&&◌, nat_lt, List, length, Option, Some, None, MatchBool, MatchOption}
+use Rattle.std.specs.Prelude.{◌≡◌, ℕ, Bool, true, false, not, ◌&&◌, nat_lt, List, length, Option, Some, None, MatchBool, MatchOption, slice_get}
 use Rattle.gq_shelf.specs.declared.extent.Extent.{Extent}
 use Rattle.gq_ledger.specs.Ledgers.{book_of}
-use Rattle.gq_stock.specs.declared.chunk.Chunk.{Chunk}
 use Rattle.gq_stock.specs.declared.session.Session.{Session}
-use Rattle.gq_stock.specs.declared.run.Run.{Run}
 use Rattle.gq_depot.specs.Answers.{In, BySession, PutIs, fits, is_told}
-use Rattle.gq_depot.specs.Depots.{standing_of}
+use Rattle.gq_depot.specs.Depots.{standing_of, place_in}
 use Rattle.gq_depot.specs.declared.depot.Depot.{Depot}
 use Rattle.gq_depot.specs.declared.fact.ChunkFact.{ChunkFact}
 use Rattle.gq_depot.specs.declared.fact.ChunkFact.TheVariants.{Forgot, Filled}
@@ -16,6 +14,18 @@ use Rattle.gq_depot.specs.declared.filling.Filling.TheVariants as Fill
 -- A peer's content is wanted where the server lacks chunks, none that was given is under the number, and the number was not forgotten since.
 abbrev pub wants_at : Depot → (place n : ℕ) → Session → Bool
 wants_at depot place n session = depot.lacks && (not (is_told true ((book_of session.chunks).at n)) && not ((standing_of depot).gone place n))
+
+-- the same of the session's number: of none that is not there
+abbrev pub wants_by : Depot → (place n : ℕ) → Option Session → Bool
+wants_by depot place n None = false
+wants_by depot place n (Some session) = wants_at depot place n session
+
+abbrev pub wants_in : Depot → (n : ℕ) → Option ℕ → Bool
+wants_in depot n None = false
+wants_in depot n (Some place) = wants_by depot place n (slice_get depot.stock.sessions.items place)
+
+abbrev pub wants_of : Depot → (s n : ℕ) → Bool
+wants_of depot s n = wants_in depot n (place_in depot.stock.sessions.items s)
 
 -- one that is wanted, and has the length of a chunk, is there from then on, and told, whatever was there; any other is passed over
 abbrev pub GivenAt : (is_clean : Type 0) → (Extent → List ℕ) → Depot → (place s n : ℕ) → List ℕ → Option ChunkFact → Type 0

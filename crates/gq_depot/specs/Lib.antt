@@ -3,4 +3,5 @@ pub mod Answers
 pub mod Filling
 pub mod Seeking
 pub mod Tenants
+pub mod Segments
 pub mod Laws

@@ -50,6 +50,6 @@ ReadsOwn depots tenant fact reads = (depot : Depot) → slice_get depots tenant 
 abbrev pub ApartFrom : (tenant : ℕ) → List Depot → List Depot → Type 0
 ApartFrom tenant olds news = (other : ℕ) → other ≢ tenant → slice_get news other ≡ slice_get olds other
 
--- what this tenant is told as damaged a read found so
+-- what this tenant is told as damaged a read found so, and a want of space the shelf told
 abbrev pub DamageOf : List Depot → (tenant : ℕ) → Noted → Noted → ChunkAnswer → Type 0
 DamageOf depots tenant old new answer = (depot : Depot) → slice_get depots tenant ≡ Some depot → DamageIs depot old new answer

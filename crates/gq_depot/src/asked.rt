@@ -190,7 +190,7 @@ impl Depot {
     }
 
     // The session at this place.
-    fn session(&self, place: usize) -> &Session
+    pub(crate) fn session(&self, place: usize) -> &Session
         requires { place < length self.now.stock.sessions.items }
         ensures { slice_get self.now.stock.sessions.items place ≡ Some result.now }
     {

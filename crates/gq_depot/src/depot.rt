@@ -1,6 +1,6 @@
 //! The chunks of a tenant at a server.
 
-ghost use Rattle.std.specs.Prelude.{◌≡◌, ◌+◌, ◌-◌, ◌<◌, ◌≤◌, ℕ, Some, length, MatchOption, IfOk, IfSome, OnOk};
+ghost use Rattle.std.specs.Prelude.{◌≡◌, ◌+◌, ◌-◌, ◌<◌, ◌≤◌, ℕ, Some, true, false, length, MatchOption, IfOk, IfSome, OnOk};
 ghost use Rattle.gq_shelf.specs.Places.{long_at};
 
 use crate::Gone;
@@ -71,6 +71,7 @@ pub(crate) fn run_bytes(session: &Session, run: Run) -> u64 {
 
 impl Depot {
     ghost use Rattle.gq_stock.specs.Stocks.{used_in};
+    ghost use Rattle.gq_depot.specs.Segments.{NoneOf, SomeOf};
     ghost use Rattle.gq_depot.specs.Depots.{place_in, standing_of, gone_after, bare, in_memory, IsSame};
 
     /// So many sessions, which have nothing.
@@ -107,6 +108,21 @@ impl Depot {
         } else {
             None
         }
+    }
+
+    /// Whether a chunk lies in this segment of the shelf. It looks at each of them.
+    pub fn lies_in(&self, segment: u32) -> bool
+        ensures some { result ≡ true → SomeOf segment self.now }
+        ensures none { result ≡ false → NoneOf segment self.now }
+    {
+        let mut place = 0;
+        while place < self.stock.sessions.len() {
+            if self.session(place).lies_in(segment) {
+                return true;
+            }
+            place += 1;
+        }
+        false
     }
 
     // Counts the chunk of this number.

@@ -1,8 +1,10 @@
 //! The chunks of all tenants at a server.
 
-ghost use Rattle.std.specs.Prelude.{◌≡◌, ◌<◌, true, Some, length, IfOk, IfErr};
+ghost use Rattle.std.specs.Prelude.{◌≡◌, ◌+◌, ◌<◌, ◌≤◌, true, false, Some, None, length, IfOk, IfErr, slice_get};
+ghost use Rattle.gq_shelf.specs.Extents.{place_of};
 ghost use Rattle.gq_shelf.specs.Notes.{GoesOn};
-ghost use Rattle.gq_stock.specs.Finding.{IsRefused};
+ghost use Rattle.gq_shelf.specs.declared.fault.ShelfFault.TheVariants.{Full};
+ghost use Rattle.gq_stock.specs.Finding.{IsRefused, LacksSpace};
 
 use crate::{Answered, ChunkFact, ChunkRequest, Depot, Filling};
 use gq_memory::OutOfMemory;
@@ -22,6 +24,7 @@ pub struct Depots<S: Shelf + Drop> {
 
 impl<S: Shelf + Drop> Depots<S> {
     ghost use Rattle.gq_depot.specs.Tenants.{ApartFrom, TakesOwn, FillsOwn, LeadsOwn, ReadsOwn, DamageOf};
+    ghost use Rattle.gq_depot.specs.Segments.{NoneLies, SomeLies};
 
     /// What comes of the tenant's request. What is told of it and kept of it hangs on this tenant's chunks alone, and no other tenant's change. It is refused
     /// where memory is wanting, or the shelf refuses a read or a put; all is given up then.
@@ -46,7 +49,7 @@ impl<S: Shelf + Drop> Depots<S> {
     }
 
     /// Does this for the tenant. What comes of it hangs on this tenant's chunks alone, and no other tenant's change. It is refused where memory is wanting, or the
-    /// shelf refuses a put; all is given up then.
+    /// shelf refuses a put; all is given up then. Where the shelf has no space for a content (`Full`) all is as it was instead, and the content may be asked for again.
     pub fn fill(
         &mut self,
         alloc: Global,
@@ -59,6 +62,7 @@ impl<S: Shelf + Drop> Depots<S> {
         ensures tenants { length self.new.depots.items ≡ length self.old.depots.items }
         ensures losses { self.new.losses ≡ self.old.losses }
         ensures refused { IfErr result (λ fault. IsRefused fault (S.noted self.old.shelf) (S.noted self.new.shelf)) }
+        ensures full { IfErr result (λ fault. fault ≡ Full → LeadsOwn self.old.depots.items tenant None self.new.depots.items × LacksSpace (S.noted self.old.shelf) (S.noted self.new.shelf)) }
         ensures goes_on { GoesOn (S.noted self.old.shelf) (S.noted self.new.shelf) }
     {
         let lacking = &mut self.depots[tenant];
@@ -82,5 +86,40 @@ impl<S: Shelf + Drop> Depots<S> {
         ensures shelf { self.new.shelf ≡ self.old.shelf }
     {
         self.depots[tenant].recall(alloc, fact)
+    }
+
+    // What the tenant has.
+    fn depot(&self, tenant: usize) -> &Depot
+        requires { tenant < length self.now.depots.items }
+        ensures { slice_get self.now.depots.items tenant ≡ Some result.now }
+    {
+        &self.depots[tenant]
+    }
+
+    /// Whether a chunk of some tenant lies in this segment of the shelf. It looks at each of them.
+    pub fn lies_in(&self, segment: u32) -> bool
+        ensures some { result ≡ true → SomeLies segment self.now.depots.items }
+        ensures none { result ≡ false → NoneLies segment self.now.depots.items }
+    {
+        let mut tenant = 0;
+        while tenant < self.depots.len() {
+            if self.depot(tenant).lies_in(segment) {
+                return true;
+            }
+            tenant += 1;
+        }
+        false
+    }
+
+    /// Removes the segment with all that lies on it, if no chunk of any tenant does, and says whether it did. That of the greatest number stays. Who calls sees to
+    /// it that all facts of these chunks are synced: a start that read older ones would have chunks that lie there.
+    pub fn remove(&self, segment: u32) -> Result<bool, ShelfFault>
+        ensures dead { IfOk result (λ removed. removed ≡ true → NoneLies segment self.now.depots.items) }
+        ensures below { IfOk result (λ removed. removed ≡ true → place_of (segment + 1) 0 ≤ S.end self.now.shelf) }
+    {
+        if self.lies_in(segment) {
+            return Ok(false);
+        }
+        self.shelf.remove(segment)
     }
 }

@@ -1,9 +1,10 @@
 //! A server that lacks chunks is given them by a peer.
 
-ghost use Rattle.std.specs.Prelude.{◌≡◌, ◌≤◌, ◌<◌, ◌+◌, ℕ, true, List, Some, length, IfOk, IfErr};
+ghost use Rattle.std.specs.Prelude.{◌≡◌, ◌≤◌, ◌<◌, ◌+◌, ℕ, true, List, Some, None, length, IfOk, IfErr};
 ghost use Rattle.gq_shelf.specs.Notes.{Noted, IsClean, GoesOn};
 ghost use Rattle.gq_shelf.specs.declared.extent.Extent.{Extent};
-ghost use Rattle.gq_stock.specs.Finding.{IsRefused};
+ghost use Rattle.gq_shelf.specs.declared.fault.ShelfFault.TheVariants.{Full};
+ghost use Rattle.gq_stock.specs.Finding.{IsRefused, LacksSpace};
 ghost use Rattle.gq_depot.specs.Answers.{fits};
 
 use crate::depot::bytes_at;
@@ -44,7 +45,7 @@ fn has_length(bytes: &[u8]) -> bool
 impl Depot {
     ghost use Rattle.gq_depot.specs.Depots.{LeadsTo, FactIsSure, ReadsFact, StaysWithin};
     ghost use Rattle.gq_depot.specs.Answers.{In, PutIs};
-    ghost use Rattle.gq_depot.specs.Filling.{wants_at, GivenAt, GiveGives, RaisedAt, RaiseGives, EndGives, Fills};
+    ghost use Rattle.gq_depot.specs.Filling.{wants_at, wants_of, GivenAt, GiveGives, RaisedAt, RaiseGives, EndGives, Fills};
 
     // Whether a peer's content of the number is wanted, of the session at this place: the server lacks chunks, has none that was given under it, and did not
     // forget it since.
@@ -61,7 +62,9 @@ impl Depot {
 
     /// Whether a peer's content of the session's number is wanted: the server lacks chunks of the tenant, has none under the number that was given, and did not forget
     /// it since.
-    pub fn wants(&self, session: u32, number: u64) -> bool {
+    pub fn wants(&self, session: u32, number: u64) -> bool
+        ensures { result ≡ wants_of self.now session number }
+    {
         match self.place_of(session) {
             Some(place) => self.wants_at(place, number),
             None => false,
@@ -87,11 +90,15 @@ impl Depot {
         ensures reads { IfOk result (λ fact. ReadsFact (length self.old.stock.sessions.items) (Some fact)) }
         ensures memory { IfOk result (λ fact. StaysWithin self.old self.new) }
         ensures refused { IfErr result (λ fault. IsRefused fault (S.noted shelf.old) (S.noted shelf.new)) }
+        ensures full { IfErr result (λ fault. fault ≡ Full → LeadsTo self.old None self.new × LacksSpace (S.noted shelf.old) (S.noted shelf.new)) }
         ensures goes_on { GoesOn (S.noted shelf.old) (S.noted shelf.new) }
     {
         let before = bytes_at(&self.stock.sessions[place], number);
+        let is_given = match self.stock.give(shelf, place, number, bytes) {
+            Ok(is_given) => is_given,
+            Err(fault) => return Err(fault),
+        };
         self.in_journal = self.in_journal.saturating_sub(before);
-        let is_given = self.stock.give(shelf, place, number, bytes)?;
         if !is_given {
             let none = filled(alloc, 0u8, usize::MAX)?;
             let _long = none.as_slice().len();
@@ -119,6 +126,7 @@ impl Depot {
         ensures reads { IfOk result (λ fact. ReadsFact (length self.old.stock.sessions.items) fact) }
         ensures memory { IfOk result (λ fact. StaysWithin self.old self.new) }
         ensures refused { IfErr result (λ fault. IsRefused fault (S.noted shelf.old) (S.noted shelf.new)) }
+        ensures full { IfErr result (λ fault. fault ≡ Full → LeadsTo self.old None self.new × LacksSpace (S.noted shelf.old) (S.noted shelf.new)) }
         ensures goes_on { GoesOn (S.noted shelf.old) (S.noted shelf.new) }
     {
         if !has_length(bytes.as_slice()) || !self.wants_at(place, number) {
@@ -143,6 +151,7 @@ impl Depot {
         ensures reads { IfOk result (λ fact. ReadsFact (length self.old.stock.sessions.items) fact) }
         ensures memory { IfOk result (λ fact. StaysWithin self.old self.new) }
         ensures refused { IfErr result (λ fault. IsRefused fault (S.noted shelf.old) (S.noted shelf.new)) }
+        ensures full { IfErr result (λ fault. fault ≡ Full → LeadsTo self.old None self.new × LacksSpace (S.noted shelf.old) (S.noted shelf.new)) }
         ensures goes_on { GoesOn (S.noted shelf.old) (S.noted shelf.new) }
     {
         let Some(place) = self.place_of(session) else {
@@ -209,7 +218,7 @@ impl Depot {
 
     /// Does this for the tenant, if the server lacks chunks of it, and gives the fact of it. What a peer gives wins over what the server kept itself; what was
     /// forgotten since the server lacks chunks, and what was given before, is passed over. It is refused where memory is wanting, or the shelf refuses a put; the
-    /// depot is given up then.
+    /// depot is given up then. Where the shelf has no space for a content (`Full`) the depot is as it was instead, and the content may be asked for again.
     pub fn fill<S: Shelf>(
         &mut self,
         alloc: Global,
@@ -222,6 +231,7 @@ impl Depot {
         ensures reads { IfOk result (λ fact. ReadsFact (length self.old.stock.sessions.items) fact) }
         ensures memory { IfOk result (λ fact. StaysWithin self.old self.new) }
         ensures refused { IfErr result (λ fault. IsRefused fault (S.noted shelf.old) (S.noted shelf.new)) }
+        ensures full { IfErr result (λ fault. fault ≡ Full → LeadsTo self.old None self.new × LacksSpace (S.noted shelf.old) (S.noted shelf.new)) }
         ensures goes_on { GoesOn (S.noted shelf.old) (S.noted shelf.new) }
     {
         match filling {

@@ -1,6 +1,7 @@
 //! What holds of any requests of any tenants, and of what peers give, as clauses of functions that do nothing.
 
 ghost use Rattle.gq_depot.specs.Laws.{Apart, FactsRemake, MemoryIsBounded};
+ghost use Rattle.gq_depot.specs.Segments.{NoneAgain};
 
 /// Whatever all tenants asked, and peers gave: what one of them was told, and what is kept of it, is what comes of its own requests and of what was given of it.
 pub fn apart()
@@ -15,4 +16,9 @@ pub fn facts_remake()
 /// Whatever a tenant asked, and peers gave of it: no more bytes of its contents are in memory than `MOST_FRESH_BYTES`, or than there were.
 pub fn memory_is_bounded()
     ensures { MemoryIsBounded }
+{}
+
+/// A segment of the shelf in which no chunk of a tenant lies has none of the tenant's behind a start either.
+pub fn none_again()
+    ensures { NoneAgain }
 {}

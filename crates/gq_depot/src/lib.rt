@@ -13,6 +13,7 @@ mod limits;
 mod recalling;
 mod request;
 mod seeking;
+mod sweeping;
 
 pub use answer::{Answered, ChunkAnswer, ListedChunk};
 pub use depot::Depot;
@@ -23,3 +24,4 @@ pub use gone::Gone;
 pub use limits::{MOST_CHUNK, MOST_GONE, MOST_LISTED};
 pub use request::ChunkRequest;
 pub use seeking::{Ask, MOST_ASKED, MOST_ASKED_BYTES, Seeking};
+pub use sweeping::{MOST_LOOKED, PARTS_APART, Sweep};

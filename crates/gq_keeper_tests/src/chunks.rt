@@ -1,7 +1,11 @@
 //! Each fact of chunks as a line, and each request, by hand.
 
 use crate::facts::plan;
-use gq_chunks::{ChunkRequest, put_chunk_fact, read_chunk_fact, read_chunk_request};
+use gq_chunks::{
+    ChunkRequest, put_chunk_fact, put_peer_line, read_chunk_fact, read_chunk_request,
+    read_peer_line,
+};
+use gq_memory::GrowCopies;
 use std::alloc::Global;
 use std::process::Abort;
 
@@ -69,4 +73,44 @@ fn reads_requests_of_chunks(rt: HostRuntime) {
     assert!(rt;
         !is_request(&rt, alloc, b" keep 2 5 ~a\\041") && !is_request(&rt, alloc, b" room 1")
     );
+}
+
+// The line that is read of these words, to node 2 by node 65 about ann, or nothing.
+fn said(rt: &impl Abort, alloc: Global, text: &[u8]) -> Vec<u8> {
+    let plan = plan(rt, alloc);
+    let mut out = Vec::new(alloc);
+    if let Some(line) = read_peer_line(alloc, text).expect(rt, "memory") {
+        put_peer_line(&mut out, &plan, 65, 2, 0, &line).expect(rt, "memory");
+    }
+    out
+}
+
+#[test]
+fn reads_and_writes_lines_between_peers(rt: HostRuntime) {
+    let alloc = rt.alloc();
+    for text in [
+        b" seeks 3 1 18446744073709551615".as_slice(),
+        b" found 1 0 7 0 8 1048576 9 1",
+        b" found 1 0 7 1",
+        b" wants 1 8",
+        b" gives 1 8 ~a\\040b",
+        b" misses 1 8",
+        b" spoilt 1 8",
+    ] {
+        let mut line = Vec::new(alloc);
+        line.grow_by(b"2 65 ann").expect(&rt, "memory");
+        line.grow_by(text).expect(&rt, "memory");
+        line.grow_by(b"\n").expect(&rt, "memory");
+        assert!(rt; said(&rt, alloc, text).as_slice() == line.as_slice());
+    }
+    for text in [
+        b" found 1 0 7 2".as_slice(),
+        b" found 1 0 7 1 8",
+        b" seeks 1 0",
+        b" wants 1 8 9",
+        b" gives 1 8 x",
+        b" gave 1 8 ~a",
+    ] {
+        assert!(rt; said(&rt, alloc, text).is_empty());
+    }
 }

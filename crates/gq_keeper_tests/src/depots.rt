@@ -1,6 +1,6 @@
 //! A machine of chunks, line by line.
 
-use gq_chunks::{ChunkMachine, is_chunk_fact, taker_of};
+use gq_chunks::{ChunkMachine, Sweep, is_chunk_fact, taker_of};
 use gq_keeper::{Lasting, Machine};
 use gq_pair::Taker;
 use gq_setup::{Setup, read_setup};
@@ -206,7 +206,7 @@ fn lacks_chunks_until_it_is_filled(rt: HostRuntime) {
     let alloc = rt.alloc();
     let mut machine = machine(&rt, alloc, 65);
     let it = &mut machine;
-    assert!(rt; it.lacks_some());
+    assert!(rt; it.lacking() > 0);
     tells(
         &rt,
         alloc,
@@ -224,7 +224,7 @@ fn lacks_chunks_until_it_is_filled(rt: HostRuntime) {
         "65 ann get 1 5 0 9",
         "ann 65 got 1 5 1 0 ~a\n",
     );
-    assert!(rt; !it.lacks_some());
+    assert!(rt; it.lacking() == 0);
 }
 
 // What a start needs is this.
@@ -269,6 +269,10 @@ fn notes_what_is_forgotten_until_it_is_filled(rt: HostRuntime) {
         it,
         b"forgot ann 1 9 1 0\nchunk ann 1 7 1 =abc\nfilled ann\n",
     );
+    let mut sweep = Sweep::new(alloc);
+    for _ in 0..9 {
+        assert!(&rt; matches!(it.sweep(&mut sweep), Ok(None)));
+    }
 }
 
 #[test]
@@ -276,6 +280,108 @@ fn tells_lines_of_chunks_apart(rt: HostRuntime) {
     assert!(rt; matches!(taker_of(b"0 ann keep 1 5 ~a"), Taker::Second));
     assert!(rt; matches!(taker_of(b"0 ann write 1 1 0 0 61"), Taker::First));
     assert!(rt; matches!(taker_of(b"0 3 room"), Taker::First));
-    assert!(rt; matches!(taker_of(b"0 0 tick"), Taker::First));
+    assert!(rt; matches!(taker_of(b"0 0 tick"), Taker::Both));
+    assert!(rt; matches!(taker_of(b"0 0 greet"), Taker::First));
+    assert!(rt; matches!(taker_of(b"0 65 ann wants 1 5"), Taker::Second));
+    assert!(rt; matches!(taker_of(b"0 65 ann fetch 1 5"), Taker::First));
     assert!(rt; is_chunk_fact(b"filled ann") && !is_chunk_fact(b"began ann 1 1024"));
+}
+
+#[test]
+fn gives_its_chunks_to_a_peer(rt: HostRuntime) {
+    let alloc = rt.alloc();
+    let mut machine = machine(&rt, alloc, 0);
+    let it = &mut machine;
+    keep_two(&rt, alloc, it);
+    forget_first(&rt, alloc, it);
+    says(
+        &rt,
+        alloc,
+        it,
+        "0 65 ann seeks 1 1 0",
+        "65 0 ann found 1 0 5 1 7 3\n",
+    );
+    says(
+        &rt,
+        alloc,
+        it,
+        "0 65 ann wants 1 7",
+        "65 0 ann gives 1 7 ~abc\n",
+    );
+    says(
+        &rt,
+        alloc,
+        it,
+        "0 65 ann wants 1 5",
+        "65 0 ann misses 1 5\n",
+    );
+    // more losses than it knows of, a node that is lost, itself, another place, no session
+    for line in [
+        "0 65 ann seeks 2 1 0",
+        "0 1 ann wants 1 7",
+        "0 0 ann wants 1 7",
+        "0 2 ann wants 1 7",
+        "0 65 ann wants 3 7",
+    ] {
+        says(&rt, alloc, it, line, "");
+    }
+}
+
+#[test]
+fn is_given_chunks_by_a_peer(rt: HostRuntime) {
+    let alloc = rt.alloc();
+    let mut machine = machine(&rt, alloc, 65);
+    let it = &mut machine;
+    assert!(rt; it.lacking() == 1);
+    says(&rt, alloc, it, "65 0 ann wants 1 7", "");
+    says(&rt, alloc, it, "65 65 tick", "0 65 ann seeks 1 1 0\n");
+    tells(
+        &rt,
+        alloc,
+        it,
+        "65 0 ann found 1 0 5 1 7 3 8 1 9 2",
+        "0 65 ann wants 1 7\n0 65 ann wants 1 8\n0 65 ann wants 1 9\n",
+        "forgot ann 1 5 1 0\n",
+    );
+    tells(
+        &rt,
+        alloc,
+        it,
+        "65 0 ann gives 1 7 ~abc",
+        "",
+        "chunk ann 1 7 1 =abc\n",
+    );
+    says(&rt, alloc, it, "65 0 ann misses 1 9", "");
+    says(
+        &rt,
+        alloc,
+        it,
+        "65 0 ann spoilt 1 8",
+        "0 65 ann seeks 1 2 0\n",
+    );
+    says(&rt, alloc, it, "65 0 ann found 2 0 0 1", "");
+    // one was spoilt: all is sought once more
+    says(&rt, alloc, it, "65 65 tick", "");
+    assert!(rt; it.lacking() == 1 && it.contents_came() == 3);
+    for _pause in 0..16 {
+        says(&rt, alloc, it, "65 65 tick", "");
+    }
+    says(&rt, alloc, it, "65 65 tick", "0 65 ann seeks 1 1 0\n");
+    says(
+        &rt,
+        alloc,
+        it,
+        "65 0 ann found 1 0 5 1 7 3",
+        "0 65 ann seeks 1 2 0\n",
+    );
+    says(&rt, alloc, it, "65 0 ann found 2 0 0 1", "");
+    tells(&rt, alloc, it, "65 65 tick", "", "filled ann\n");
+    assert!(rt; it.lacking() == 0);
+    says(
+        &rt,
+        alloc,
+        it,
+        "65 ann get 1 7 0 9",
+        "ann 65 got 1 7 3 0 ~abc\n",
+    );
 }

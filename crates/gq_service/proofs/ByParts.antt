@@ -14,10 +14,10 @@ use Rattle.gq_parts.specs.Steps.{AllAgree, StepsTo}
 use Rattle.gq_parts.proofs.Reading.{same_node}
 use Rattle.gq_machine.specs.declared.machine.NodeMachine.{NodeMachine}
 use Rattle.gq_machine.specs.Machines.{tables_of, MachineSteps, reads}
-use Rattle.std.specs.Prelude.{Option, Some, None, not, cond}
+use Rattle.std.specs.Prelude.{Option, Some, None}
 use Rattle.std.specs.Option.{option_to_list}
 use Rattle.std.proofs.lemmas.Bool.{true≢false}
-use Rattle.gq_chunks.specs.Takers.{words_taker, line_taker, tells_chunk}
+use Rattle.gq_chunks.specs.Takers.{line_taker, tells_chunk}
 use Rattle.gq_chunks.specs.Machines.{Chunks, ChunkSteps, ChunkRecalls}
 use Rattle.gq_facts.specs.Facts.{fact_of_line}
 use Rattle.gq_machine.specs.Machines.{MachineRecalls}
@@ -28,10 +28,9 @@ use Rattle.gq_pair.specs.declared.pair.Taker.TheVariants.{First, Second, Both as
 use Rattle.gq_pair.specs.Pairs.{StepsBy}
 use Rattle.gq_pair.specs.Parting.{firsts, before_by, split}
 use Rattle.gq_parts.specs.Recalls.{facts_said}
-use Rattle.gq_text.specs.Words.{Word}
 use Rattle.gq_service.specs.Both.{Both, BothStep}
 use Rattle.gq_service.specs.Serving.{IsNewFor, first_of_journal, volumes_in}
-use Rattle.gq_service.specs.Writing.{started_part, register_steps, is_of_chunks, AllServedByParts, RegistersServedByParts}
+use Rattle.gq_service.specs.Writing.{started_part, Parted, StepParts, AreRegisterSteps, AllServedByParts, RegistersServedByParts}
 use Rattle.gq_service.specs.Verbs.{register_said}
 
 -- a run of the machine is one of its tables
@@ -56,27 +55,36 @@ served_by_parts starts run setup number journal lines base synced shown s =
 
 -- ---- beside chunks
 
--- no line is both's
-never_both : (words : List Word) → words_taker words ≡ OfBoth → ⊥
-never_both [] is = (let e = is in cc)
-never_both (to ∷ []) is = (let e = is in cc)
-never_both (to ∷ from ∷ []) is = (let e = is in cc)
-never_both (to ∷ from ∷ verb ∷ words) is = by _ is
-  where
-    by : (b : Bool) → cond b Second First ≡ OfBoth → ⊥
-    by true e = (let f = e in cc)
-    by false e = (let f = e in cc)
+-- the registers' steps of a run of both
+record Apart (first last : NodeMachine) (dids : List Did) : Type 0 where
+  own : List Did
+  parts : AreRegisterSteps dids own
+  runs : Runs MachineSteps first own last
 
--- a run of both is one of the registers, by the steps on their lines
-run_apart : {C : Type 0} (has : C → Chunks) (first last : Both C) (dids : List Did) → Runs (BothStep has) first dids last → Runs MachineSteps first.first (register_steps dids) last.first
-run_apart {C} has first last [] runs = ap (λ (p : Both C). p.first) runs
+run_apart : {C : Type 0} (has : C → Chunks) (first last : Both C) (dids : List Did) → Runs (BothStep has) first dids last → Apart first.first last.first dids
+run_apart {C} has first last [] runs = record { own = []; parts = refl; runs = ap (λ (p : Both C). p.first) runs }
 run_apart {C} has first last (did ∷ dids) runs = by (line_taker did.line) refl runs.1 (run_apart has runs.0 last dids runs.2)
   where
-    by : (t : Taker) → line_taker did.line ≡ t → StepsBy MachineSteps (λ (m : C) (line : List ℕ) (facts : List (List ℕ)) (told : List ℕ) (n : C). ChunkSteps (has m) line facts told (has n)) t first.first first.second did.line did.facts did.told runs.0.first runs.0.second → Runs MachineSteps runs.0.first (register_steps dids) last.first →
-        Runs MachineSteps first.first (cond (not (is_of_chunks t)) (did ∷ register_steps dids) (register_steps dids)) last.first
-    by First is step rest = (runs.0.first, step.0, rest)
-    by Second is step rest = subst (λ (m : NodeMachine). Runs MachineSteps m (register_steps dids) last.first) step.1 rest
-    by OfBoth is step rest = absurd (never_both _ is)
+    by : (t : Taker) → line_taker did.line ≡ t → StepsBy MachineSteps (λ (m : C) (line : List ℕ) (facts : List (List ℕ)) (told : List ℕ) (n : C). ChunkSteps (has m) line facts told (has n)) t first.first first.second did.line did.facts did.told runs.0.first runs.0.second → Apart runs.0.first last.first dids →
+        Apart first.first last.first (did ∷ dids)
+    by First is step rest = record {
+      own = did ∷ rest.own;
+      parts = subst (λ (z : Taker). StepParts z did (λ (more : List Did). AreRegisterSteps dids more) (did ∷ rest.own)) (sym is) (rest.own, refl, rest.parts);
+      runs = (runs.0.first, step.0, rest.runs);
+    }
+    by Second is step rest = record {
+      own = rest.own;
+      parts = subst (λ (z : Taker). StepParts z did (λ (more : List Did). AreRegisterSteps dids more) rest.own) (sym is) rest.parts;
+      runs = subst (λ (m : NodeMachine). Runs MachineSteps m rest.own last.first) step.1 rest.runs;
+    }
+    by OfBoth is step rest =
+        let part : Did = record { line = did.line; facts = step.first_facts; told = step.first_told } in
+        let parted : Parted did part = record { line = refl; facts_behind = step.second_facts; told_behind = step.second_told; facts = step.all_facts; told = step.all_told; before = has first.second; after = has runs.0.second; chunks = step.second_step } in
+        record {
+          own = part ∷ rest.own;
+          parts = subst (λ (z : Taker). StepParts z did (λ (more : List Did). AreRegisterSteps dids more) (part ∷ rest.own)) (sym is) (part, rest.own, refl, parted, rest.parts);
+          runs = (runs.0.first, step.first_step, rest.runs);
+        }
 
 said_none : (plan : CheckedPlan) (line : List ℕ) (says : Option Fact) → fact_of_line plan line ≡ says → tells_chunk line ≡ true → option_to_list says ≡ []
 said_none plan line None says tells = refl
@@ -106,6 +114,7 @@ registers_by_parts {C} has starts run setup number journal lines base synced sho
     let agree : AllAgree first (started_part setup number journal) = λ t within.
     subst (λ (fs : List Fact). Agrees first t (recall_all (site_of setup.plan here t) (begun_local (site_of setup.plan here t) (volumes_in t setup.openings) (first_of_journal setup journal t)) (those_of t fs))) (said_apart setup.plan (facts_taken setup journal))
     (starts setup.plan here t _ facts new first is.node (is.parts t (subst (λ (p : CheckedPlan). t < length p.rows) node.plan_is within)) read) in
-    let goes : GoesByParts setup.plan here (started_part setup number journal) (register_steps s.durable.dids) (tables_of s.last.first) =
-    run setup.plan here first (tables_of s.last.first) (started_part setup number journal) (register_steps s.durable.dids) node agree (on_tables s.first.first s.last.first (register_steps s.durable.dids) (run_apart has s.first s.last s.durable.dids s.durable.runs)) in
-    record { dids = s.durable.dids; took = s.durable.took; told = s.durable.told; tells = goes.told }
+    let own : Apart s.first.first s.last.first s.durable.dids = run_apart has s.first s.last s.durable.dids s.durable.runs in
+    let goes : GoesByParts setup.plan here (started_part setup number journal) own.own (tables_of s.last.first) =
+    run setup.plan here first (tables_of s.last.first) (started_part setup number journal) own.own node agree (on_tables s.first.first s.last.first own.own own.runs) in
+    record { dids = s.durable.dids; took = s.durable.took; told = s.durable.told; own = own.own; parts = own.parts; tells = goes.told }

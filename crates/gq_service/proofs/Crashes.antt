@@ -12,10 +12,10 @@ use Rattle.gq_keeper.proofs.Instants.{elapses_only, elapses_then}
 use Rattle.gq_setup.specs.Setups.{Setup}
 use Rattle.gq_setup.specs.Texts.{node_text, setup_of_node_text}
 use Rattle.gq_keeper.specs.LeavingOut.{facts_but}
-use Rattle.gq_keeper.specs.Starting.{RecallsAll, facts_read}
+use Rattle.gq_keeper.specs.Starting.{RecallsAll}
 use Rattle.gq_service.specs.Gone.{facts_left, facts_taken, first_taken, is_of_gone, somebody_went}
 use Rattle.gq_service.specs.Kinds.{Kind}
-use Rattle.gq_service.specs.Serving.{GoesOnAs, IsStarted, MayBeLeft, RestartsFrom, begun_with, is_its_journal, journal_found}
+use Rattle.gq_service.specs.Serving.{GoesOnAs, IsStarted, MayBeLeft, RestartsFrom, is_its_journal, journal_found}
 use Rattle.gq_service.proofs.NewNodes.{begun_found}
 
 -- a node that begins its journal

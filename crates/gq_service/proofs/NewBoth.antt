@@ -23,7 +23,7 @@ same_room (Err fault) t = refl
 
 chunks_are_blank : (setup : Setup) (number : ℕ) (lines : List Line) (m : Chunks) → ChunksAreNewFor setup (setup_read (setup_of_node_text (lines_text lines))) number m → ChunksAreBlank lines m m
 chunks_are_blank setup number lines m new = record {
-  site = record { plan = refl; node = refl; losses = refl; tenants = refl };
+  site = record { plan = refl; node = refl; lost = refl; losses = refl; tenants = refl };
   depots = λ t was is was_there is_there.
       let same : was ≡ is = some_same (slice_get m.depots t) was is was_there is_there in
       let b = new.depots t is is_there in

@@ -8,7 +8,7 @@ use Rattle.gq_desk.specs.CheckedPlan.{CheckedPlan, nobody, row_at}
 use Rattle.gq_desk.specs.Volumes.{Account, account_at, no_account, open_fault, with_volume, account_with, new_account}
 use Rattle.gq_desk.specs.declared.plans.TenantRow.{TenantRow}
 use Rattle.gq_desk.specs.declared.volumes.VolumeRow.{VolumeRow}
-use Rattle.gq_journal.specs.Batches.{Line, batches_of, lines_text, whole_lines}
+use Rattle.gq_journal.specs.Batches.{Line, batches_of, whole_lines}
 use Rattle.gq_keeper.specs.Plans.{IsPlan, begins_with_plan}
 use Rattle.gq_replace.specs.Plans.{place_of}
 use Rattle.gq_node.specs.Local.{new_local}

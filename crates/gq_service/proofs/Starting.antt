@@ -1,5 +1,4 @@
 -- What a start finds, more weakly said.
-use Rattle.std.proofs.Common.{ℕ}
 use Rattle.gq_keeper.specs.Started.{ForReady, ForStrange}
 use Rattle.gq_keeper.specs.declared.starting.Recovered.{Recovered}
 use Rattle.gq_keeper.specs.declared.starting.Started.{Started}

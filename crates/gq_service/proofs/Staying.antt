@@ -1,12 +1,11 @@
 -- What is left out says nothing of who stays.
-use Rattle.std.proofs.Common.{◌≡◌, ◌∙◌, ℕ, List, [], ◌∷◌, ◌++◌, length, Bool, true, false, cond, refl, sym, ap, subst, Option, Some, None, inl, inr}
+use Rattle.std.proofs.Common.{◌≡◌, ◌∙◌, ℕ, List, [], ◌∷◌, ◌++◌, length, Bool, true, false, cond, refl, sym, ap, subst, None}
 use Rattle.std.specs.Prelude.{Ok, not, filter}
 use Rattle.std.specs.List.{list_all}
 use Rattle.std.specs.Option.{option_to_list}
-use Rattle.std.proofs.lemmas.Bool.{cases_Bool}
 use Rattle.gq_desk.specs.CheckedPlan.{CheckedPlan}
 use Rattle.gq_desk.specs.Volumes.{Account, account_at}
-use Rattle.gq_facts.specs.Facts.{fact_of_line, fact_of_words, fact_by}
+use Rattle.gq_facts.specs.Facts.{fact_of_line, fact_of_words}
 use Rattle.gq_journal.specs.Batches.{Line}
 use Rattle.gq_keeper.specs.Starting.{facts_read}
 use Rattle.gq_node.specs.declared.output.Fact.{Fact}
@@ -15,14 +14,13 @@ use Rattle.gq_node.specs.Sites.{Site, site_of}
 use Rattle.gq_parts.specs.Recalls.{facts_said}
 use Rattle.gq_setup.specs.Laws.{here_of, GoneAreNoTenants, WhatIsLeft}
 use Rattle.gq_setup.specs.Leaving.{without}
-use Rattle.gq_setup.specs.Setups.{Setup, SetupReading, CanGo, holdings, is_gone, is_gone_at}
-use Rattle.gq_setup.specs.Texts.{first_of_setup, first_read, setup_of_node_text}
+use Rattle.gq_setup.specs.Setups.{Setup, SetupReading, holdings, is_gone}
+use Rattle.gq_setup.specs.Texts.{first_of_setup, first_read}
 use Rattle.gq_text.specs.Input.{place_named}
 use Rattle.gq_text.specs.Words.{Word, words_of}
-use Rattle.gq_service.specs.Gone.{facts_left, facts_taken, first_taken, is_of_gone, names_gone, read_left, somebody_went}
-use Rattle.gq_service.specs.Leaving.{BeginsWith, NoneOfTheGone, NothingIsLacked, WhoStaysIsWhole, whole_part}
+use Rattle.gq_service.specs.Gone.{facts_left, facts_taken, is_of_gone, names_gone, read_left, somebody_went}
+use Rattle.gq_service.specs.Leaving.{BeginsWith, NoneOfTheGone, NothingIsLacked, WhoStaysIsWhole}
 use Rattle.gq_service.specs.Serving.{begun_with, first_of_journal, volumes_in}
-use Rattle.gq_service.specs.Writing.{started_part}
 
 -- ---- a line that names who is gone says no fact of the plan
 

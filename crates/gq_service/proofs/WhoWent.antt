@@ -1,6 +1,6 @@
 -- What a node takes of its journal where tenants went.
 use Rattle.std.proofs.Common.{◌≡◌, ◌∙◌, ℕ, List, [], length, Bool, true, false, refl, sym, ap, subst, arith}
-use Rattle.std.specs.Prelude.{Result, Ok, Err, IsErr, Option, Some, None, MatchOption, nat_lt}
+use Rattle.std.specs.Prelude.{Ok, Err, IsErr, Option, Some, None}
 use Rattle.std.proofs.lemmas.Bool.{le-ltb}
 use Rattle.gq_journal.specs.Batches.{batches_of, lines_text}
 use Rattle.gq_keeper.specs.Plans.{first_plan, last_plan}

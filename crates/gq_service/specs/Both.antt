@@ -20,7 +20,7 @@ Both C = Pair NodeMachine C ByVerb
 
 -- what a machine of chunks has, by what was noted of its shelf
 abbrev pub chunks_of : {S : Type 0} → (noted : S → Noted) → ChunkMachine S → Chunks
-chunks_of noted m = chunks m.plan m.node m.depots.losses m.depots.depots.items (noted m.depots.shelf)
+chunks_of noted m = chunks m.plan m.node m.lost m.depots.losses m.depots.depots.items (noted m.depots.shelf)
 
 -- the setup that was read, if one was
 abbrev pub setup_read : SetupReading Setup → Option Setup

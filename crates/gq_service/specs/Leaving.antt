@@ -1,5 +1,5 @@
 -- What of a node is left where tenants went, tenant by tenant.
-use Rattle.std.specs.Prelude.{◌≡◌, ℕ, List, [], Bool, true, false, not, Ok}
+use Rattle.std.specs.Prelude.{◌≡◌, ℕ, List, [], true, false, not, Ok}
 use Rattle.std.specs.List.{list_all}
 use Rattle.gq_journal.specs.Batches.{batches_of, lines_text}
 use Rattle.gq_keeper.specs.Plans.{begins_with_plan, first_plan}

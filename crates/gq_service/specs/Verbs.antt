@@ -23,7 +23,8 @@ use Rattle.gq_machine.specs.declared.machine.NodeMachine.{NodeMachine}
 use Rattle.gq_machine.specs.Machines.{tables_of, MachineSteps, machine_reads}
 use Rattle.gq_pair.specs.Pairs.{readable_by}
 use Rattle.gq_chunks.specs.Facts.{own_fact_by as chunk_fact_by, chunk_fact_line, chunk_fact_of_line, chunk_fact_of_words}
-use Rattle.gq_chunks.specs.Machines.{Chunks, Asked, asked_in, StepsBy, ChunkSteps, chunk_reads, reads_told, FactStands, fact_lines as chunk_lines}
+use Rattle.gq_chunks.specs.Lasting.{WentSome, step_went}
+use Rattle.gq_chunks.specs.Machines.{Chunks, ChunkSteps, chunk_reads, reads_told, FactStands, fact_lines as chunk_lines}
 use Rattle.gq_chunks.specs.Takers.{is_fact_verb, words_tell_chunk, tells_chunk}
 use Rattle.gq_depot.specs.declared.fact.ChunkFact.{ChunkFact}
 
@@ -125,9 +126,6 @@ all_told plan t None stands = refl
 all_told plan t (Some fact) stands = rw (chunk_said plan (chunk_fact_line plan t fact) (t, fact) stands.0) refl
 
 pub second_facts : (old : Chunks) (line : List ℕ) (facts : List (List ℕ)) (told : List ℕ) (new : Chunks) → ChunkSteps old line facts told new → list_all tells_chunk facts ≡ true
-second_facts old line facts told new step = by (asked_in old line) step
-  where
-    by : (asked : Asked) → StepsBy asked old facts told new → list_all tells_chunk facts ≡ true
-    by None s = subst (λ (z : List Line). list_all tells_chunk z ≡ true) (sym s.facts_are) refl
-    by (Some (t, None)) s = subst (λ (z : List Line). list_all tells_chunk z ≡ true) (sym s.facts_are) refl
-    by (Some (t, Some request)) s = subst (λ (z : List Line). list_all tells_chunk z ≡ true) (sym s.facts_are) (all_told old.plan t s.answered.fact s.stands)
+second_facts old line facts told new step =
+    let some : WentSome old facts new = step_went old line facts told new step in
+    subst (λ (z : List Line). list_all tells_chunk z ≡ true) (sym some.facts_are) (all_told old.plan some.tenant some.fact some.stands)

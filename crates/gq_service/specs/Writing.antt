@@ -1,6 +1,6 @@
 -- What a node's process writes is determined by its setup, its number, the journal that it found and the lines that came, tenant by
 -- tenant.
-use Rattle.std.specs.Prelude.{◌≡◌, ℕ, List, ◌++◌, Bool, true, false, not, filter}
+use Rattle.std.specs.Prelude.{◌≡◌, ℕ, List, [], ◌∷◌, ◌++◌}
 use Rattle.gq_journal.specs.Batches.{Line}
 use Rattle.gq_keeper.specs.Runs.{Did, lines_of, told_of}
 use Rattle.gq_service.specs.Gone.{facts_taken}
@@ -11,7 +11,7 @@ use Rattle.gq_parts.specs.Laws.{TellsEach}
 use Rattle.gq_parts.specs.Recalls.{facts_said}
 use Rattle.gq_setup.specs.Setups.{Setup}
 use Rattle.gq_setup.specs.Laws.{here_of}
-use Rattle.gq_chunks.specs.Machines.{Chunks}
+use Rattle.gq_chunks.specs.Machines.{Chunks, ChunkSteps}
 use Rattle.gq_chunks.specs.Takers.{line_taker}
 use Rattle.gq_pair.specs.declared.pair.Taker.{Taker}
 use Rattle.gq_pair.specs.declared.pair.Taker.TheVariants.{First, Second, Both as OfBoth}
@@ -37,22 +37,37 @@ AllServedByParts = (setup : Setup) (number : ℕ) (journal : List ℕ) (lines : 
 
 -- ---- of a node that keeps chunks as well
 
-abbrev pub is_of_chunks : Taker → Bool
-is_of_chunks First = false
-is_of_chunks Second = true
-is_of_chunks OfBoth = false
+-- A step of both: what the step of the registers gave and told, and behind it what one of chunks did.
+pub record Parted (did own : Did) : Type 0 where
+  pub line : own.line ≡ did.line
+  pub facts_behind : List Line
+  pub told_behind : List ℕ
+  pub facts : did.facts ≡ own.facts ++ facts_behind
+  pub told : did.told ≡ own.told ++ told_behind
+  pub before : Chunks
+  pub after : Chunks
+  pub chunks : ChunkSteps before did.line facts_behind told_behind after
 
--- the steps that took lines of registers
-abbrev pub register_steps : List Did → List Did
-register_steps dids = filter (λ did. not (is_of_chunks (line_taker did.line))) dids
+-- What the step is of the registers' steps, by whose its line is: a line of registers is one of them, as it is; of a tick the first part is; and no line of chunks is any.
+abbrev pub StepParts : Taker → (did : Did) → (rest : List Did → Type 0) → (own : List Did) → Type 0
+StepParts First did rest own = (more : List Did) × (own ≡ did ∷ more) × rest more
+StepParts Second did rest own = rest own
+StepParts OfBoth did rest own = (part : Did) × (more : List Did) × (own ≡ part ∷ more) × Parted did part × rest more
 
--- Of what is shown behind `base`, what steps on lines of registers tell is what is written for the tenants by their parts, as if no other line had come and the journal
+-- the others are the registers' steps of all, one after another
+abbrev pub AreRegisterSteps : (dids own : List Did) → Type 0
+AreRegisterSteps [] own = own ≡ []
+AreRegisterSteps (did ∷ dids) own = StepParts (line_taker did.line) did (λ more. AreRegisterSteps dids more) own
+
+-- Of what is shown behind `base`, what the registers' steps tell is what is written for the tenants by their parts, as if no other line had come and the journal
 -- had no other facts.
 pub record TellsRegistersByParts (setup : Setup) (number : ℕ) (journal : List ℕ) (lines : List Line) (base shown : List ℕ) : Type 0 where
   pub dids : List Did
   pub took : lines_of dids ≡ lines
   pub told : shown ≡ base ++ told_of dids
-  pub tells : TellsEach setup.plan (here_of number setup) (started_part setup number journal) (register_steps dids)
+  pub own : List Did
+  pub parts : AreRegisterSteps dids own
+  pub tells : TellsEach setup.plan (here_of number setup) (started_part setup number journal) own
 
 abbrev pub RegistersServedByParts : {C : Type 0} → (has : C → Chunks) → Type 0
 RegistersServedByParts has = (setup : Setup) (number : ℕ) (journal : List ℕ) (lines : List Line) (base synced shown : List ℕ) →

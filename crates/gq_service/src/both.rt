@@ -1,6 +1,8 @@
 //! A node that keeps registers and chunks.
 
-ghost use Rattle.std.specs.Prelude.{IfOk};
+ghost use Rattle.std.specs.Prelude.{◌+◌, ◌≤◌, IfOk, IfSome};
+ghost use Rattle.gq_shelf.specs.Extents.{place_of};
+ghost use Rattle.gq_depot.specs.Segments.{NoneLies};
 ghost use Rattle.gq_chunks.specs.Machines.{IsNewFor};
 ghost use Rattle.gq_service.specs.Both.{chunks_of};
 
@@ -9,12 +11,12 @@ use crate::registers::new_registers;
 use crate::served::{Maker, Served};
 use crate::shelving::{find_shelf, had_chunks};
 use crate::this_node::ThisNode;
-use gq_chunks::{ChunkMachine, is_chunk_fact, taker_of};
+use gq_chunks::{ChunkMachine, Sweep, is_chunk_fact, taker_of};
 use gq_machine::NodeMachine;
 use gq_memory::OutOfMemory;
 use gq_pair::{Pair, Parts, Taker};
 use gq_setup::Setup;
-use gq_shelf::{FileShelf, Shelf};
+use gq_shelf::{FileShelf, Shelf, ShelfFault};
 use std::alloc::Global;
 use std::fs::File;
 use std::marker::PhantomData;
@@ -64,6 +66,17 @@ impl<S: Shelf + Drop> Served for Pair<NodeMachine, ChunkMachine<S>, ByVerb> {
 
     fn registers(&self) -> &NodeMachine {
         &self.first
+    }
+
+    fn sweep(&self, sweep: &mut Sweep) -> Result<Option<u32>, ShelfFault>
+        ensures dead { IfOk result (λ removed. IfSome removed (λ segment. NoneLies segment self.now.second.depots.depots.items)) }
+        ensures below { IfOk result (λ removed. IfSome removed (λ segment. place_of (segment + 1) 0 ≤ S.end self.now.second.depots.shelf)) }
+    {
+        self.second.sweep(sweep)
+    }
+
+    fn chunks_lacked(&self) -> (usize, u64) {
+        (self.second.lacking(), self.second.contents_came())
     }
 }
 

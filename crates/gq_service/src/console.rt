@@ -20,6 +20,15 @@ pub trait Console {
     /// The server of the node of this number lacked files, and has all now.
     fn has_all(&self, number: u16);
 
+    /// The node of this number could not remove a segment of its shelf in which no chunk lies. It tries again.
+    fn keeps_segment(&self, number: u16);
+
+    /// The node of this number lacks chunks of so many tenants. So many of their contents came since it was started.
+    fn lacks_chunks(&self, number: u16, tenants: usize, contents: u64);
+
+    /// The node of this number lacked chunks, and has all now.
+    fn has_chunks(&self, number: u16);
+
     /// To the node of this number the other one told that it speaks all forms of lines between nodes up to this one.
     fn speaks(&self, number: u16, other: u16, form: u32);
 }
@@ -80,6 +89,23 @@ impl<I: AsFd + Drop, O: AsFd + Drop, E: AsFd + Eprint + Drop> Console for Standa
 
     fn has_all(&self, number: u16) {
         let _ = eprintln!(self.errors; "gridfs: node {number}: has all files");
+    }
+
+    fn keeps_segment(&self, number: u16) {
+        let journal = self.journal;
+        let _ = eprintln!(self.errors;
+            "gridfs: node {number}: {journal}.shelf: a segment without chunks can't be removed"
+        );
+    }
+
+    fn lacks_chunks(&self, number: u16, tenants: usize, contents: u64) {
+        let _ = eprintln!(self.errors;
+            "gridfs: node {number}: lacks chunks of {tenants} tenants; {contents} contents came"
+        );
+    }
+
+    fn has_chunks(&self, number: u16) {
+        let _ = eprintln!(self.errors; "gridfs: node {number}: has all chunks");
     }
 
     fn speaks(&self, number: u16, other: u16, form: u32) {

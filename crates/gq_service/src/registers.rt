@@ -1,6 +1,6 @@
 //! A node that keeps registers alone.
 
-ghost use Rattle.std.specs.Prelude.{IfOk};
+ghost use Rattle.std.specs.Prelude.{◌≡◌, Ok, None, IfOk};
 ghost use Rattle.gq_machine.specs.Machines.{tables_of};
 ghost use Rattle.gq_setup.specs.Texts.{first_read};
 ghost use Rattle.gq_service.specs.Serving.{IsNewFor, first_of_read};
@@ -9,9 +9,11 @@ use crate::fault::NodeFault;
 use crate::new_node::new_node;
 use crate::served::{Maker, Served};
 use crate::this_node::ThisNode;
+use gq_chunks::Sweep;
 use gq_machine::NodeMachine;
 use gq_memory::OutOfMemory;
 use gq_setup::Setup;
+use gq_shelf::ShelfFault;
 use std::alloc::Global;
 
 impl Served for NodeMachine {
@@ -23,6 +25,16 @@ impl Served for NodeMachine {
 
     fn registers(&self) -> &NodeMachine {
         self
+    }
+
+    fn sweep(&self, _sweep: &mut Sweep) -> Result<Option<u32>, ShelfFault>
+        ensures { result ≡ Ok None }
+    {
+        Ok(None)
+    }
+
+    fn chunks_lacked(&self) -> (usize, u64) {
+        (0, 0)
     }
 }
 

@@ -9,9 +9,11 @@ ghost use Rattle.gq_service.specs.Serving.{TellsForm, TellsDamage, TellsNoOther}
 
 use crate::fault::NodeFault;
 use crate::this_node::ThisNode;
+use gq_chunks::Sweep;
 use gq_keeper::Lasting;
 use gq_machine::NodeMachine;
 use gq_setup::Setup;
+use gq_shelf::ShelfFault;
 use std::alloc::Global;
 
 /// A machine that a node's process runs.
@@ -24,6 +26,12 @@ pub trait Served: Lasting {
 
     /// Its registers.
     fn registers(&self) -> &NodeMachine;
+
+    /// Does one part of a look for segments of its shelf in which no chunk lies, and tells which one it removed, if one. All facts that it gave are synced.
+    fn sweep(&self, sweep: &mut Sweep) -> Result<Option<u32>, ShelfFault>;
+
+    /// Of how many tenants it lacks chunks, and how many of their contents came since it was started.
+    fn chunks_lacked(&self) -> (usize, u64);
 }
 
 /// What makes the machine with which a start begins.

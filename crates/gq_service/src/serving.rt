@@ -342,7 +342,8 @@ fn serve_machine<M: Served, D: Disk, I: Read, O: Output, C: Console>(
     drop(journal);
     let lacked = machine.registers().lacked();
     tell_ready(console, node, machine.facts(), lacked);
-    let mut telling = Telling::new(console, node.number, lacked > 0);
+    let chunks = machine.chunks_lacked();
+    let mut telling = Telling::new(alloc, console, node.number, lacked > 0, chunks);
     let longest = longest_of(node.plan.setup());
     serve(
         alloc,

@@ -2,7 +2,7 @@
 use Rattle.std.specs.Prelude.{◌≡◌, ℕ, ◌+◌, List, [], ◌∷◌, slice_index, ◌==◌, if◌then◌else◌, All}
 use Rattle.gq_shelf.specs.declared.extent.Extent.{Extent}
 use Rattle.gq_shelf.specs.declared.fault.ShelfFault.{ShelfFault}
-use Rattle.gq_shelf.specs.declared.fault.ShelfFault.TheVariants.{Memory, Read, Write, Damaged}
+use Rattle.gq_shelf.specs.declared.fault.ShelfFault.TheVariants.{Memory, Read, Write, Full, Damaged}
 
 -- a content was put there, or was read there
 abbrev pub Note : Type 0
@@ -43,6 +43,7 @@ after_failure (Damaged segment) extent noted = after_damage extent noted
 after_failure (Memory refused) extent noted = after_refusal noted
 after_failure Read extent noted = after_refusal noted
 after_failure Write extent noted = after_refusal noted
+after_failure Full extent noted = after_refusal noted
 
 -- No read was wrong: each content that was put or read is what this function says. For the one that says what was put, it says just this.
 abbrev pub IsClean : (Extent → List ℕ) → Noted → Type 0

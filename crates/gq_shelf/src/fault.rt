@@ -11,6 +11,8 @@ pub enum ShelfFault {
     Read,
     /// A segment could not be written, synced, begun or removed, or an earlier one could not.
     Write,
+    /// There is no space for a content. The shelf takes others once there is.
+    Full,
     /// The segment of this number is damaged: it is not there, ends too early, or has other bytes than were written.
     Damaged(u32),
 }

@@ -1,6 +1,7 @@
 //! A shelf in files: a folder, and a file of it for each segment.
 
-ghost use Rattle.std.specs.Prelude.{◌≡◌, ◌+◌, ◌-◌, ◌<◌, ◌≤◌, ◌^◌, true, false, length, IfOk, IfErr, OnOk, OnErr};
+ghost use Rattle.std.specs.Prelude.{◌≡◌, ◌≢◌, ◌+◌, ◌-◌, ◌<◌, ◌≤◌, ◌^◌, true, false, length, All, IfOk, IfErr, OnOk, OnErr};
+ghost use Rattle.gq_shelf.specs.declared.fault.ShelfFault.TheVariants.{Full};
 ghost use Rattle.gq_shelf.specs.declared.files.OpenFault.TheVariants.{There};
 ghost use Rattle.gq_shelf.specs.Extents.{Describes, begins, ends, place_of};
 ghost use Rattle.gq_shelf.specs.Notes.{none_noted, after_put, after_refusal, after_sync};
@@ -19,6 +20,9 @@ use std::{fs, io, str};
 
 // A segment of so many bytes or more does not grow.
 const SEGMENT_BYTES: u64 = 268_435_456;
+
+// A segment of so many bytes or more is left where the system has no space for one content more: it can be removed, once nothing on it is wanted.
+const LEFT_BYTES: u64 = 16_777_216;
 
 // So many bytes of a folder are read at once.
 const BLOCK_BYTES: usize = 65_536;
@@ -45,7 +49,7 @@ pub enum OpenFault {
 
 /// A shelf in files. A segment is begun by the first content that is put after a start, or once the last one is long; none is appended to
 /// that an earlier start began. After a write or a sync that failed nothing is known of the bytes behind the last sync, and a later sync
-/// would not tell: so nothing more is put.
+/// would not tell: so nothing more is put. It is otherwise where the system has no space for a write: what was written before is there.
 #[derive(Drop)]
 pub struct FileShelf<R: Files<File = File> + Drop> {
     alloc: Global,
@@ -117,15 +121,15 @@ fn sync_folder<R: Files>(rt: &R, folder: &str) -> io::Result<()> {
     fs::open(rt, folder)?.sync_all()
 }
 
-// The greatest number of the segments that are there, 0 where there is none, or no folder. A crash leaves their names.
-fn greatest_in<R: Files>(alloc: Global, rt: &R, folder: &str) -> io::Result<u32> {
+// The names in the folder, each with a 0 behind it; none where there is no folder.
+fn names_in<R: Files>(alloc: Global, rt: &R, folder: &str) -> io::Result<Vec<u8>> {
+    let mut names = Vec::new(alloc);
     let mut dir = match rt.open_dir(folder) {
         Ok(dir) => dir,
-        Err(error) if error.kind() == io::ErrorKind::NotFound => return Ok(0),
+        Err(error) if error.kind() == io::ErrorKind::NotFound => return Ok(names),
         Err(error) => return Err(error),
     };
     // A read into little room is a fault of the system, so each has a block.
-    let mut names = Vec::new(alloc);
     let mut block = Vec::new(alloc);
     block.resize(BLOCK_BYTES, 0u8)?;
     for _ in 0..u64::MAX {
@@ -135,6 +139,12 @@ fn greatest_in<R: Files>(alloc: Global, rt: &R, folder: &str) -> io::Result<u32>
         }
         names.extend_from_slice(&block[..count])?;
     }
+    Ok(names)
+}
+
+// The greatest number of the segments that are there, 0 where there is none, or no folder. A crash leaves their names.
+fn greatest_in<R: Files>(alloc: Global, rt: &R, folder: &str) -> io::Result<u32> {
+    let names = names_in(alloc, rt, folder)?;
     let mut greatest = 0;
     for name in names.as_slice().split(|byte| *byte == 0) {
         if let Some(number) = number_of(name) {
@@ -149,11 +159,44 @@ fn greatest_in<R: Files>(alloc: Global, rt: &R, folder: &str) -> io::Result<u32>
     Ok(greatest)
 }
 
+// The numbers among the names that are below this one.
+fn numbers_below(alloc: Global, names: &[u8], below: u32) -> Result<Vec<u32>, OutOfMemory>
+    ensures { IfOk result (λ found. All (λ number. number < below) found.items) }
+{
+    let mut found = Vec::new(alloc);
+    for name in names.split(|byte| *byte == 0) {
+        if let Some(number) = number_of(name) {
+            if number < below {
+                found.grow(number)?;
+            }
+        }
+    }
+    Ok(found)
+}
+
 // The system wanted memory. That is told as any want of memory: by a growth that is refused.
 fn no_memory(alloc: Global) -> ShelfFault {
     match filled(alloc, 0u8, usize::MAX) {
         Ok(_bytes) => ShelfFault::Read,
         Err(refused) => ShelfFault::Memory(refused),
+    }
+}
+
+// Why the folder could not be read.
+fn why_unlisted(alloc: Global, error: &io::Error) -> ShelfFault {
+    match error.kind() {
+        io::ErrorKind::OutOfMemory => no_memory(alloc),
+        _ => ShelfFault::Read,
+    }
+}
+
+// Why something could not be written or begun.
+fn why_unwritten(alloc: Global, error: &io::Error) -> ShelfFault {
+    match error.kind() {
+        io::ErrorKind::StorageFull | io::ErrorKind::QuotaExceeded | io::ErrorKind::FileTooLarge =>
+            ShelfFault::Full,
+        io::ErrorKind::OutOfMemory => no_memory(alloc),
+        _ => ShelfFault::Write,
     }
 }
 
@@ -204,7 +247,8 @@ impl<R: Files<File = File> + Drop> FileShelf<R> {
 
     // Whether more may be put and made sure of.
     fn check_whole(&self) -> Result<(), ShelfFault>
-        ensures { OnOk result (self.now.is_broken ≡ false) }
+        ensures whole { OnOk result (self.now.is_broken ≡ false) }
+        ensures never_full { IfErr result (λ fault. fault ≢ Full) }
     {
         if self.is_broken {
             return Err(ShelfFault::Write);
@@ -223,38 +267,46 @@ impl<R: Files<File = File> + Drop> FileShelf<R> {
         self.notes.is_refused()
     }
 
+    // Makes sure of the names in the folder. Nothing is known of them where that fails, for whatever cause.
+    fn sync_names(&self, folder: &str) -> Result<(), ShelfFault> {
+        match sync_folder(&self.rt, folder) {
+            Ok(()) => Ok(()),
+            Err(error) if error.kind() == io::ErrorKind::OutOfMemory => Err(no_memory(self.alloc)),
+            Err(_) => Err(ShelfFault::Write),
+        }
+    }
+
     // Makes the folder where there is none. A crash leaves its name, also where an earlier start made it and ended before its sync.
-    fn make_folder(&self) -> io::Result<()> {
+    fn make_folder(&self) -> Result<(), ShelfFault> {
         let mut how = DirBuilder::new();
         how.mode(0o700);
         match how.create(&self.rt, self.place.folder.as_str()) {
             Ok(()) => {}
             Err(error) if error.kind() == io::ErrorKind::AlreadyExists => {}
-            Err(error) => return Err(error),
+            Err(error) => return Err(why_unwritten(self.alloc, &error)),
         }
-        sync_folder(&self.rt, self.place.above.as_str())
+        self.sync_names(self.place.above.as_str())
     }
 
-    // A new segment at this path. A crash leaves its name, so no start uses the number again.
-    fn made(&self, path: &str) -> io::Result<File> {
-        self.make_folder()?;
+    // A new file of this path.
+    fn made(&self, path: &str) -> Result<File, ShelfFault> {
         let mut how = OpenOptions::new();
         how.append(true);
         how.create_new(true);
         how.mode(0o600);
-        let file = how.open(&self.rt, path)?;
-        sync_folder(&self.rt, self.place.folder.as_str())?;
-        Ok(file)
+        match how.open(&self.rt, path) {
+            Ok(file) => Ok(file),
+            Err(error) => Err(why_unwritten(self.alloc, &error)),
+        }
     }
 
-    // A new segment of this number.
+    // A new segment of this number. A crash leaves its name, so no start uses the number again.
     fn new_segment(&self, number: u32) -> Result<File, ShelfFault> {
         let path = path_of(self.alloc, self.place.folder.as_str(), number)?;
-        match self.made(text_of(path.as_slice())?) {
-            Ok(file) => Ok(file),
-            Err(error) if error.kind() == io::ErrorKind::OutOfMemory => Err(no_memory(self.alloc)),
-            Err(_) => Err(ShelfFault::Write),
-        }
+        self.make_folder()?;
+        let file = self.made(text_of(path.as_slice())?)?;
+        self.sync_names(self.place.folder.as_str())?;
+        Ok(file)
     }
 
     // Begins the segment behind the one of the greatest number, once it was made sure of that.
@@ -277,11 +329,31 @@ impl<R: Files<File = File> + Drop> FileShelf<R> {
         Ok(())
     }
 
+    // What was written of a content for which there was no space is cut off, and takes no space then. Where that fails, or the segment is long or can't be longer, the
+    // next content begins another one.
+    fn cut(&mut self, error: &io::Error)
+        ensures notes { self.new.notes ≡ self.old.notes }
+        ensures segment { self.new.segment ≡ self.old.segment }
+        ensures at { self.old.at ≤ self.new.at }
+        ensures broken { self.new.is_broken ≡ self.old.is_broken }
+        ensures bytes { self.new.written ≡ self.old.written }
+    {
+        let at = self.at;
+        let is_cut = match &self.growing {
+            Some(file) => file.set_len(at).is_ok(),
+            None => false,
+        };
+        if !is_cut || at >= LEFT_BYTES || error.kind() == io::ErrorKind::FileTooLarge {
+            self.at = u64::MAX;
+        }
+    }
+
     // Writes the bytes behind all others.
     fn write(&mut self, bytes: &[u8]) -> Result<(), ShelfFault>
         ensures notes { self.new.notes ≡ self.old.notes }
         ensures segment { self.new.segment ≡ self.old.segment }
-        ensures at { self.new.at ≡ self.old.at }
+        ensures at { OnOk result (self.new.at ≡ self.old.at) }
+        ensures rises { self.old.at ≤ self.new.at }
         ensures broken { self.new.is_broken ≡ self.old.is_broken }
         ensures bytes { self.new.written ≡ true }
     {
@@ -289,10 +361,13 @@ impl<R: Files<File = File> + Drop> FileShelf<R> {
         let Some(file) = &mut self.growing else {
             return Err(ShelfFault::Write);
         };
-        if file.write_all(bytes).is_err() {
-            return Err(ShelfFault::Write);
+        match file.write_all(bytes) {
+            Ok(()) => Ok(()),
+            Err(error) => {
+                self.cut(&error);
+                Err(why_unwritten(self.alloc, &error))
+            }
         }
-        Ok(())
     }
 
     // Puts the bytes behind all others, in a new segment where the last one is long.
@@ -306,6 +381,7 @@ impl<R: Files<File = File> + Drop> FileShelf<R> {
         ensures broken { self.new.is_broken ≡ self.old.is_broken }
         ensures bytes { OnOk result (self.new.written ≡ true) }
         ensures whole { OnOk result (self.old.is_broken ≡ false) }
+        ensures full { IfErr result (λ fault. fault ≡ Full → self.old.is_broken ≡ false) }
     {
         self.check_whole()?;
         if self.at >= SEGMENT_BYTES {
@@ -330,6 +406,7 @@ impl<R: Files<File = File> + Drop> FileShelf<R> {
         ensures broken { self.new.is_broken ≡ self.old.is_broken }
         ensures no_bytes { OnOk result (self.new.written ≡ false) }
         ensures whole { OnOk result (self.old.is_broken ≡ false) }
+        ensures never_full { IfErr result (λ fault. fault ≢ Full) }
     {
         self.check_whole()?;
         if self.written {
@@ -340,7 +417,9 @@ impl<R: Files<File = File> + Drop> FileShelf<R> {
     }
 
     // Makes sure of the bytes of the last segment.
-    fn sync_growing(&self) -> Result<(), ShelfFault> {
+    fn sync_growing(&self) -> Result<(), ShelfFault>
+        ensures { IfErr result (λ fault. fault ≢ Full) }
+    {
         let Some(file) = &self.growing else {
             return Err(ShelfFault::Write);
         };
@@ -423,6 +502,10 @@ impl<R: Files<File = File> + Drop> Shelf for FileShelf<R> {
                 self.note_put(&extent, bytes);
                 Ok(extent)
             }
+            Err(ShelfFault::Full) => {
+                self.notes.is_refused();
+                Err(ShelfFault::Full)
+            }
             Err(fault) => {
                 self.breaks();
                 Err(fault)
@@ -456,16 +539,17 @@ impl<R: Files<File = File> + Drop> Shelf for FileShelf<R> {
         }
     }
 
-    fn remove(&mut self, segment: u32) -> Result<bool, ShelfFault> {
+    fn segments(&self) -> Result<Vec<u32>, ShelfFault> {
+        match names_in(self.alloc, &self.rt, self.place.folder.as_str()) {
+            Ok(names) => Ok(numbers_below(self.alloc, names.as_slice(), self.segment)?),
+            Err(error) => Err(why_unlisted(self.alloc, &error)),
+        }
+    }
+
+    fn remove(&self, segment: u32) -> Result<bool, ShelfFault> {
         if segment >= self.segment {
             return Ok(false);
         }
-        match self.remove_file(segment) {
-            Ok(removed) => Ok(removed),
-            Err(fault) => {
-                self.notes.is_refused();
-                Err(fault)
-            }
-        }
+        self.remove_file(segment)
     }
 }

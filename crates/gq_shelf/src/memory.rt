@@ -109,7 +109,11 @@ impl Shelf for MemoryShelf {
         }
     }
 
-    fn remove(&mut self, _segment: u32) -> Result<bool, ShelfFault> {
+    fn segments(&self) -> Result<Vec<u32>, ShelfFault> {
+        Ok(Vec::new(self.alloc))
+    }
+
+    fn remove(&self, _segment: u32) -> Result<bool, ShelfFault> {
         Ok(false)
     }
 }

@@ -101,7 +101,9 @@ impl Notes {
     {
         match fault {
             ShelfFault::Damaged(_) => self.finds_damage(extent),
-            ShelfFault::Memory(_) | ShelfFault::Read | ShelfFault::Write => self.is_refused(),
+            ShelfFault::Memory(_) | ShelfFault::Read | ShelfFault::Write | ShelfFault::Full => {
+                self.is_refused()
+            }
         }
     }
 }

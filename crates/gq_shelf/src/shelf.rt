@@ -1,6 +1,7 @@
 //! What a shelf does.
 
-ghost use Rattle.std.specs.Prelude.{◌≡◌, ◌+◌, ◌<◌, ◌≤◌, ◌^◌, ℕ, Bool, true, false, length, IfOk, IfErr, OnOk, OnErr};
+ghost use Rattle.std.specs.Prelude.{◌≡◌, ◌≢◌, ◌+◌, ◌<◌, ◌≤◌, ◌^◌, ℕ, Bool, true, false, All, length, IfOk, IfErr, OnOk, OnErr};
+ghost use Rattle.gq_shelf.specs.declared.fault.ShelfFault.TheVariants.{Full};
 ghost use Rattle.gq_shelf.specs.Extents.{Describes, begins, ends, place_of};
 ghost use Rattle.gq_shelf.specs.Notes.{Noted, after_put, after_read, after_failure, after_sync, after_refusal};
 
@@ -21,7 +22,8 @@ pub trait Shelf {
     /// What was put may not be there, since a call was refused. Then nothing more is put or made sure of in this life.
     ghost is_broken: { Self → Bool };
 
-    /// Puts a content behind all others. Until the next sync a crash may leave a part of it, or nothing.
+    /// Puts a content behind all others. Until the next sync a crash may leave a part of it, or nothing. Where there is no space for it (`Full`) the shelf is as
+    /// whole as it was, and takes others once there is.
     fn append(&mut self, bytes: &[u8]) -> Result<Extent, ShelfFault>
         requires { length bytes.now < 2 ^ 32 }
         ensures put { IfOk result (λ extent. noted self.new ≡ after_put extent bytes.now (noted self.old)) }
@@ -32,15 +34,17 @@ pub trait Shelf {
         ensures was_whole { OnOk result (is_broken self.old ≡ false) }
         ensures is_whole { OnOk result (is_broken self.new ≡ false) }
         ensures refused { OnErr result (noted self.new ≡ after_refusal (noted self.old)) }
-        ensures breaks { OnErr result (is_broken self.new ≡ true) };
+        ensures full { IfErr result (λ fault. fault ≡ Full → (is_broken self.old ≡ false) × (is_broken self.new ≡ false)) }
+        ensures breaks { IfErr result (λ fault. fault ≢ Full → is_broken self.new ≡ true) };
 
-    /// Makes sure of all contents.
+    /// Makes sure of all contents. A want of space is no cause to go on: nothing is known of the contents then.
     fn sync(&mut self) -> Result<(), ShelfFault>
         ensures sure { OnOk result (noted self.new ≡ after_sync (noted self.old)) }
         ensures end_stays { end self.new ≡ end self.old }
         ensures was_whole { OnOk result (is_broken self.old ≡ false) }
         ensures is_whole { OnOk result (is_broken self.new ≡ false) }
         ensures refused { OnErr result (noted self.new ≡ after_refusal (noted self.old)) }
+        ensures never_full { IfErr result (λ fault. fault ≢ Full) }
         ensures breaks { OnErr result (is_broken self.new ≡ true) };
 
     /// The content. Bytes of another number or another sum are damage.
@@ -51,12 +55,12 @@ pub trait Shelf {
         ensures end_stays { end self.new ≡ end self.old }
         ensures broken_stays { is_broken self.new ≡ is_broken self.old };
 
+    /// The numbers of the segments that are there, but for the greatest.
+    fn segments(&self) -> Result<Vec<u32>, ShelfFault>
+        ensures { IfOk result (λ found. All (λ segment. place_of (segment + 1) 0 ≤ end self.now) found.items) };
+
     /// Removes the segment with all that lies on it, and says whether it did. That of the greatest number stays: a start goes on behind it, so no
     /// number comes twice.
-    fn remove(&mut self, segment: u32) -> Result<bool, ShelfFault>
-        ensures below { IfOk result (λ removed. removed ≡ true → place_of (segment + 1) 0 ≤ end self.old) }
-        ensures noted { OnOk result (noted self.new ≡ noted self.old) }
-        ensures refused { OnErr result (noted self.new ≡ after_refusal (noted self.old)) }
-        ensures end_stays { end self.new ≡ end self.old }
-        ensures broken_stays { is_broken self.new ≡ is_broken self.old };
+    fn remove(&self, segment: u32) -> Result<bool, ShelfFault>
+        ensures { IfOk result (λ removed. removed ≡ true → place_of (segment + 1) 0 ≤ end self.now) };
 }

@@ -5,7 +5,7 @@ use Rattle.gq_ledger.specs.Steps.{Book}
 use Rattle.gq_stock.specs.Held.{Held}
 use Rattle.gq_stock.specs.Keeping.{ComparesAs, KeptAs}
 use Rattle.gq_stock.specs.declared.keeping.Keeping.{Keeping}
-use Rattle.gq_stock.specs.declared.keeping.Keeping.TheVariants.{New, Same, Differs, Damaged, Below, Full}
+use Rattle.gq_stock.specs.declared.keeping.Keeping.TheVariants.{New, Same, Differs, Damaged, Below, Full, NoSpace}
 use Rattle.gq_stock.proofs.Deeds.{same≢new, differs≢new, damaged≢new}
 
 -- nothing changes, and what is told is what comparing told
@@ -20,3 +20,4 @@ compared (Ok told) C b n bytes is_sure free so = λ clean. by told (so clean)
     by Damaged is = record { told_so = is; leads = λ e. absurd (damaged≢new e); same = λ _. refl }
     by Below is = absurd is
     by Full is = absurd is
+    by NoSpace is = absurd is

@@ -14,7 +14,7 @@ use Rattle.gq_stock.specs.Laws.{IsThese, IsEmpty, ToldIsKept, KeptUntilForgotten
 use Rattle.gq_stock.specs.declared.finding.Found.{Found}
 use Rattle.gq_stock.specs.declared.finding.Found.TheVariants.{Nothing, There, Damaged as Spoilt}
 use Rattle.gq_stock.specs.declared.keeping.Keeping.{Keeping}
-use Rattle.gq_stock.specs.declared.keeping.Keeping.TheVariants.{New, Same, Differs, Damaged, Below, Full}
+use Rattle.gq_stock.specs.declared.keeping.Keeping.TheVariants.{New, Same, Differs, Damaged, Below, Full, NoSpace}
 
 -- ---- a book in which something is new
 
@@ -69,6 +69,9 @@ below≢new e = cc
 pub full≢new : Full ≢ New
 full≢new e = cc
 
+pub space≢new : NoSpace ≢ New
+space≢new e = cc
+
 -- the content under a number in a book that is another one
 pub content_in : (n : ℕ) (new old : Book Held) (o : Option (List ℕ)) → new ≡ old → content_of (old.at n) ≡ o → content_of (new.at n) ≡ o
 content_in n new old o same is = ap (λ (b : Book Held). content_of (b.at n)) same ∙ is
@@ -88,6 +91,7 @@ one (IsKept m bytes is_sure free told) b now n before does rest = by told does
     by Damaged k = content_in n now b (content_now n before) (k.same damaged≢new) rest
     by Below k = content_in n now b (content_now n before) (k.same below≢new) rest
     by Full k = content_in n now b (content_now n before) (k.same full≢new) rest
+    by NoSpace k = content_in n now b (content_now n before) (k.same space≢new) rest
 one (IsFound m found) b now n before does rest = content_in n now b (content_now n before) does.1 rest
 one (AreForgotten floor runs) b now n before does rest = ap content_of (does.at n) ∙ (forgot_if (is_in_any n runs) (b.at n) ∙ ap (λ (o : Option (List ℕ)). if is_in_any n runs then None else o) rest)
 one (IsGiven m bytes) b now n before does rest = ap content_of (does.at n) ∙ (content_if (n == m) (held_of bytes true) (b.at n) ∙ ap (λ (o : Option (List ℕ)). if n == m then Some bytes else o) rest)
@@ -116,6 +120,7 @@ stay (IsKept m others is_sure free told) b now n bytes leave is does = by told d
     by Damaged k = content_in n now b (Some bytes) (k.same damaged≢new) is
     by Below k = content_in n now b (Some bytes) (k.same below≢new) is
     by Full k = content_in n now b (Some bytes) (k.same full≢new) is
+    by NoSpace k = content_in n now b (Some bytes) (k.same space≢new) is
 stay (IsFound m found) b now n bytes leave is does = content_in n now b (Some bytes) does.1 is
 stay (AreForgotten floor runs) b now n bytes leave is does = ap content_of (does.at n ∙ ap (λ (t : Bool). if t then None else b.at n) (not-true (is_in_any n runs) leave)) ∙ is
 stay (IsGiven m others) b now n bytes leave is does = ap content_of (does.at n ∙ ap (λ (t : Bool). if t then Some (held_of others true) else b.at n) (not-true (n == m) leave)) ∙ is
@@ -133,6 +138,7 @@ then_there Differs old new n bytes is_sure free is k = absurd (true≢false (sym
 then_there Damaged old new n bytes is_sure free is k = absurd (true≢false (sym is))
 then_there Below old new n bytes is_sure free is k = absurd (true≢false (sym is))
 then_there Full old new n bytes is_sure free is k = absurd (true≢false (sym is))
+then_there NoSpace old new n bytes is_sure free is k = absurd (true≢false (sym is))
 
 these : (found : Found) (has : Option Held) (bytes : List ℕ) → content_of has ≡ Some bytes → FoundAs (Unit {0}) has found → IsThese bytes found
 these Nothing has bytes is none = no_content has bytes none is
@@ -156,6 +162,7 @@ once old new now after deeds n bytes others is_sure is_other_sure free other_fre
     by Damaged e k = absurd (true≢false (sym e))
     by Below e k = absurd (true≢false (sym e))
     by Full e k = absurd (true≢false (sym e))
+    by NoSpace e k = absurd (true≢false (sym e))
 
 -- ---- what is absent and not above the floor
 
@@ -182,6 +189,7 @@ gone_one (IsKept m bytes is_sure free told) b now n none gone does = by told doe
     by Damaged k = gone_in n now b (k.same damaged≢new) gone
     by Below k = gone_in n now b (k.same below≢new) gone
     by Full k = gone_in n now b (k.same full≢new) gone
+    by NoSpace k = gone_in n now b (k.same space≢new) gone
 gone_one (IsFound m found) b now n none gone does = gone_in n now b does.1 gone
 gone_one (AreForgotten floor runs) b now n none gone does =
     let risen : now.floor ≡ max b.floor floor = does.risen in
@@ -211,6 +219,7 @@ told_below Differs has n floor bytes free none below told = absurd (no_some has 
 told_below Damaged has n floor bytes free none below told = absurd (no_some has none told)
 told_below Below has n floor bytes free none below told = refl
 told_below Full has n floor bytes free none below told = let above : floor < n = told.1 in absurd (omega arith)
+told_below NoSpace has n floor bytes free none below told = let above : floor < n = told.1 in absurd (omega arith)
 
 pub below_the_floor : BelowTheFloor
 below_the_floor old now after deeds n bytes is_sure free told none below ran gives does =
@@ -219,13 +228,14 @@ below_the_floor old now after deeds n bytes is_sure free told none below ran giv
 
 -- ---- room
 
-room : (told : Keeping) (has : Option Held) (n floor : ℕ) (bytes : List ℕ) (free : ℕ) → has ≡ None → floor < n → ToldAs has n floor bytes free told → (charge_of (length bytes) ≤ free → told ≡ New) × (free < charge_of (length bytes) → told ≡ Full)
-room New has n floor bytes free none above told = let fits : charge_of (length bytes) ≤ free = told.2 in (λ le. refl, λ lt. absurd (omega (arith, lt, fits)))
+room : (told : Keeping) (has : Option Held) (n floor : ℕ) (bytes : List ℕ) (free : ℕ) → has ≡ None → floor < n → ToldAs has n floor bytes free told → (charge_of (length bytes) ≤ free → told ≢ NoSpace → told ≡ New) × (free < charge_of (length bytes) → told ≡ Full)
+room New has n floor bytes free none above told = let fits : charge_of (length bytes) ≤ free = told.2 in (λ le roomy. refl, λ lt. absurd (omega (arith, lt, fits)))
 room Same has n floor bytes free none above told = absurd (no_content has bytes none told)
 room Differs has n floor bytes free none above told = absurd (no_some has none told.0)
 room Damaged has n floor bytes free none above told = absurd (no_some has none told)
 room Below has n floor bytes free none above told = let below : n ≤ floor = told.1 in absurd (omega arith)
-room Full has n floor bytes free none above told = let over : free < charge_of (length bytes) = told.2 in (λ le. absurd (omega (arith, le, over)), λ lt. refl)
+room Full has n floor bytes free none above told = let over : free < charge_of (length bytes) = told.2 in (λ le roomy. absurd (omega (arith, le, over)), λ lt. refl)
+room NoSpace has n floor bytes free none above told = let fits : charge_of (length bytes) ≤ free = told.2 in (λ le roomy. absurd (roomy refl), λ lt. absurd (omega (arith, lt, fits)))
 
 pub room_is_exact : RoomIsExact
 room_is_exact old new n bytes is_sure free told none above does = room told (old.at n) n old.floor bytes free none above does.told_so

@@ -1,6 +1,6 @@
 -- What a peer gives.
 use Rattle.std.proofs.Common.{◌≡◌, ◌<◌, ℕ, Bool, true, List, Some, refl, sym, ap, subst, ◌∙◌, get_or, set, length}
-use Rattle.std.specs.Prelude.{◌==◌, slice_get, Result, Ok, Err, OnErr, if◌then◌else◌}
+use Rattle.std.specs.Prelude.{Result, Ok, Err, OnErr, if◌then◌else◌}
 use Rattle.std.proofs.lemmas.Bool.{eq-eqb}
 use Rattle.gq_shelf.specs.Notes.{Noted}
 use Rattle.gq_shelf.specs.declared.extent.Extent.{Extent}

@@ -9,3 +9,4 @@ pub mod Acts
 pub mod Sessions
 pub mod Restarts
 pub mod Giving
+pub mod Segments

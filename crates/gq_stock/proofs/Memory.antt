@@ -10,7 +10,7 @@ use Rattle.gq_shelf.specs.declared.place.Place.TheVariants.{Fresh, Shelved}
 use Rattle.gq_stock.specs.Memory.{fresh_at, stays_fresh, fresh_of, fresh_taken}
 use Rattle.gq_stock.specs.Moving.{LiesBehind}
 use Rattle.gq_stock.specs.declared.keeping.Keeping.{Keeping}
-use Rattle.gq_stock.specs.declared.keeping.Keeping.TheVariants.{New, Same, Differs, Damaged, Below, Full}
+use Rattle.gq_stock.specs.declared.keeping.Keeping.TheVariants.{New, Same, Differs, Damaged, Below, Full, NoSpace}
 use Rattle.gq_stock.specs.declared.session.Session.{Session}
 use Rattle.gq_stock.specs.Stocks.{fresh_in}
 
@@ -45,6 +45,7 @@ taken_within long left Differs = omega arith
 taken_within long left Damaged = omega arith
 taken_within long left Below = omega arith
 taken_within long left Full = omega arith
+taken_within long left NoSpace = omega arith
 
 -- ---- all sessions
 

@@ -7,9 +7,9 @@ use Rattle.gq_stock.specs.Forgetting.{is_in_any}
 use Rattle.gq_stock.specs.Keeping.{KeptAs}
 use Rattle.gq_stock.specs.Deeds.{Deed, IsKept, IsFound, AreForgotten, IsGiven, AreMoved, Does}
 use Rattle.gq_stock.specs.Facts.{after_fact, kept_fact, fact_of, restarted, IsSameBook, StartsAgain}
-use Rattle.gq_stock.proofs.Deeds.{held_of, new_there, new_floor, same≢new, differs≢new, damaged≢new, below≢new, full≢new}
+use Rattle.gq_stock.proofs.Deeds.{held_of, new_there, new_floor, same≢new, differs≢new, damaged≢new, below≢new, full≢new, space≢new}
 use Rattle.gq_stock.specs.declared.keeping.Keeping.{Keeping}
-use Rattle.gq_stock.specs.declared.keeping.Keeping.TheVariants.{New, Same, Differs, Damaged, Below, Full}
+use Rattle.gq_stock.specs.declared.keeping.Keeping.TheVariants.{New, Same, Differs, Damaged, Below, Full, NoSpace}
 
 stays : (again b now : Book Held) → IsSameBook again b → now ≡ b → IsSameBook again now
 stays again b now same is = record { at = λ n. same.at n ∙ sym (ap (λ (x : Book Held). x.at n) is); floor = same.floor ∙ sym (ap (λ (x : Book Held). x.floor) is) }
@@ -27,6 +27,7 @@ one (IsKept m bytes is_sure free told) again b now same does = by told does
     by Damaged k = stays again b now same (k.same damaged≢new)
     by Below k = stays again b now same (k.same below≢new)
     by Full k = stays again b now same (k.same full≢new)
+    by NoSpace k = stays again b now same (k.same space≢new)
 one (IsFound m found) again b now same does = stays again b now same does.1
 one (AreForgotten floor runs) again b now same does = record {
   at = λ n. ap (λ (o : Option Held). if is_in_any n runs then None else o) (same.at n) ∙ sym (does.at n);

@@ -6,7 +6,7 @@ use Rattle.gq_stock.specs.Held.{Held}
 use Rattle.gq_stock.specs.Deeds.{IsKept, IsFound, AreForgotten, IsGiven, AreMoved, Does, is_kept}
 use Rattle.gq_stock.specs.declared.finding.Found.TheVariants.{There}
 use Rattle.gq_stock.specs.declared.keeping.Keeping.{Keeping}
-use Rattle.gq_stock.specs.declared.keeping.Keeping.TheVariants.{Damaged, Full}
+use Rattle.gq_stock.specs.declared.keeping.Keeping.TheVariants.{Damaged, Full, NoSpace}
 
 -- a number for each content
 abbrev pub IsCode : (List ℕ → ℕ) → Type 0
@@ -17,9 +17,9 @@ coded code has = option_map (λ held. code held.bytes) has
 
 -- of a number n, in a book that a deed makes of another one
 pub record ActsAlike (code : List ℕ → ℕ) (old new : Book Held) (n : ℕ) : Type 0 where
-  -- a content that is to be kept, where there is room and what is there can be read
-  pub keeps : (bytes : List ℕ) (is_sure : Bool) (free : ℕ) (told : Keeping) → told ≢ Damaged → told ≢ Full → Does old (IsKept n bytes is_sure free told) new → coded code (new.at n) ≡ then_has (coded code (old.at n)) (nat_le n old.floor) (code bytes)
-  pub tells : (bytes : List ℕ) (is_sure : Bool) (free : ℕ) (told : Keeping) → told ≢ Damaged → told ≢ Full → Does old (IsKept n bytes is_sure free told) new → is_kept told ≡ keeps_it (coded code (old.at n)) (nat_le n old.floor) (code bytes)
+  -- a content that is to be kept, where there is room and space, and what is there can be read
+  pub keeps : (bytes : List ℕ) (is_sure : Bool) (free : ℕ) (told : Keeping) → told ≢ Damaged → told ≢ Full → told ≢ NoSpace → Does old (IsKept n bytes is_sure free told) new → coded code (new.at n) ≡ then_has (coded code (old.at n)) (nat_le n old.floor) (code bytes)
+  pub tells : (bytes : List ℕ) (is_sure : Bool) (free : ℕ) (told : Keeping) → told ≢ Damaged → told ≢ Full → told ≢ NoSpace → Does old (IsKept n bytes is_sure free told) new → is_kept told ≡ keeps_it (coded code (old.at n)) (nat_le n old.floor) (code bytes)
   -- what is given, found and moved
   pub gives : (bytes : List ℕ) → Does old (IsGiven n bytes) new → coded code (new.at n) ≡ Some (code bytes)
   pub finds : (bytes : List ℕ) → Does old (IsFound n (There bytes)) new → coded code (old.at n) ≡ Some (code bytes)

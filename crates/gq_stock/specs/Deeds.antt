@@ -9,7 +9,7 @@ use Rattle.gq_stock.specs.Moving.{MovedAs}
 use Rattle.gq_stock.specs.declared.run.Run.{Run}
 use Rattle.gq_stock.specs.declared.finding.Found.{Found}
 use Rattle.gq_stock.specs.declared.keeping.Keeping.{Keeping}
-use Rattle.gq_stock.specs.declared.keeping.Keeping.TheVariants.{New, Same, Differs, Damaged, Below, Full}
+use Rattle.gq_stock.specs.declared.keeping.Keeping.TheVariants.{New, Same, Differs, Damaged, Below, Full, NoSpace}
 
 -- A content is to be kept under a number, told from then on or not, where so many bytes are free, and this is told of it. A number is looked for, and this is found.
 -- The numbers of runs are forgotten, with a floor. A peer gives a content. Contents are moved.
@@ -41,6 +41,7 @@ is_kept Differs = false
 is_kept Damaged = false
 is_kept Below = false
 is_kept Full = false
+is_kept NoSpace = false
 
 -- whether the deed gives nothing under the number
 abbrev pub gives_none : ℕ → Deed → Bool
@@ -72,6 +73,7 @@ kept_now Differs is_its bytes before = before
 kept_now Damaged is_its bytes before = before
 kept_now Below is_its bytes before = before
 kept_now Full is_its bytes before = before
+kept_now NoSpace is_its bytes before = before
 
 -- The content of a number, by what was done, the newest first: the one that was kept last as a new one, or was given last, if the number was not forgotten since.
 abbrev pub content_now : ℕ → List Deed → Option (List ℕ)

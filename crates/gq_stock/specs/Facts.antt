@@ -6,7 +6,7 @@ use Rattle.gq_stock.specs.Forgetting.{is_in_any}
 use Rattle.gq_stock.specs.Deeds.{Deed, IsKept, IsFound, AreForgotten, IsGiven, AreMoved, Ran}
 use Rattle.gq_stock.specs.declared.run.Run.{Run}
 use Rattle.gq_stock.specs.declared.keeping.Keeping.{Keeping}
-use Rattle.gq_stock.specs.declared.keeping.Keeping.TheVariants.{New, Same, Differs, Damaged, Below, Full}
+use Rattle.gq_stock.specs.declared.keeping.Keeping.TheVariants.{New, Same, Differs, Damaged, Below, Full, NoSpace}
 
 -- this is under the number; the numbers of the runs are forgotten, with a floor
 pub data Fact : Type 0 where
@@ -27,6 +27,7 @@ kept_fact Differs n held = None
 kept_fact Damaged n held = None
 kept_fact Below n held = None
 kept_fact Full n held = None
+kept_fact NoSpace n held = None
 
 -- the fact of a deed. (One of a content that is moved says of the same content where it lies.)
 abbrev pub fact_of : Deed → Option Fact

@@ -1,6 +1,6 @@
 -- What is told of a number, and when a call is refused.
 use Rattle.std.specs.Prelude.{◌≡◌, ◌<◌, Option, Some, None, IsSome, ⊤}
-use Rattle.gq_shelf.specs.Notes.{Noted, after_damage}
+use Rattle.gq_shelf.specs.Notes.{Noted, after_damage, after_refusal}
 use Rattle.gq_shelf.specs.Places.{extent_in}
 use Rattle.gq_shelf.specs.declared.extent.Extent.{Extent}
 use Rattle.gq_shelf.specs.declared.fault.ShelfFault.{ShelfFault}
@@ -26,9 +26,14 @@ abbrev pub FindsDamage : Option Chunk → Noted → Noted → Type 0
 FindsDamage None old new = ⊥
 FindsDamage (Some chunk) old new = FindsDamageAt (extent_in chunk.place) old new
 
+-- the shelf had no space for a content, and nothing else was noted
+abbrev pub LacksSpace : Noted → Noted → Type 0
+LacksSpace old new = new ≡ after_refusal old
+
 -- memory was wanting, or the shelf refused a call
 abbrev pub IsRefused : ShelfFault → Noted → Noted → Type 0
 IsRefused (Faults.Memory refused) old new = ⊤
 IsRefused Faults.Read old new = old.refused < new.refused
 IsRefused Faults.Write old new = old.refused < new.refused
+IsRefused Faults.Full old new = old.refused < new.refused
 IsRefused (Faults.Damaged segment) old new = old.refused < new.refused

@@ -4,7 +4,7 @@ use Rattle.gq_ledger.specs.Steps.{Book, Keeps, Leads}
 use Rattle.gq_stock.specs.Charge.{charge_of}
 use Rattle.gq_stock.specs.Held.{Held, content_of}
 use Rattle.gq_stock.specs.declared.keeping.Keeping.{Keeping}
-use Rattle.gq_stock.specs.declared.keeping.Keeping.TheVariants.{New, Same, Differs, Damaged, Below, Full}
+use Rattle.gq_stock.specs.declared.keeping.Keeping.TheVariants.{New, Same, Differs, Damaged, Below, Full, NoSpace}
 
 -- what is told of a content, where a chunk is there
 abbrev pub ComparesAs : Option Held → List ℕ → Keeping → Type 0
@@ -18,6 +18,7 @@ abbrev pub ToldAs : Option Held → (number floor : ℕ) → List ℕ → (free 
 ToldAs has n floor bytes free New = (has ≡ None) × (floor < n) × (charge_of (length bytes) ≤ free)
 ToldAs has n floor bytes free Below = (has ≡ None) × (n ≤ floor)
 ToldAs has n floor bytes free Full = (has ≡ None) × (floor < n) × (free < charge_of (length bytes))
+ToldAs has n floor bytes free NoSpace = (has ≡ None) × (floor < n) × (charge_of (length bytes) ≤ free)
 ToldAs has n floor bytes free Same = ComparesAs has bytes Same
 ToldAs has n floor bytes free Differs = ComparesAs has bytes Differs
 ToldAs has n floor bytes free Damaged = ComparesAs has bytes Damaged

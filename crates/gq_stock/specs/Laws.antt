@@ -1,5 +1,5 @@
 -- What holds of any deeds.
-use Rattle.std.specs.Prelude.{◌≡◌, ◌≤◌, ◌<◌, ℕ, Bool, true, List, length, Some, None}
+use Rattle.std.specs.Prelude.{◌≡◌, ◌≢◌, ◌≤◌, ◌<◌, ℕ, Bool, true, List, length, Some, None}
 use Rattle.gq_ledger.specs.Steps.{Book}
 use Rattle.gq_stock.specs.Charge.{charge_of}
 use Rattle.gq_stock.specs.Held.{Held}
@@ -7,7 +7,7 @@ use Rattle.gq_stock.specs.Deeds.{Deed, IsKept, IsFound, Does, Ran, is_kept, give
 use Rattle.gq_stock.specs.declared.finding.Found.{Found}
 use Rattle.gq_stock.specs.declared.finding.Found.TheVariants.{Nothing, Damaged, There}
 use Rattle.gq_stock.specs.declared.keeping.Keeping.{Keeping}
-use Rattle.gq_stock.specs.declared.keeping.Keeping.TheVariants.{New, Below, Full}
+use Rattle.gq_stock.specs.declared.keeping.Keeping.TheVariants.{New, Below, Full, NoSpace}
 
 -- what is found are these bytes, or they can't be read
 abbrev pub IsThese : List ℕ → Found → Type 0
@@ -39,7 +39,7 @@ abbrev pub BelowTheFloor : Type 0
 BelowTheFloor = (old now after : Book Held) (deeds : List Deed) (n : ℕ) (bytes : List ℕ) (is_sure : Bool) (free : ℕ) (told : Keeping) →
     old.at n ≡ None → n ≤ old.floor → Ran old deeds now → all_are (gives_none n) deeds → Does now (IsKept n bytes is_sure free told) after → told ≡ Below
 
--- where nothing but room may be wanting, it is wanting exactly where the content is charged more bytes than are free
+-- where nothing but room may be wanting, it is wanting exactly where the content is charged more bytes than are free; else the content is new, or the disk has no space
 abbrev pub RoomIsExact : Type 0
 RoomIsExact = (old new : Book Held) (n : ℕ) (bytes : List ℕ) (is_sure : Bool) (free : ℕ) (told : Keeping) →
-    old.at n ≡ None → old.floor < n → Does old (IsKept n bytes is_sure free told) new → (charge_of (length bytes) ≤ free → told ≡ New) × (free < charge_of (length bytes) → told ≡ Full)
+    old.at n ≡ None → old.floor < n → Does old (IsKept n bytes is_sure free told) new → (charge_of (length bytes) ≤ free → told ≢ NoSpace → told ≡ New) × (free < charge_of (length bytes) → told ≡ Full)

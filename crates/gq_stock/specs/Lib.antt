@@ -7,6 +7,7 @@ pub mod Keeping
 pub mod Forgetting
 pub mod Moving
 pub mod Sure
+pub mod Segments
 pub mod Deeds
 pub mod Laws
 pub mod Acts

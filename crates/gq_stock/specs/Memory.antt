@@ -1,5 +1,5 @@
 -- How many bytes of contents are in memory.
-use Rattle.std.specs.Prelude.{ℕ, Bool, nat_le, ◌&&◌, List, length, if◌then◌else◌}
+use Rattle.std.specs.Prelude.{ℕ, Bool, nat_le, ◌&&◌, length, if◌then◌else◌}
 use Rattle.gq_shelf.specs.declared.place.Place.{Place}
 use Rattle.gq_shelf.specs.declared.place.Place.TheVariants.{Fresh, Shelved}
 use Rattle.gq_stock.specs.declared.limits.TheConstants.{MOST_FRESH}

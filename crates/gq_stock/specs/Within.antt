@@ -1,5 +1,5 @@
 -- No more of a content is in memory than it is charged.
-use Rattle.std.proofs.Common.{ℕ, ◌≤◌, length, arith}
+use Rattle.std.proofs.Common.{◌≤◌, arith}
 use Rattle.gq_shelf.specs.Places.{long_at}
 use Rattle.gq_shelf.specs.declared.place.Place.{Place}
 use Rattle.gq_shelf.specs.declared.place.Place.TheVariants.{Fresh, Shelved}

@@ -5,7 +5,8 @@ ghost use Rattle.gq_shelf.specs.Notes.{IsClean, GoesOn};
 ghost use Rattle.gq_shelf.specs.Places.{content_at, long_at};
 ghost use Rattle.gq_shelf.specs.declared.extent.Extent.{Extent};
 ghost use Rattle.gq_stock.specs.Charge.{charge_of};
-ghost use Rattle.gq_stock.specs.Finding.{IsRefused};
+ghost use Rattle.gq_shelf.specs.declared.fault.ShelfFault.TheVariants.{Full as FaultFull};
+ghost use Rattle.gq_stock.specs.Finding.{IsRefused, LacksSpace};
 ghost use Rattle.gq_stock.specs.Memory.{fresh_at, fresh_of, fresh_taken, stays_fresh};
 ghost use Rattle.gq_stock.specs.Sure.{PlaceIsSure};
 
@@ -29,6 +30,8 @@ pub enum Keeping {
     Below,
     /// None is there, the number is above the floor, and the content is charged more bytes than are free.
     Full,
+    /// None is there, the number is above the floor, and the content is charged no more than is free. But it is to lie on the shelf, which has no space.
+    NoSpace,
 }
 
 // What a content of so many bytes is charged.
@@ -39,7 +42,7 @@ fn charge_of(long: usize) -> u64
     long as u64 + CHUNK_CHARGE
 }
 
-// Puts the bytes on the shelf, which makes sure of them.
+// Puts the bytes on the shelf, which makes sure of them. Where it has no space for them nothing else is noted.
 fn put_surely<S: Shelf>(shelf: &mut S, bytes: &[u8]) -> Result<Place, ShelfFault>
     requires { length bytes.now < 2 ^ 32 }
     ensures bytes { (written : Extent → List ℕ) → IfOk result (λ place. IsClean written (S.noted shelf.new) → content_at written place ≡ bytes.now) }
@@ -48,6 +51,7 @@ fn put_surely<S: Shelf>(shelf: &mut S, bytes: &[u8]) -> Result<Place, ShelfFault
     ensures sure { IfOk result (λ place. PlaceIsSure place (S.noted shelf.new)) }
     ensures shelved { IfOk result (λ place. fresh_at place ≡ 0) }
     ensures refused { IfErr result (λ fault. IsRefused fault (S.noted shelf.old) (S.noted shelf.new)) }
+    ensures space { IfErr result (λ fault. fault ≡ FaultFull → LacksSpace (S.noted shelf.old) (S.noted shelf.new)) }
 {
     let place = Place::put(shelf, bytes)?;
     shelf.sync()?;
@@ -70,6 +74,7 @@ pub(crate) fn placed<S: Shelf>(shelf: &mut S, bytes: Bytes, left: u64) -> Result
     ensures sure { IfOk result (λ place. PlaceIsSure place (S.noted shelf.new)) }
     ensures fresh { IfOk result (λ place. fresh_at place ≡ fresh_of (length bytes) left) }
     ensures refused { IfErr result (λ fault. IsRefused fault (S.noted shelf.old) (S.noted shelf.new)) }
+    ensures space { IfErr result (λ fault. fault ≡ FaultFull → LacksSpace (S.noted shelf.old) (S.noted shelf.new)) }
 {
     if stays_fresh(bytes.len(), left) {
         return Ok(Place::Fresh(bytes));
@@ -97,6 +102,7 @@ impl Session {
         ensures damaged { IfOk result (λ told. told ≡ Keeping.Damaged → FindsDamage ((book_of self.now.chunks).at number) (S.noted shelf.old) (S.noted shelf.new)) }
         ensures none { IfOk result (λ told. taken_of (length bytes.now) told ≡ 0) }
         ensures not_new { IfOk result (λ told. told ≢ Keeping.New) }
+        ensures space { IfOk result (λ told. told ≢ Keeping.NoSpace) }
         ensures none_fresh { (left : ℕ) → IfOk result (λ told. fresh_taken (length bytes.now) left told ≡ 0) }
         ensures refused { IfErr result (λ fault. IsRefused fault (S.noted shelf.old) (S.noted shelf.new)) }
         ensures goes_on { GoesOn (S.noted shelf.old) (S.noted shelf.new) }
@@ -134,6 +140,7 @@ impl Session {
         ensures used { OnOk result (all_bytes self.new.chunks ≡ all_bytes self.old.chunks + charge_of (length bytes)) }
         ensures fresh { OnOk result (all_fresh self.new.chunks ≡ all_fresh self.old.chunks + fresh_of (length bytes) left) }
         ensures refused { IfErr result (λ fault. IsRefused fault (S.noted shelf.old) (S.noted shelf.new)) }
+        ensures space { IfErr result (λ fault. fault ≡ FaultFull → LacksSpace (S.noted shelf.old) (S.noted shelf.new)) }
         ensures unchanged { OnErr result (book_of self.new.chunks ≡ book_of self.old.chunks) }
         ensures as_used { OnErr result (all_bytes self.new.chunks ≡ all_bytes self.old.chunks) }
         ensures as_fresh { OnErr result (all_fresh self.new.chunks ≡ all_fresh self.old.chunks) }
@@ -145,8 +152,8 @@ impl Session {
     }
 
     /// Keeps the content under the number: what is told says what was there, and only a new one changes anything, under this number alone. So it may be asked any number of times.
-    /// A new one stays in memory if it is short, and no more bytes than `left` come there by it. Else it lies on the shelf, which made sure of it. `Damaged` comes only where this read of the shelf found it so. It is refused where memory is wanting, or the shelf refuses a read or a put. Nothing
-    /// changes then.
+    /// A new one stays in memory if it is short, and no more bytes than `left` come there by it. Else it lies on the shelf, which made sure of it. `Damaged` comes only where this read of the shelf found it so, `NoSpace` only where the shelf had none for this content. It is refused where memory is
+    /// wanting, or the shelf refuses a read or a put for another cause. Nothing changes then.
     pub fn keep<S: Shelf>(
         &mut self,
         shelf: &mut S,
@@ -167,6 +174,7 @@ impl Session {
         ensures sure { IfOk result (λ told. told ≡ Keeping.New → IsSureOf ((book_of self.new.chunks).at number) (S.noted shelf.new)) }
         ensures long { IfOk result (λ told. told ≡ Keeping.New → IsLongOf ((book_of self.new.chunks).at number) (length bytes)) }
         ensures within { IfOk result (λ told. taken_of (length bytes) told ≤ free) }
+        ensures space { IfOk result (λ told. told ≡ Keeping.NoSpace → LacksSpace (S.noted shelf.old) (S.noted shelf.new)) }
         ensures refused { IfErr result (λ fault. IsRefused fault (S.noted shelf.old) (S.noted shelf.new)) }
         ensures unchanged { OnErr result (book_of self.new.chunks ≡ book_of self.old.chunks) }
         ensures as_used { OnErr result (all_bytes self.new.chunks ≡ all_bytes self.old.chunks) }
@@ -177,10 +185,11 @@ impl Session {
             Verdict::There => self.compare(shelf, number, bytes.as_slice()),
             Verdict::Below => Ok(Keeping::Below),
             Verdict::Full => Ok(Keeping::Full),
-            Verdict::Kept => {
-                self.take(shelf, number, bytes, is_sure, free, left)?;
-                Ok(Keeping::New)
-            }
+            Verdict::Kept => match self.take(shelf, number, bytes, is_sure, free, left) {
+                Ok(()) => Ok(Keeping::New),
+                Err(ShelfFault::Full) => Ok(Keeping::NoSpace),
+                Err(fault) => Err(fault),
+            },
         }
     }
 }

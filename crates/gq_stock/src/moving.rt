@@ -5,7 +5,8 @@ ghost use Rattle.gq_shelf.specs.Notes.{IsClean, GoesOn};
 ghost use Rattle.gq_shelf.specs.Places.{content_at, long_at, extent_in};
 ghost use Rattle.gq_shelf.specs.declared.extent.Extent.{Extent};
 ghost use Rattle.gq_stock.specs.Charge.{charge_of};
-ghost use Rattle.gq_stock.specs.Finding.{FindsDamageAt, IsRefused};
+ghost use Rattle.gq_shelf.specs.declared.fault.ShelfFault.TheVariants.{Full};
+ghost use Rattle.gq_stock.specs.Finding.{FindsDamageAt, IsRefused, LacksSpace};
 ghost use Rattle.gq_stock.specs.Memory.{fresh_at, fresh_of};
 ghost use Rattle.gq_stock.specs.Moving.{LiesBehind};
 
@@ -65,7 +66,7 @@ impl Session {
 
     /// Puts the chunk that a peer gives under the number, in place of what is there. False: it would be more bytes in all than 64 bits tell, and nothing changes.
     /// It stays in memory if it is short, and has no more bytes than `left`. Else it lies on the shelf, which made sure of it. It is refused where memory is wanting, or
-    /// the shelf refuses a put. Nothing changes then.
+    /// the shelf refuses a put, as where it has no space (`Full`). Nothing changes then.
     pub fn give<S: Shelf>(
         &mut self,
         shelf: &mut S,
@@ -84,6 +85,7 @@ impl Session {
         ensures same { IfOk result (λ is_given. is_given ≡ false → book_of self.new.chunks ≡ book_of self.old.chunks) }
         ensures much { IfOk result (λ is_given. is_given ≡ false → 2 ^ 64 ≤ all_bytes self.old.chunks + charge_of (length bytes)) }
         ensures refused { IfErr result (λ fault. IsRefused fault (S.noted shelf.old) (S.noted shelf.new)) }
+        ensures space { IfErr result (λ fault. fault ≡ Full → LacksSpace (S.noted shelf.old) (S.noted shelf.new)) }
         ensures unchanged { OnErr result (book_of self.new.chunks ≡ book_of self.old.chunks) }
         ensures goes_on { GoesOn (S.noted shelf.old) (S.noted shelf.new) }
     {

@@ -1,16 +1,28 @@
 //! The chunks of one session at a server.
 
-ghost use Rattle.std.specs.Prelude.{◌≡◌, ◌<◌, ◌≤◌, ℕ, None, Some, IfNone, IfSome, IsSome, length};
+ghost use Rattle.std.specs.Prelude.{◌≡◌, ◌<◌, ◌≤◌, ℕ, None, Some, true, false, IfNone, IfSome, IsSome, length};
 ghost use Rattle.std.specs.Option.{option_copied};
+ghost use Rattle.gq_stock.specs.Segments.{lies_in, has_in, NoneIn, SomeIn};
 
 use crate::Chunk;
 use gq_ledger::Ledger;
+use gq_shelf::Place;
 use std::alloc::Global;
 
 /// The chunks of one session at a server. Contracts see them as a book of what is held (`gq_ledger`).
 #[derive(Drop)]
 pub struct Session {
     pub(crate) chunks: Ledger<Chunk>,
+}
+
+// Whether the content lies in this segment of the shelf.
+fn lies_in(place: &Place, segment: u32) -> bool
+    ensures { result ≡ lies_in segment place.now }
+{
+    match place {
+        Place::Fresh(_) => false,
+        Place::Shelved(extent) => extent.segment == segment,
+    }
 }
 
 impl Session {
@@ -71,5 +83,33 @@ impl Session {
         ensures none { IfNone result ((m : ℕ) → number < m → (book_of self.now.chunks).at m ≡ None) }
     {
         self.chunks.after(number)
+    }
+
+    // Whether the chunk of this number lies in this segment.
+    fn has_in(&self, number: u64, segment: u32) -> bool
+        ensures { result ≡ has_in segment ((book_of self.now.chunks).at number) }
+    {
+        match self.chunks.get(number) {
+            Some(chunk) => lies_in(&chunk.place, segment),
+            None => false,
+        }
+    }
+
+    /// Whether a chunk lies in this segment of the shelf. It looks at each of them.
+    pub fn lies_in(&self, segment: u32) -> bool
+        ensures some { result ≡ true → SomeIn segment (book_of self.now.chunks) }
+        ensures none { result ≡ false → NoneIn segment (book_of self.now.chunks) }
+    {
+        if self.has_in(0, segment) {
+            return true;
+        }
+        let mut last = 0;
+        while let Some((number, chunk)) = self.after(last) {
+            if lies_in(&chunk.place, segment) {
+                return true;
+            }
+            last = number;
+        }
+        false
     }
 }

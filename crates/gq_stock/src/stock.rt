@@ -3,6 +3,7 @@
 ghost use Rattle.std.specs.Prelude.{◌≡◌, ◌≢◌, All, true, false, List, ◌+◌, ◌-◌, ◌<◌, ◌≤◌, ◌^◌, ℕ, Some, length, max, min, IfOk, IfErr, OnErr, slice_get};
 ghost use Rattle.gq_shelf.specs.Notes.{IsClean, GoesOn};
 ghost use Rattle.gq_shelf.specs.declared.extent.Extent.{Extent};
+ghost use Rattle.gq_shelf.specs.declared.fault.ShelfFault.TheVariants.{Full as FaultFull};
 
 use crate::{Keeping, MOST_FRESH_BYTES, Session};
 use bytes::Bytes;
@@ -21,7 +22,7 @@ pub struct Stock {
 
 impl Stock {
     ghost use Rattle.gq_stock.specs.Charge.{charge_of};
-    ghost use Rattle.gq_stock.specs.Finding.{IsRefused};
+    ghost use Rattle.gq_stock.specs.Finding.{IsRefused, LacksSpace};
     ghost use Rattle.gq_stock.specs.Keeping.{taken_of};
     ghost use Rattle.gq_stock.specs.Memory.{fresh_taken};
     ghost use Rattle.gq_stock.specs.Stocks.{used_in, fresh_in, KeptIn, GivenIn, ChangesIn, DamagedIn, SureIn, LongIn, StaysIn, IsEmpty};
@@ -82,7 +83,8 @@ impl Stock {
 
     /// Keeps the content under the number of the session at this place, which is charged its bytes and `CHUNK_CHARGE`. No other session changes, and what is used does not come above what is allowed, or stays.
     /// Nor does what is in memory come above `MOST_FRESH_BYTES`: a content that would bring more there, or is longer than `MOST_FRESH`, lies on the shelf.
-    /// `Damaged` comes only where this read of the shelf found it so. It is refused where memory is wanting, or the shelf refuses a read or a put. Nothing changes then.
+    /// `Damaged` comes only where this read of the shelf found it so, `NoSpace` only where the shelf had none for this content. It is refused where memory is wanting, or the shelf refuses a read or a
+    /// put for another cause. Nothing changes then.
     pub fn keep<S: Shelf>(
         &mut self,
         shelf: &mut S,
@@ -107,6 +109,7 @@ impl Stock {
         ensures refused { IfErr result (λ fault. IsRefused fault (S.noted shelf.old) (S.noted shelf.new)) }
         ensures unchanged { OnErr result (StaysIn self.old.sessions.items place self.new.sessions.items) }
         ensures as_used { OnErr result (used_in self.new.sessions.items ≡ used_in self.old.sessions.items) }
+        ensures space { IfOk result (λ told. told ≡ Keeping.NoSpace → LacksSpace (S.noted shelf.old) (S.noted shelf.new)) }
         ensures room { IfOk result (λ told. used_in self.new.sessions.items ≤ max (used_in self.old.sessions.items) self.old.allowed) }
         ensures allowed { self.new.allowed ≡ self.old.allowed }
         ensures goes_on { GoesOn (S.noted shelf.old) (S.noted shelf.new) }
@@ -121,7 +124,7 @@ impl Stock {
 
     /// Puts the content that a peer gives under the number of the session at this place, in place of what is there. No other session changes, and what is in
     /// memory does not come above `MOST_FRESH_BYTES`, or above what it was. If it lies on the shelf it was made sure of there. False: it would be more bytes in all than 64 bits tell, and nothing changes. It is refused where memory is wanting, or the shelf refuses
-    /// a put. Nothing changes then.
+    /// a put, as where it has no space (`Full`). Nothing changes then.
     pub fn give<S: Shelf>(
         &mut self,
         shelf: &mut S,
@@ -141,6 +144,7 @@ impl Stock {
         ensures sure { IfOk result (λ is_given. is_given ≡ true → SureIn self.new.sessions.items place number (S.noted shelf.new)) }
         ensures long { IfOk result (λ is_given. is_given ≡ true → LongIn self.new.sessions.items place number (length bytes)) }
         ensures refused { IfErr result (λ fault. IsRefused fault (S.noted shelf.old) (S.noted shelf.new)) }
+        ensures space { IfErr result (λ fault. fault ≡ FaultFull → LacksSpace (S.noted shelf.old) (S.noted shelf.new)) }
         ensures unchanged { OnErr result (StaysIn self.old.sessions.items place self.new.sessions.items) }
         ensures allowed { self.new.allowed ≡ self.old.allowed }
         ensures goes_on { GoesOn (S.noted shelf.old) (S.noted shelf.new) }

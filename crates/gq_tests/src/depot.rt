@@ -1,9 +1,9 @@
 //! The chunks of two tenants over a shelf in memory: each call where memory and the shelf refuse nothing, and a start from the facts.
 
 use bytes::Bytes;
-use gq_depot::{Answered, ChunkAnswer, ChunkFact, ChunkRequest, Depot, Depots};
+use gq_depot::{Answered, ChunkAnswer, ChunkFact, ChunkRequest, Depot, Depots, Sweep};
 use gq_memory::{GrowBytes, GrowVec, filled};
-use gq_shelf::{MemoryShelf, Place};
+use gq_shelf::{Extent, MemoryShelf, Place};
 use gq_stock::{CHUNK_CHARGE, Found, Keeping, MOST_FRESH, Run};
 use std::alloc::Global;
 use std::process::Abort;
@@ -216,6 +216,41 @@ fn numbers_and_room_are_told(rt: HostRuntime) -> Result<(), Fail> {
             } if used == ROOM - 4
         )
     );
+    Ok(())
+}
+
+// A chunk lies in its segment until it is forgotten.
+#[test]
+fn segments_of_chunks_are_known(rt: HostRuntime) -> Result<(), Fail> {
+    let alloc = rt.alloc();
+    let mut depots = two_depots(alloc)?;
+    let extent = Extent {
+        segment: 3,
+        at: 0,
+        len: 5,
+        sum: 0,
+    };
+    let put = ChunkFact::Put {
+        session: 1,
+        number: 7,
+        is_sure: true,
+        place: Place::Shelved(extent),
+    };
+    assert!(&rt; is_recalled(&rt, alloc, &mut depots, put));
+    assert!(&rt; depots.lies_in(3) && !depots.lies_in(2));
+    assert!(&rt; matches!(depots.remove(3), Ok(false)));
+    assert!(&rt; matches!(depots.remove(2), Ok(false)));
+    let mut sweep = Sweep::new(alloc);
+    for _ in 0..9 {
+        assert!(&rt; matches!(depots.sweep(&mut sweep), Ok(None)));
+    }
+    let forgot = ChunkFact::Forgot {
+        session: 1,
+        floor: 7,
+        run: Run { first: 7, last: 7 },
+    };
+    assert!(&rt; is_recalled(&rt, alloc, &mut depots, forgot));
+    assert!(&rt; !depots.lies_in(3));
     Ok(())
 }
 

@@ -79,6 +79,10 @@ fn goes_on<S: Shelf>(rt: &impl Abort, shelf: &mut S, first: &Extent) {
     removes(rt, shelf, 1, false);
     let third = put(rt, shelf, "third");
     assert!(rt; third.segment == 2 && third.at == 0);
+    match shelf.segments() {
+        Ok(found) => assert!(rt; found.as_slice() == [1u32].as_slice()),
+        Err(_) => panic!(rt; "not listed"),
+    }
     removes(rt, shelf, 1, true);
     removes(rt, shelf, 1, false);
     removes(rt, shelf, 2, false);

@@ -28,6 +28,7 @@ fn put_fault(out: &mut Vec<u8>, fault: ShelfFault) -> Result<(), OutOfMemory> {
         ShelfFault::Memory(_) => out.grow_by(b"fault memory"),
         ShelfFault::Read => out.grow_by(b"fault read"),
         ShelfFault::Write => out.grow_by(b"fault write"),
+        ShelfFault::Full => out.grow_by(b"fault full"),
         ShelfFault::Damaged(segment) => {
             out.grow_by(b"damaged")?;
             put_number(out, u64::from(segment))

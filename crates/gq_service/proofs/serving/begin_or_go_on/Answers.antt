@@ -1,5 +1,4 @@
 -- A journal that goes on is the node's own, and begins with a plan.
-use Rattle.std.proofs.Common.{◌≡◌, ℕ, List, true, refl, sym, subst}
 use Rattle.gq_service.specs.Kinds.{kind}
 use Rattle.gq_keeper.proofs.Instants.{elapses_only}
 use Rattle.gq_service.proofs.Crashes.{begun_is_started, found_is_started, left_beginning, left_going_on}

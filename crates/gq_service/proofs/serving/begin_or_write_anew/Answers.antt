@@ -1,7 +1,7 @@
 -- What is left while a journal is begun, or read, and then written anew.
 use Rattle.std.proofs.Common.{◌≡◌}
 use Rattle.gq_service.specs.Kinds.{kind}
-use Rattle.gq_service.specs.Serving.{TellsDamage, TellsAnother, TellsNoOther, LeavesJournal}
+use Rattle.gq_service.specs.Serving.{TellsDamage, TellsNoOther, LeavesJournal}
 use Rattle.gq_service.proofs.Crashes.{elapses_anew}
 use Rattle.gq_service.proofs.NewNodes.{err_only, leaves_any, tells_no_other}
 use Rattle.gq_service.proofs.serving.begin_or_write_anew.Goals as goal

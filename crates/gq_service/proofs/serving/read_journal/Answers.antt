@@ -1,5 +1,5 @@
 -- A start that leaves out those who went, or one that leaves nothing out.
-use Rattle.std.proofs.Common.{◌≡◌, ◌∙◌, ℕ, List, Bool, true, false, sym, ap, subst}
+use Rattle.std.proofs.Common.{◌≡◌, ◌∙◌, ℕ, List, true, false, sym, subst}
 use Rattle.std.specs.List.{list_all}
 use Rattle.gq_keeper.specs.LeavingOut.{facts_but}
 use Rattle.gq_keeper.specs.Starting.{RecallsAll}

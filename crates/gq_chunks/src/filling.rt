@@ -1,0 +1,354 @@
+//! A node that lacks chunks is given them by its peers, and gives its own to one that does.
+
+ghost use Rattle.std.specs.Prelude.{◌≡◌, ◌<◌, [], true, length, IfOk, IfSome, IfErr, OnOk};
+ghost use Rattle.gq_text.specs.Canonical.{IsPlan};
+ghost use Rattle.gq_keeper.specs.Runs.{Takes};
+ghost use Rattle.gq_depot.specs.Seeking.{Sought, sought_of, AreAsks};
+ghost use Rattle.gq_chunks.specs.PeerLines.{saying_of};
+ghost use Rattle.gq_chunks.specs.Machines.{chunks, may_answer, IsShelfRefusal, AnswersPeer, AddsAsks, AddsFacts, FillsDone, Fed, Waits, SaidBy, Ticks};
+ghost use Rattle.gq_chunks.specs.Search.{IsGiven};
+
+use crate::machine::fault_of;
+use crate::peers::peer_in_row;
+use crate::saying::{put_ask_lines, put_peer_answer};
+use crate::search::{Column, Turn};
+use crate::{ChunkFact, ChunkMachine, ChunkRequest, PeerLine};
+use bytes::Bytes;
+use gq_depot::{Ask, Filling, ListedChunk};
+use gq_grid::MOST_SERVERS;
+use gq_keeper::Fault;
+use gq_memory::OutOfMemory;
+use gq_shelf::Shelf;
+
+impl<S: Shelf + Drop> ChunkMachine<S> {
+    // Does this for the tenant.
+    fn filled(&mut self, tenant: u8, filling: Filling) -> Result<Option<ChunkFact>, Fault>
+        requires { tenant < length self.old.depots.depots.items }
+        ensures done { IfOk result (λ fact. FillsDone (chunks self.old.plan self.old.node self.old.lost self.old.depots.losses self.old.depots.depots.items (S.noted self.old.depots.shelf)) tenant filling fact (chunks self.new.plan self.new.node self.new.lost self.new.depots.losses self.new.depots.depots.items (S.noted self.new.depots.shelf))) }
+        ensures refused { IfErr result (λ fault. IsShelfRefusal fault (S.noted self.old.depots.shelf) (S.noted self.new.depots.shelf)) }
+    {
+        match self.depots.fill(self.alloc, tenant as usize, filling) {
+            Ok(fact) => Ok(fact),
+            Err(fault) => Err(fault_of(fault)),
+        }
+    }
+
+    // Does this for the tenant, and appends the line of its fact.
+    fn fill(&mut self, tenant: u8, filling: Filling, facts: &mut Vec<u8>) -> Result<(), Fault>
+        requires tenant { tenant < length self.old.plan.rows }
+        requires there { tenant < length self.old.depots.depots.items }
+        requires sound { IsPlan self.old.plan }
+        ensures done { OnOk result (AddsFacts (chunks self.old.plan self.old.node self.old.lost self.old.depots.losses self.old.depots.depots.items (S.noted self.old.depots.shelf)) tenant filling facts.old.items facts.new.items (chunks self.new.plan self.new.node self.new.lost self.new.depots.losses self.new.depots.depots.items (S.noted self.new.depots.shelf))) }
+        ensures refused { IfErr result (λ fault. IsShelfRefusal fault (S.noted self.old.depots.shelf) (S.noted self.new.depots.shelf)) }
+    {
+        let fact = self.filled(tenant, filling)?;
+        self.put_fact(tenant, &fact, facts)?;
+        Ok(())
+    }
+
+    // Asks this of the peer whose turn it is, about the tenant.
+    fn put_asks(&self, tenant: u8, asks: &[Ask], told: &mut Vec<u8>) -> Result<(), OutOfMemory>
+        requires { tenant < length self.now.plan.rows }
+        ensures { (sought : Sought) → AreAsks sought asks.now → OnOk result (AddsAsks (chunks self.now.plan self.now.node self.now.lost self.now.depots.losses self.now.depots.depots.items (S.noted self.now.depots.shelf)) tenant told.old.items told.new.items) }
+    {
+        let Some(to) = peer_in_row(&self.plan, self.node, &self.lost, self.search.row) else {
+            return Ok(());
+        };
+        put_ask_lines(
+            told,
+            &self.plan,
+            self.node,
+            to,
+            tenant,
+            self.depots.losses,
+            asks,
+        )
+    }
+
+    // Whether a node is answered about the tenant, whose plan tells so many losses of the column.
+    fn may_answer(&self, tenant: u8, losses: u64) -> bool
+        requires { tenant < length self.now.depots.depots.items }
+        ensures { result ≡ may_answer (chunks self.now.plan self.now.node self.now.lost self.now.depots.losses self.now.depots.depots.items (S.noted self.now.depots.shelf)) tenant losses }
+    {
+        !self.depots.depots[tenant as usize].lacks && losses <= self.depots.losses
+    }
+
+    // A peer asks about the tenant what the tenant might ask, and is told what the tenant would be.
+    fn tell_peer(
+        &mut self,
+        tenant: u8,
+        from: u16,
+        request: ChunkRequest,
+        facts: &mut Vec<u8>,
+        told: &mut Vec<u8>,
+    ) -> Result<(), Fault>
+        requires tenant { tenant < length self.old.plan.rows }
+        requires there { tenant < length self.old.depots.depots.items }
+        requires sound { IsPlan self.old.plan }
+        ensures took { OnOk result (Takes (λ old line facts told new. AnswersPeer true old tenant from request facts told new) (chunks self.old.plan self.old.node self.old.lost self.old.depots.losses self.old.depots.depots.items (S.noted self.old.depots.shelf)) [] facts.old.items facts.new.items told.old.items told.new.items (chunks self.new.plan self.new.node self.new.lost self.new.depots.losses self.new.depots.depots.items (S.noted self.new.depots.shelf))) }
+        ensures refused { IfErr result (λ fault. IsShelfRefusal fault (S.noted self.old.depots.shelf) (S.noted self.new.depots.shelf)) }
+    {
+        let answered = self.answer(tenant, request)?;
+        self.put_fact(tenant, &answered.fact, facts)?;
+        put_peer_answer(told, &self.plan, self.node, from, tenant, answered.answer)?;
+        Ok(())
+    }
+
+    // The same, where a peer may be told so.
+    fn answer_peer(
+        &mut self,
+        tenant: u8,
+        from: u16,
+        losses: u64,
+        request: ChunkRequest,
+        facts: &mut Vec<u8>,
+        told: &mut Vec<u8>,
+    ) -> Result<(), Fault>
+        requires tenant { tenant < length self.old.plan.rows }
+        requires there { tenant < length self.old.depots.depots.items }
+        requires sound { IsPlan self.old.plan }
+        ensures took { OnOk result (Takes (λ old line facts told new. AnswersPeer (may_answer old tenant losses) old tenant from request facts told new) (chunks self.old.plan self.old.node self.old.lost self.old.depots.losses self.old.depots.depots.items (S.noted self.old.depots.shelf)) [] facts.old.items facts.new.items told.old.items told.new.items (chunks self.new.plan self.new.node self.new.lost self.new.depots.losses self.new.depots.depots.items (S.noted self.new.depots.shelf))) }
+        ensures refused { IfErr result (λ fault. IsShelfRefusal fault (S.noted self.old.depots.shelf) (S.noted self.new.depots.shelf)) }
+    {
+        if !self.may_answer(tenant, losses) {
+            return Ok(());
+        }
+        self.tell_peer(tenant, from, request, facts, told)
+    }
+
+    // Whether it is the tenant whose chunks are sought.
+    fn seeks_of(&self, tenant: u8) -> bool
+        requires { tenant < length self.now.depots.depots.items }
+    {
+        tenant as usize == self.search.tenant && self.depots.depots[tenant as usize].lacks
+    }
+
+    // What is asked for behind a listing of the tenant's session.
+    fn listed(
+        &mut self,
+        tenant: u8,
+        session: u32,
+        after: u64,
+        is_all: bool,
+        found: &[ListedChunk],
+        told: &mut Vec<u8>,
+    ) -> Result<(), OutOfMemory>
+        requires tenant { tenant < length self.old.plan.rows }
+        requires there { tenant < length self.old.depots.depots.items }
+        ensures same { (chunks self.new.plan self.new.node self.new.lost self.new.depots.losses self.new.depots.depots.items (S.noted self.new.depots.shelf)) ≡ (chunks self.old.plan self.old.node self.old.lost self.old.depots.losses self.old.depots.depots.items (S.noted self.old.depots.shelf)) }
+        ensures asks { OnOk result (AddsAsks (chunks self.old.plan self.old.node self.old.lost self.old.depots.losses self.old.depots.depots.items (S.noted self.old.depots.shelf)) tenant told.old.items told.new.items) }
+    {
+        if !self.seeks_of(tenant) {
+            return Ok(());
+        }
+        let depot = &self.depots.depots[tenant as usize];
+        let asks = self
+            .search
+            .hear_listing(self.alloc, depot, session, after, is_all, found)?;
+        self.put_asks(tenant, asks.as_slice(), told)
+    }
+
+    // What is asked for once the content of the tenant's session and number came, or won't come.
+    fn settled(
+        &mut self,
+        tenant: u8,
+        session: u32,
+        number: u64,
+        is_spoilt: bool,
+        told: &mut Vec<u8>,
+    ) -> Result<(), OutOfMemory>
+        requires tenant { tenant < length self.old.plan.rows }
+        requires there { tenant < length self.old.depots.depots.items }
+        ensures same { (chunks self.new.plan self.new.node self.new.lost self.new.depots.losses self.new.depots.depots.items (S.noted self.new.depots.shelf)) ≡ (chunks self.old.plan self.old.node self.old.lost self.old.depots.losses self.old.depots.depots.items (S.noted self.old.depots.shelf)) }
+        ensures asks { OnOk result (AddsAsks (chunks self.old.plan self.old.node self.old.lost self.old.depots.losses self.old.depots.depots.items (S.noted self.old.depots.shelf)) tenant told.old.items told.new.items) }
+    {
+        if !self.seeks_of(tenant) {
+            return Ok(());
+        }
+        let sessions = self.depots.depots[tenant as usize].stock.sessions.len();
+        let asks = self
+            .search
+            .settle(self.alloc, sessions, session, number, is_spoilt)?;
+        self.put_asks(tenant, asks.as_slice(), told)
+    }
+
+    // A peer tells which chunks the session has.
+    fn hear_listing(
+        &mut self,
+        tenant: u8,
+        session: u32,
+        after: u64,
+        floor: u64,
+        is_all: bool,
+        found: &[ListedChunk],
+        facts: &mut Vec<u8>,
+        told: &mut Vec<u8>,
+    ) -> Result<(), Fault>
+        requires tenant { tenant < length self.old.plan.rows }
+        requires there { tenant < length self.old.depots.depots.items }
+        requires sound { IsPlan self.old.plan }
+        ensures took { OnOk result (Takes (λ old line facts told new. Fed old tenant (Filling.Raise session floor) facts told new) (chunks self.old.plan self.old.node self.old.lost self.old.depots.losses self.old.depots.depots.items (S.noted self.old.depots.shelf)) [] facts.old.items facts.new.items told.old.items told.new.items (chunks self.new.plan self.new.node self.new.lost self.new.depots.losses self.new.depots.depots.items (S.noted self.new.depots.shelf))) }
+        ensures refused { IfErr result (λ fault. IsShelfRefusal fault (S.noted self.old.depots.shelf) (S.noted self.new.depots.shelf)) }
+    {
+        self.fill(tenant, Filling::Raise { session, floor }, facts)?;
+        self.listed(tenant, session, after, is_all, found, told)?;
+        Ok(())
+    }
+
+    // A peer gives a content.
+    fn hear_content(
+        &mut self,
+        tenant: u8,
+        session: u32,
+        number: u64,
+        bytes: Bytes,
+        facts: &mut Vec<u8>,
+        told: &mut Vec<u8>,
+    ) -> Result<(), Fault>
+        requires tenant { tenant < length self.old.plan.rows }
+        requires there { tenant < length self.old.depots.depots.items }
+        requires sound { IsPlan self.old.plan }
+        ensures took { OnOk result (Takes (λ old line facts told new. Fed old tenant (Filling.Give session number bytes) facts told new) (chunks self.old.plan self.old.node self.old.lost self.old.depots.losses self.old.depots.depots.items (S.noted self.old.depots.shelf)) [] facts.old.items facts.new.items told.old.items told.new.items (chunks self.new.plan self.new.node self.new.lost self.new.depots.losses self.new.depots.depots.items (S.noted self.new.depots.shelf))) }
+        ensures refused { IfErr result (λ fault. IsShelfRefusal fault (S.noted self.old.depots.shelf) (S.noted self.new.depots.shelf)) }
+    {
+        let given = Filling::Give {
+            session,
+            number,
+            bytes,
+        };
+        self.fill(tenant, given, facts)?;
+        self.settled(tenant, session, number, false, told)?;
+        Ok(())
+    }
+
+    // A content won't come.
+    fn hear_none(
+        &mut self,
+        tenant: u8,
+        session: u32,
+        number: u64,
+        is_spoilt: bool,
+        facts: &mut Vec<u8>,
+        told: &mut Vec<u8>,
+    ) -> Result<(), OutOfMemory>
+        requires tenant { tenant < length self.old.plan.rows }
+        requires there { tenant < length self.old.depots.depots.items }
+        ensures took { OnOk result (Takes (λ old line facts told new. Waits old tenant facts told new) (chunks self.old.plan self.old.node self.old.lost self.old.depots.losses self.old.depots.depots.items (S.noted self.old.depots.shelf)) [] facts.old.items facts.new.items told.old.items told.new.items (chunks self.new.plan self.new.node self.new.lost self.new.depots.losses self.new.depots.depots.items (S.noted self.new.depots.shelf))) }
+    {
+        let _facts = facts.len();
+        self.settled(tenant, session, number, is_spoilt, told)
+    }
+
+    /// A peer says this about the tenant.
+    pub(crate) fn hear(
+        &mut self,
+        tenant: u8,
+        from: u16,
+        line: PeerLine,
+        facts: &mut Vec<u8>,
+        told: &mut Vec<u8>,
+    ) -> Result<(), Fault>
+        requires tenant { tenant < length self.old.plan.rows }
+        requires there { tenant < length self.old.depots.depots.items }
+        requires sound { IsPlan self.old.plan }
+        ensures took { OnOk result (Takes (λ old came facts told new. SaidBy (saying_of line) old tenant from facts told new) (chunks self.old.plan self.old.node self.old.lost self.old.depots.losses self.old.depots.depots.items (S.noted self.old.depots.shelf)) [] facts.old.items facts.new.items told.old.items told.new.items (chunks self.new.plan self.new.node self.new.lost self.new.depots.losses self.new.depots.depots.items (S.noted self.new.depots.shelf))) }
+        ensures refused { IfErr result (λ fault. IsShelfRefusal fault (S.noted self.old.depots.shelf) (S.noted self.new.depots.shelf)) }
+    {
+        match line {
+            PeerLine::Seeks {
+                losses,
+                session,
+                after,
+            } => {
+                let request = ChunkRequest::List { session, after };
+                self.answer_peer(tenant, from, losses, request, facts, told)
+            }
+            PeerLine::Wants { session, number } => {
+                let request = ChunkRequest::Get {
+                    session,
+                    number,
+                    from: 0,
+                    length: u64::MAX,
+                };
+                self.answer_peer(tenant, from, 0, request, facts, told)
+            }
+            PeerLine::Found {
+                session,
+                after,
+                floor,
+                is_all,
+                chunks,
+            } => self.hear_listing(
+                tenant,
+                session,
+                after,
+                floor,
+                is_all,
+                chunks.as_slice(),
+                facts,
+                told,
+            ),
+            PeerLine::Gives {
+                session,
+                number,
+                bytes,
+            } => self.hear_content(tenant, session, number, bytes, facts, told),
+            PeerLine::Misses { session, number } => {
+                Ok(self.hear_none(tenant, session, number, false, facts, told)?)
+            }
+            PeerLine::Spoilt { session, number } => {
+                Ok(self.hear_none(tenant, session, number, true, facts, told)?)
+            }
+        }
+    }
+
+    // The rows of its column.
+    fn column(&self) -> Column {
+        let cols = self.plan.grid().cols();
+        Column {
+            rows: self.plan.grid().rows(),
+            own: self.node as usize % MOST_SERVERS / cols,
+        }
+    }
+
+    // What is done at a tick.
+    fn turn(&mut self) -> Result<Turn, OutOfMemory>
+        ensures same { (chunks self.new.plan self.new.node self.new.lost self.new.depots.losses self.new.depots.depots.items (S.noted self.new.depots.shelf)) ≡ (chunks self.old.plan self.old.node self.old.lost self.old.depots.losses self.old.depots.depots.items (S.noted self.old.depots.shelf)) }
+        ensures ends { IfOk result (λ turn. turn.ends ≡ true → IsGiven self.new.depots.depots.items self.new.search) }
+        ensures asks { IfOk result (λ turn. AreAsks (sought_of self.new.search.seeking) turn.asks.items) }
+    {
+        let column = self.column();
+        self.search
+            .tick(self.alloc, self.depots.depots.as_slice(), column)
+    }
+
+    // The place of the tenant whose chunks are sought, if there is one.
+    fn sought_tenant(&self) -> Option<u8>
+        ensures tenant { IfSome result (λ tenant. tenant < length self.now.plan.rows) }
+        ensures there { IfSome result (λ tenant. tenant < length self.now.depots.depots.items) }
+    {
+        let place = self.search.tenant;
+        if place < self.depots.depots.len() && place < self.plan.tenants() {
+            Some(place as u8)
+        } else {
+            None
+        }
+    }
+
+    /// At a tick it asks once more for what did not come, or is filled.
+    pub(crate) fn tick(&mut self, facts: &mut Vec<u8>, told: &mut Vec<u8>) -> Result<(), Fault>
+        requires { IsPlan self.old.plan }
+        ensures took { OnOk result (Takes (λ old line facts told new. Ticks old facts told new) (chunks self.old.plan self.old.node self.old.lost self.old.depots.losses self.old.depots.depots.items (S.noted self.old.depots.shelf)) [] facts.old.items facts.new.items told.old.items told.new.items (chunks self.new.plan self.new.node self.new.lost self.new.depots.losses self.new.depots.depots.items (S.noted self.new.depots.shelf))) }
+        ensures refused { IfErr result (λ fault. IsShelfRefusal fault (S.noted self.old.depots.shelf) (S.noted self.new.depots.shelf)) }
+    {
+        let Turn { ends, asks } = self.turn()?;
+        let Some(tenant) = self.sought_tenant() else {
+            return Ok(());
+        };
+        if ends {
+            return self.fill(tenant, Filling::End, facts);
+        }
+        self.put_asks(tenant, asks.as_slice(), told)?;
+        Ok(())
+    }
+}
