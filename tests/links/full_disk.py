@@ -6,7 +6,6 @@ import subprocess
 import threading
 import time
 
-from carrying import HERE
 from gridfs_client.opening import turn_of
 from gridfs_grid.carrier import journal_of
 from gridfs_grid.links import Command, Grid
@@ -17,7 +16,8 @@ FULL, ROOM = 3, 40_000  # the node, and the bytes that its journal may grow stil
 SESSIONS, OF_FULL = 6, "4"  # of the tenant, and the first one whose home it is
 FEW = 6  # files of a folder
 TIMEOUT = 12  # seconds
-WISHES = b"ann 4M 100 names 4 commands\n"
+# Contents are in slots, so their pieces stand in journals.
+PLAN = "grid 2 2\nroom 138880\ntenant ann 138880 6 1000000 16384\ngo\n" + 12 * "ann open 6 16\n" + 17 * "ann open 64 64\n" + "ann open 40 64\nann open 4 16384\n"
 SIZE = 150_000  # bytes of a content, whose pieces have no room
 
 
@@ -95,8 +95,8 @@ def waits(_, __):
 
 def told(program, carry):
     grid = FullGrid(os.getcwd(), program, carry)
-    with open(grid.plan, "wb") as out:
-        subprocess.run([os.path.join(HERE, "..", "..", "tools", "plan"), "-"], input=WISHES, stdout=out, stderr=subprocess.DEVNULL, check=True)
+    with open(grid.plan, "w", encoding="ascii") as out:
+        out.write(PLAN)
     grid.set_up()
     settings, contents, has_ended = grid.write_settings("ann"), {}, threading.Event()
 
