@@ -6,7 +6,7 @@ ghost use Rattle.std.specs.Option.{option_to_list};
 ghost use Rattle.gq_tag.specs.Tag.{own_message, file_place};
 ghost use Rattle.gq_desk.specs.CheckedPlan.{row_at};
 ghost use Rattle.gq_journal.specs.Batches.{lines_text};
-ghost use Rattle.gq_node.specs.Inputs.{Asked, AskedPlan, Brought, Ticked, Looked, Fetching, Fetched as WasFetched};
+ghost use Rattle.gq_node.specs.Inputs.{Asked, AskedPlan, AskedLook, Brought, Ticked, Looked, Fetching, Fetched as WasFetched};
 ghost use Rattle.gq_node.specs.Joining.{hears_joined};
 ghost use Rattle.gq_node.specs.Recalling.{tenant_of};
 ghost use Rattle.gq_grid.specs.declared.TheConstants.{MOST_SERVERS};
@@ -417,6 +417,25 @@ impl NodeMachine {
         }
     }
 
+    // The tenant asks what the server has of a volume.
+    fn look_at(
+        &mut self,
+        tenant: u8,
+        mark: u64,
+        volume: u32,
+        facts: &mut Vec<u8>,
+        told: &mut Vec<u8>,
+    ) -> Result<(), OutOfMemory>
+        requires { tenant < length self.old.node.tables.plan.rows }
+        ensures { OnOk result (TookOf self.old.node.tables tenant (AskedLook mark volume ∷ []) facts.old.items facts.new.items told.old.items told.new.items self.new.node.tables) }
+    {
+        self.has_memory()?;
+        match self.node.look_at(tenant, mark, volume) {
+            Ok(out) => Ok(self.put(tenant, &Line::Bad, &out, false, facts, told)?),
+            Err(ended) => Err(no_memory(ended)),
+        }
+    }
+
     // A letter comes.
     fn letter(
         &mut self,
@@ -752,6 +771,11 @@ impl NodeMachine {
         match incoming {
             Incoming::Request { tenant, op, line } => self.request(*tenant, *op, line, facts, told),
             Incoming::Plan { tenant } => self.question(*tenant, facts, told),
+            Incoming::Look {
+                tenant,
+                mark,
+                volume,
+            } => self.look_at(*tenant, *mark, *volume, facts, told),
             Incoming::Bad { tenant } => self.request(*tenant, 0, &Line::Bad, facts, told),
             Incoming::Letter { from, message } => self.letter(*from, message, facts, told),
             Incoming::ShortLetter { from, short } => self.short(*from, short, facts, told),

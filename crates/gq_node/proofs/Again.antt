@@ -16,7 +16,7 @@ use Rattle.gq_replace.specs.Plans.{place_of}
 use Rattle.gq_node.specs.declared.output.Answer.{Answer}
 use Rattle.gq_node.specs.Again.{TellsEnd, is_start, begun_at, NoneBegins, forgotten, end_after, AllEndsToldAgain, AllBeginLater}
 use Rattle.gq_node.specs.Bridge.{AtHome}
-use Rattle.gq_node.specs.Inputs.{Input, Asked, AskedPlan, Brought, Shortened, Ticked, Looked, Joined, Fetching, Fetched, does}
+use Rattle.gq_node.specs.Inputs.{Input, Asked, AskedPlan, AskedLook, Brought, Shortened, Ticked, Looked, Joined, Fetching, Fetched, does}
 use Rattle.gq_node.specs.Joining.{tells_joined, hears_joined, all_joined, peer_for, asks_peer, looks, is_peer, has_file, gives, takes}
 use Rattle.gq_node.specs.Lanes.{lane_of}
 use Rattle.gq_node.specs.Local.{Local, Resident, Doing, new_local, part_in, state_of, given, file_fits, recalled, fits_local}
@@ -235,6 +235,7 @@ same_holds site local new same holds = (
 does_hold : (input : Input) (site : Site) (local : Local) → Holds site local → Holds site (does input site local).local
 does_hold (Asked op line) site local holds = let b = all_requests_act op line site local holds.0 in (b.home, bridged_used site local _ _ _ _ b holds.1)
 does_hold AskedPlan site local holds = holds
+does_hold (AskedLook mark volume) site local holds = holds
 does_hold (Brought from letter) site local holds = let b = all_letters_act from letter site local holds.0 in (b.home, bridged_used site local _ _ _ _ b holds.1)
 does_hold (Shortened from short bytes) site local holds = let b = shorts_act from short bytes site local holds.0 in (b.home, bridged_used site local _ _ _ _ b holds.1)
 does_hold (Ticked session) site local holds = let b = all_ticks_act session site local holds.0 in (b.home, bridged_used site local _ _ _ _ b holds.1)
@@ -298,6 +299,7 @@ word_view w nodes n from losses after = by (takes_word (site_at w nodes n) from 
 input_view : (w : NodeWorld) (nodes : Nodes) (n : ℕ) (input : Input) → view (after_input w nodes n input) ≡ view (after_doing w nodes n (does input (site_at w nodes n) (nodes.local n)))
 input_view w nodes n (Asked op line) = refl
 input_view w nodes n AskedPlan = refl
+input_view w nodes n (AskedLook mark volume) = refl
 input_view w nodes n (Brought from letter) = refl
 input_view w nodes n (Shortened from short bytes) = refl
 input_view w nodes n (Ticked session) = refl

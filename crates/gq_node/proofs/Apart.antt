@@ -4,7 +4,7 @@ use Rattle.std.specs.Prelude.{◌==◌, if◌then◌else◌}
 use Rattle.std.proofs.lemmas.Bool.{eqb-true, eqb-false}
 use Rattle.gq_node.specs.declared.shorts.ShortOutput.{ShortOutput}
 use Rattle.gq_node.specs.Apart.{Call, does_shortly, inputs_for, outputs_for, all_shortly, AllGive, GoesByPart, AllCallsAct, AllCallsByParts, AllGiveTheSame, AllTenantsApart}
-use Rattle.gq_node.specs.Inputs.{Input, Asked, AskedPlan, Brought, Shortened, Ticked, Looked, Joined, Fetching, Fetched, does, after_one}
+use Rattle.gq_node.specs.Inputs.{Input, Asked, AskedPlan, AskedLook, Brought, Shortened, Ticked, Looked, Joined, Fetching, Fetched, does, after_one}
 use Rattle.gq_node.specs.Local.{Local}
 use Rattle.gq_node.specs.Shorts.{ShortDoing}
 use Rattle.gq_node.specs.ShortSteps.{ActsShortly}
@@ -20,6 +20,7 @@ same_site old next t plan here = ap (λ p. site_of p next.here t) plan ∙ ap (�
 same_local : (input : Input) (site : Site) (local : Local) → (does_shortly input site local).doing.local ≡ (does input site local).local
 same_local (Asked op line) site local = refl
 same_local AskedPlan site local = refl
+same_local (AskedLook mark volume) site local = refl
 same_local (Brought from letter) site local = refl
 same_local (Shortened from short bytes) site local = refl
 same_local (Ticked session) site local = refl
@@ -86,6 +87,7 @@ tenants_apart one two one_new two_new ones twos t local one_calls two_calls site
 pub all_calls_act : AllCallsAct
 all_calls_act old new t (Asked op line) given whole acts none = wholly_shortly old new t (does_shortly (Asked op line)) (does (Asked op line)) given (λ local agrees. refl) acts none
 all_calls_act old new t AskedPlan given whole acts none = wholly_shortly old new t (does_shortly AskedPlan) (does AskedPlan) given (λ local agrees. refl) acts none
+all_calls_act old new t (AskedLook mark volume) given whole acts none = wholly_shortly old new t (does_shortly (AskedLook mark volume)) (does (AskedLook mark volume)) given (λ local agrees. refl) acts none
 all_calls_act old new t (Brought from letter) given whole acts none = wholly_shortly old new t (does_shortly (Brought from letter)) (does (Brought from letter)) given (λ local agrees. refl) acts none
 all_calls_act old new t (Ticked session) given whole acts none = wholly_shortly old new t (does_shortly (Ticked session)) (does (Ticked session)) given (λ local agrees. refl) acts none
 all_calls_act old new t (Looked lane) given whole acts none = wholly_shortly old new t (does_shortly (Looked lane)) (does (Looked lane)) given (λ local agrees. refl) acts none

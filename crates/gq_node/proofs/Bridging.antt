@@ -27,7 +27,7 @@ use Rattle.gq_node.specs.Local.{Local, Resident, Doing, part_in, state_of, state
 use Rattle.gq_node.specs.Shorts.{OwnShort, letter_with, column_of, takes_short}
 use Rattle.gq_node.specs.Sites.{Site, has_session}
 use Rattle.gq_node.specs.Columns.{stays_after}
-use Rattle.gq_node.specs.Bridge.{setting_in, AtHome, request_act, request_answer, letter_act, waited_act, tick_act, hear_act, short_act, short_tell, Bridges, AllRequestsAct, AllQuestionsTell, AllLettersAct, AllTicksAct}
+use Rattle.gq_node.specs.Bridge.{setting_in, AtHome, request_act, request_answer, letter_act, waited_act, tick_act, hear_act, short_act, short_tell, Bridges, AllRequestsAct, AllQuestionsTell, AllLooksTell, AllLettersAct, AllTicksAct}
 use Rattle.gq_node.proofs.Placing.{is_number}
 use Rattle.gq_node.proofs.Asking.{goes_home}
 use Rattle.gq_node.proofs.Ticking.{busy_is}
@@ -396,6 +396,9 @@ all_letters_act from m site local home = elim (cases_Bool (letter_fits site (lim
         eqb-true (site.home m.session) site.here (and_parts (site.home m.session == site.here) (site.node_at m.server == from) h).0
 
 -- ---- what a tenant has
+
+pub all_looks_tell : AllLooksTell
+all_looks_tell mark volume site local home = record { does = record { part = refl; letters = refl; told = refl }; volumes = refl; transfer = refl; home = home }
 
 pub all_questions_tell : AllQuestionsTell
 all_questions_tell site local home = record { does = record { part = refl; letters = refl; told = refl }; volumes = refl; transfer = refl; home = home }

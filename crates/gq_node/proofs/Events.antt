@@ -9,7 +9,7 @@ use Rattle.gq_replace.specs.Keeping.{KeptFiles}
 use Rattle.gq_replace.specs.Plans.{place_of}
 use Rattle.gq_replace.proofs.Following.{all_follow, all_right}
 use Rattle.gq_node.specs.Bridge.{request_act, request_answer, letter_act, short_act, tick_act}
-use Rattle.gq_node.specs.Inputs.{Input, Asked, AskedPlan, Brought, Shortened, Ticked, Looked, Joined, Fetching, Fetched, does}
+use Rattle.gq_node.specs.Inputs.{Input, Asked, AskedPlan, AskedLook, Brought, Shortened, Ticked, Looked, Joined, Fetching, Fetched, does}
 use Rattle.gq_node.specs.Joining.{hears_joined}
 use Rattle.gq_node.specs.Local.{Local, Doing, silently, asks, tells_holding, receives, ticks}
 use Rattle.gq_node.specs.Nodes.{NodeWorld, site_at, Nodes, new_nodes, Event, Started, Came, AskedToJoin, takes_word, after_doing, after_word, after_input, after_event, nodes_after, WasWritten, CanCome, AllCanCome, input_steps, steps_of, all_steps, fleet_behind, IsAlike, act_of, own_answer, answer_in, SaidBy, IsOwn, EventSaid, Follows, AllNodesFollow, nodes_of, AllNodesServe}
@@ -17,7 +17,8 @@ use Rattle.gq_node.specs.Shorts.{takes_short}
 use Rattle.gq_node.specs.Sites.{Site}
 use Rattle.gq_node.proofs.Arriving.{request_may, tick_may, letter_may, short_may}
 use Rattle.gq_node.proofs.Beginnings.{begins_follow, restarts_follow, idle_is, ops_are, floors_are}
-use Rattle.gq_node.proofs.Bridging.{all_requests_act, all_questions_tell, all_letters_act, shorts_act, all_ticks_act}
+use Rattle.gq_node.proofs.Bridging.{all_requests_act, all_questions_tell, all_looks_tell, all_letters_act, shorts_act, all_ticks_act}
+use Rattle.gq_node.specs.Looked.{tells_look}
 use Rattle.gq_node.proofs.Fetching.{idle_follows, looks_follow, gives_follow, takes_follow}
 use Rattle.gq_node.proofs.Following.{Sound, OneStep, does_follow, request_follows}
 use Rattle.gq_node.proofs.Journal.{all_requests_keep, all_letters_keep, shorts_keep, all_ticks_keep}
@@ -71,6 +72,10 @@ one_input w g nodes u n AskedPlan begun stays sound alike was =
     let site : Site = site_at w nodes n in
     let local : Local = nodes.local n in
     does_follow w g nodes u n None (own_answer site local AskedPlan) (λ told. None) (tells_holding site local) begun stays sound alike (all_questions_tell site local (sound.each n begun).home) refl refl tt
+one_input w g nodes u n (AskedLook mark volume) begun stays sound alike was =
+    let site : Site = site_at w nodes n in
+    let local : Local = nodes.local n in
+    does_follow w g nodes u n None (own_answer site local (AskedLook mark volume)) (λ told. None) (tells_look mark volume site local) begun stays sound alike (all_looks_tell mark volume site local (sound.each n begun).home) refl refl tt
 one_input w g nodes u n (Brought from letter) begun stays sound alike was =
     let site : Site = site_at w nodes n in
     let local : Local = nodes.local n in

@@ -24,7 +24,7 @@ use Rattle.gq_node.specs.declared.output.Admission.TheVariants.{Tells, Passes, G
 use Rattle.gq_cluster.specs.Facts.{OwnFact, Begun, Numbered, Kept, Had, Reserved, greatest_op, greatest_number, last_of_run, reserving, reserved_by}
 use Rattle.gq_node.specs.Lanes.{lane_of}
 use Rattle.gq_node.specs.Local.{Local, Resident, Doing, part_in, state_of, state_for, state_behind, aim_at, tries_next, asker, begins, admission_in, asks, asked_by, goes_on, answer_of, with_resident, receives, serves, hears, brings, ticks, waits_on, letter_fits, file_fits, has_above, of_round, fits_local, given, recalls, recalled, rested}
-use Rattle.gq_node.specs.Inputs.{Input, Asked, AskedPlan, Brought, Shortened, Ticked, Looked, Joined, Fetching, Fetched, does}
+use Rattle.gq_node.specs.Inputs.{Input, Asked, AskedPlan, AskedLook, Brought, Shortened, Ticked, Looked, Joined, Fetching, Fetched, does}
 use Rattle.gq_node.specs.Joining.{hears_joined, all_joined, peer_for, first_lacked, asks_peer, looks, is_peer, has_file, gives, takes}
 use Rattle.gq_node.specs.Resting.{IsBare}
 use Rattle.gq_node.specs.Shorts.{OwnShort, letter_with, takes_short}
@@ -373,6 +373,7 @@ takes_keep from file copy site local bare = by fits refl
 pub does_keep : (input : Input) (site : Site) (local : Local) → IsBare local → Keeps site local (does input site local)
 does_keep (Asked op line) site local bare = all_requests_keep op line site local
 does_keep AskedPlan site local bare = refl
+does_keep (AskedLook mark volume) site local bare = refl
 does_keep (Brought from letter) site local bare = all_letters_keep from letter site local
 does_keep (Shortened from short bytes) site local bare = shorts_keep from short bytes site local
 does_keep (Ticked session) site local bare = all_ticks_keep session site local

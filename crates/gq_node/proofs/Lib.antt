@@ -16,6 +16,7 @@ pub mod Events
 pub mod Fetching
 pub mod Following
 pub mod Giving
+pub mod Held
 pub mod Journal
 pub mod Lacking
 pub mod Later

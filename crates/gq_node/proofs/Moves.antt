@@ -22,14 +22,15 @@ use Rattle.gq_cluster.specs.Cluster.{everyone, copy_in}
 use Rattle.gq_replace.specs.Plans.{place_of}
 use Rattle.gq_cluster.specs.Facts.{Numbered, Had, Reserved, greatest_number, last_of_run, reserving, reserved_by}
 use Rattle.gq_node.specs.declared.output.Answer.{Answer}
-use Rattle.gq_node.specs.declared.output.Answer.TheVariants.{Done as IsDone, Gone, Refused as IsRefused, Old, Early, Busy as IsBusy, Bad as IsBad}
+use Rattle.gq_node.specs.declared.output.Answer.TheVariants.{Done as IsDone, Gone, Refused as IsRefused, Old, Early, Busy as IsBusy, Looked as IsLooked, NotLooked, Bad as IsBad}
 use Rattle.gq_node.specs.declared.output.Admission.{Admission}
 use Rattle.gq_node.specs.declared.output.Admission.TheVariants.{Tells, Passes, Goes}
 use Rattle.gq_node.specs.Again.{told_at_home, told_again, AllToldAgain, session_in, number_in, TellsEnd}
-use Rattle.gq_node.specs.Inputs.{Input, Asked, AskedPlan, Brought, Shortened, Ticked, Looked, Joined, Fetching, Fetched, does}
+use Rattle.gq_node.specs.Inputs.{Input, Asked, AskedPlan, AskedLook, Brought, Shortened, Ticked, Looked, Joined, Fetching, Fetched, does}
 use Rattle.gq_node.specs.Joining.{hears_joined, all_joined, peer_for, first_lacked, asks_peer, looks, is_peer, has_file, gives, takes}
 use Rattle.gq_node.specs.Lanes.{lane_of}
 use Rattle.gq_node.specs.Local.{Local, Resident, Doing, Brings, given, file_fits, part_in, silently, state_of, state_for, state_behind, aim_at, with_resident, tries_next, asker, begins, ended, again, own_admission, admission, admission_in, asks, asks_in, asked_by, goes_on, answer_of, refused_with, outcome_after, receives, at_server, serves, hears, brings, ticks, waits_on, letter_fits, has_above, of_round}
+use Rattle.gq_node.specs.Looked.{look_of, look_answer}
 use Rattle.gq_node.specs.Once.{begun_by}
 use Rattle.gq_node.specs.Shorts.{OwnShort, letter_with, takes_short}
 use Rattle.gq_node.specs.Sites.{Site, has_session, is_new, has_node}
@@ -760,9 +761,18 @@ takes_move from file copy site local = by (is_peer site from && local.lacks file
         subst (Moves site local) (sym e) (Stays (quiet site local (record asked { fact = Some (Had file copy) }) q.0 q.1))
     by false is = rw is (Stays (quiet site local (silently local) refl refl))
 
+-- what is told of a volume is no end of an operation
+looks_end_nothing : (mark volume : ℕ) (site : Site) (local : Local) (k op : ℕ) → TellsEnd k op (look_answer mark volume site local) → ⊥
+looks_end_nothing mark volume site local k op = by (nat_lt volume (length local.volumes))
+  where
+    by : (b : Bool) → TellsEnd k op (if b then IsLooked (look_of mark volume site local) else NotLooked mark volume) → ⊥
+    by true ends = ends
+    by false ends = ends
+
 pub all_move : (input : Input) (site : Site) (local : Local) → Moves site local (does input site local)
 all_move (Asked op line) site local = requests_move op line site local
 all_move AskedPlan site local = Stays (says site local (does AskedPlan site local) _ refl refl (λ k op h. h))
+all_move (AskedLook mark volume) site local = Stays (says site local (does (AskedLook mark volume) site local) _ refl refl (looks_end_nothing mark volume site local))
 all_move (Brought from letter) site local = letters_move from letter site local
 all_move (Shortened from short bytes) site local = shorts_move from short bytes site local
 all_move (Ticked session) site local = ticks_move session site local

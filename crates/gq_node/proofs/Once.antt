@@ -5,7 +5,7 @@ use Rattle.std.proofs.lemmas.Bool.{and_parts, leb-true}
 use Rattle.gq_model.specs.declared.events.Line.{Line}
 use Rattle.gq_node.specs.declared.output.Admission.{Admission}
 use Rattle.gq_node.specs.declared.output.Admission.TheVariants.{Tells, Passes, Goes}
-use Rattle.gq_node.specs.Inputs.{Input, Asked, AskedPlan, Brought, Shortened, Ticked, Looked, Joined, Fetching, Fetched, does, after_one, after_all}
+use Rattle.gq_node.specs.Inputs.{Input, Asked, AskedPlan, AskedLook, Brought, Shortened, Ticked, Looked, Joined, Fetching, Fetched, does, after_one, after_all}
 use Rattle.gq_node.specs.Local.{Local, asker, begins, admission_in, asks, asks_in, own_admission}
 use Rattle.gq_node.specs.Once.{comes_again, LeavesAll, AllAgainLeave, TakesOnce, AllTakeOnce}
 use Rattle.gq_node.specs.Sites.{Site}
@@ -37,6 +37,7 @@ again_leaves site local op line (Some k) is again =
 pub again_leave : AllAgainLeave
 again_leave site local (Asked op line) again = again_leaves site local op line (asker line) refl again
 again_leave site local AskedPlan again = absurd (cc)
+again_leave site local (AskedLook mark volume) again = absurd (cc)
 again_leave site local (Brought from letter) again = absurd (cc)
 again_leave site local (Shortened from short bytes) again = absurd (cc)
 again_leave site local (Ticked session) again = absurd (cc)

@@ -16,8 +16,8 @@ use Rattle.gq_model.specs.declared.events.Refusal.TheVariants.{NoSession}
 use Rattle.gq_cluster.specs.Cluster.{copy_in}
 use Rattle.gq_cluster.specs.Facts.{OwnFact, Begun, Numbered, Kept, Had}
 use Rattle.gq_node.specs.declared.output.Answer.{Answer}
-use Rattle.gq_node.specs.declared.output.Answer.TheVariants.{Done, Gone, Refused, Busy, Old, Early, Has}
-use Rattle.gq_node.specs.Inputs.{Asked, AskedPlan, Brought, Ticked, Looked, Joined, Fetching, Fetched}
+use Rattle.gq_node.specs.declared.output.Answer.TheVariants.{Done, Gone, Refused, Busy, Old, Early, Has, Looked as IsLooked, NotLooked}
+use Rattle.gq_node.specs.Inputs.{Asked, AskedPlan, AskedLook, Brought, Ticked, Looked, Joined, Fetching, Fetched}
 use Rattle.gq_node.specs.Local.{part_in}
 use Rattle.gq_node.specs.Nodes.{NodeWorld, Nodes, Event, Started, Came, AskedToJoin, node_in, fact_list, new_nodes, doing_of, after_event, nodes_after, AllCanCome}
 
@@ -86,12 +86,15 @@ events = Started 0 0
     ∷ Came 0 (Asked 1024 (Read 1 0 0))
     ∷ Came 0 (Asked 1025 (Read 1 0 0))
     ∷ Came 0 AskedPlan
+    ∷ Came 0 (AskedLook 7 0)
+    ∷ Came 0 (AskedLook 8 1)
     ∷ []
 
 pub told_at_one : answers one (new_nodes one) events ≡
     None ∷ None ∷ None ∷ None ∷ None ∷ Some (Busy 1 2 1) ∷ None ∷ None ∷ None ∷ Some (Done (Wrote 1 1 tag))
     ∷ Some (Done (Wrote 1 1 tag)) ∷ Some (Early 2 2 0) ∷ None ∷ None ∷ Some (Old 2 1 1024) ∷ Some (Old 1 1 1024) ∷ Some (Gone 1 1024) ∷ None
-    ∷ Some (Has (record { servers = 1; home = 0; sessions = 2; share = 4; most_blocks = 16; volumes = record { files = 1; blocks = 1 } ∷ []; nodes = [] })) ∷ []
+    ∷ Some (Has (record { servers = 1; home = 0; sessions = 2; share = 4; most_blocks = 16; volumes = record { files = 1; blocks = 1 } ∷ []; nodes = [] }))
+    ∷ Some (IsLooked (record { mark = 7; volume = 0; losses = 0; rows = Some (record { length = 2; tag = tag }) ∷ [] })) ∷ Some (NotLooked 8 1) ∷ []
 unfolding collect_quorum store_quorum ends_collect ends_store
 told_at_one = refl
 

@@ -12,6 +12,7 @@ use Rattle.gq_node.specs.declared.output.Answer.TheVariants.{Has, Bad as IsBad}
 use Rattle.gq_node.specs.declared.output.Admission.{Admission}
 use Rattle.gq_node.specs.declared.output.Admission.TheVariants.{Tells, Passes, Goes}
 use Rattle.gq_node.specs.Local.{Local, Doing, part_in, state_of, state_for, aim_at, aim_behind, tries_next, answer_of, asker, begins, admission_in, asks, holding, tells_holding, receives, ticks, letter_fits, has_above, of_round}
+use Rattle.gq_node.specs.Looked.{look_answer, tells_look}
 use Rattle.gq_node.specs.declared.shorts.ShortBody.{ShortBody}
 use Rattle.gq_node.specs.declared.shorts.ShortBody.TheVariants.{AskAbove, Tagged, Confirm, Want}
 use Rattle.gq_node.specs.Shorts.{OwnShort, letter_with, copy_of, takes_tag, store_in, column_of}
@@ -161,6 +162,10 @@ AllRequestsAct = (op : ℕ) (line : Line) (site : Site) (local : Local) → AtHo
 
 abbrev pub AllQuestionsTell : Type 0
 AllQuestionsTell = (site : Site) (local : Local) → AtHome site local → Bridges site local None (Some (Has (holding site local.volumes))) (λ told. None) (tells_holding site local)
+
+-- nor is it one that it asks what the server has of a volume
+abbrev pub AllLooksTell : Type 0
+AllLooksTell = (mark volume : ℕ) (site : Site) (local : Local) → AtHome site local → Bridges site local None (Some (look_answer mark volume site local)) (λ told. None) (tells_look mark volume site local)
 
 abbrev pub AllLettersAct : Type 0
 AllLettersAct = (from : ℕ) (m : OwnMessage) (site : Site) (local : Local) → AtHome site local →

@@ -5,6 +5,7 @@ use Rattle.gq_tag.specs.Tag.{File, OwnMessage}
 use Rattle.gq_model.specs.declared.events.Line.{Line}
 use Rattle.gq_node.specs.Joining.{hears_joined, looks, gives, takes}
 use Rattle.gq_node.specs.Local.{Local, Doing, asks, tells_holding, receives, ticks}
+use Rattle.gq_node.specs.Looked.{tells_look}
 use Rattle.gq_node.specs.Shorts.{OwnShort, takes_short}
 use Rattle.gq_node.specs.Sites.{Site}
 
@@ -13,6 +14,8 @@ pub data Input : Type 0 where
   Asked : (op : ℕ) (line : Line) → Input
   -- the tenant asks what it has
   AskedPlan : Input
+  -- the tenant asks, with that number, what the server has of the volume
+  AskedLook : (mark volume : ℕ) → Input
   -- a letter from that node
   Brought : (from : ℕ) (letter : OwnMessage) → Input
   -- a letter in a short form from that node, where the copy that it stands for has this content
@@ -32,6 +35,7 @@ pub data Input : Type 0 where
 abbrev pub does : Input → Site → Local → Doing
 does (Asked op line) site local = asks op line site local
 does AskedPlan site local = tells_holding site local
+does (AskedLook mark volume) site local = tells_look mark volume site local
 does (Brought from letter) site local = receives from letter site local
 does (Shortened from short bytes) site local = (takes_short from short bytes site local).doing
 does (Ticked session) site local = ticks session site local

@@ -13,6 +13,7 @@ pub mod Joining
 pub mod Lacks
 pub mod Lanes
 pub mod Local
+pub mod Looked
 pub mod Lost
 pub mod Needing
 pub mod Nodes

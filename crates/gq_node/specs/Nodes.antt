@@ -20,8 +20,9 @@ use Rattle.gq_node.specs.declared.output.Answer.TheVariants.{Has}
 use Rattle.gq_node.specs.declared.shorts.ShortBody.{ShortBody}
 use Rattle.gq_node.specs.declared.shorts.ShortBody.TheVariants.{Want}
 use Rattle.gq_node.specs.Bridge.{setting_in, request_act, request_answer, letter_act, short_act, short_tell, tick_act}
-use Rattle.gq_node.specs.Inputs.{Input, Asked, AskedPlan, Brought, Shortened, Ticked, Joined, Fetching, Fetched, does}
+use Rattle.gq_node.specs.Inputs.{Input, Asked, AskedPlan, AskedLook, Brought, Shortened, Ticked, Joined, Fetching, Fetched, does}
 use Rattle.gq_node.specs.Joining.{tells_joined, all_joined, is_peer, has_file}
+use Rattle.gq_node.specs.Looked.{look_answer}
 use Rattle.gq_node.specs.Local.{Local, Doing, Transfer, Wants, Brings, new_local, part_in, state_of, file_fits, silently, answer_of, holding}
 use Rattle.gq_node.specs.Resting.{FirstPlan, begun_local, recall_all}
 use Rattle.gq_node.specs.Shorts.{letter_with}
@@ -306,7 +307,7 @@ answer_in local (Brought from m) told = answer_of m.session (local.residents m.s
 answer_in local (Shortened from short bytes) told = short_tell short.body short.session (local.residents short.session).session.op told
 answer_in local _ told = None
 
--- what a node tells by itself: by the number of a request alone, or what refuses it; or what the tenant has
+-- what a node tells by itself: by the number of a request alone, or what refuses it; what the tenant has, or what the server has of a volume
 abbrev pub refusal_answer : Site → Local → Option Act → Option Answer → (Told → Option Answer) → Option Answer
 refusal_answer site local None own tell = own
 refusal_answer site local (Some act) own tell = tell (step_of (setting_in site local) (part_in local) act).told
@@ -316,6 +317,7 @@ own_answer site local (Asked op line) = refusal_answer site local (request_act o
 own_answer site local (Ticked session) = refusal_answer site local (tick_act session site local) None (λ told. None)
 own_answer site local (Shortened from short bytes) = refusal_answer site local (short_act from short bytes site local) None (answer_in local (Shortened from short bytes))
 own_answer site local AskedPlan = Some (Has (holding site local.volumes))
+own_answer site local (AskedLook mark volume) = Some (look_answer mark volume site local)
 own_answer site local _ = None
 
 -- an act: what is told is the law's answer to it, made the node's by `tell`, and what is sent is the law's

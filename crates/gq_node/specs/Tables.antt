@@ -1,12 +1,13 @@
 -- What a contract sees of a node's tables, and what a tenant's part of them stands for.
-use Rattle.std.specs.Prelude.{◌≡◌, ◌≢◌, ℕ, ◌/◌, ◌%◌, ◌<◌, List, [], ◌∷◌, Option, Some, None, Bool, false, ◌==◌, ◌||◌, nat_lt, length, map, option_map, slice_index_or, slice_set}
+use Rattle.std.specs.Prelude.{◌≡◌, ◌≢◌, ℕ, ◌/◌, ◌%◌, ◌<◌, List, [], ◌∷◌, Option, Some, None, Bool, false, ◌==◌, ◌||◌, nat_lt, length, map, option_map, slice_index_or, slice_set, if◌then◌else◌}
 use Rattle.gq_grid.specs.Grid.{Grid}
 use Rattle.gq_grid.specs.Sets.{servers}
 use Rattle.gq_grid.specs.declared.ServerSet.{ServerSet}
 use Rattle.gq_tag.specs.Tag.{File, file_of, message_of, first_copy, greatest}
 use Rattle.gq_desk.specs.CheckedPlan.{CheckedPlan, row_at}
 use Rattle.gq_desk.specs.Volumes.{Account, account_at, account_with}
-use Rattle.gq_phase.specs.Phase.{Operation}
+use Rattle.gq_phase.specs.Phase.{Operation, listed_row}
+use Rattle.gq_phase.specs.declared.Row.{Row}
 use Rattle.gq_phase.specs.Standing.{StandsFor}
 use Rattle.gq_phase.specs.declared.operation.Operation.{Operation as Code}
 use Rattle.gq_store.specs.Copies.{StoreCopies, copy_at}
@@ -60,6 +61,10 @@ given_at w t = slice_index_or w.given t []
 
 abbrev pub lacks_at : Tables → ℕ → File → Bool
 lacks_at w t file = lacks_in (given_at w t) file
+
+-- the length and the tag of the server's copy of the file, unless it lacks the file
+abbrev pub row_at_server : Tables → ℕ → File → Option Row
+row_at_server w t file = if lacks_at w t file then None else Some (listed_row (copy_at w.store (file_of t file)))
 
 abbrev pub peer_at : Tables → ℕ → ℕ
 peer_at w t = slice_index_or w.peers t 0

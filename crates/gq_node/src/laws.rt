@@ -8,16 +8,17 @@ ghost use Rattle.gq_node.specs.Apart.{AllCallsAct, AllCallsByParts, AllTenantsAp
 ghost use Rattle.gq_node.specs.Columns.{AllStoresGoWhereGiven};
 ghost use Rattle.gq_node.specs.Progress.{AllRowsAreTried, AllColumnsAreTried};
 ghost use Rattle.gq_node.specs.Aims.{AllAimsHaveQuorums, AllRequestsHaveQuorums};
-ghost use Rattle.gq_node.specs.Bridge.{AllRequestsAct, AllQuestionsTell, AllLettersAct, AllTicksAct};
+ghost use Rattle.gq_node.specs.Bridge.{AllRequestsAct, AllQuestionsTell, AllLooksTell, AllLettersAct, AllTicksAct};
 
 /// What a node does by a line, a letter or a tick is, in the tenant's part of it, an act of the law of clusters
 /// (`gq_cluster::laws::clusters`) or nothing. It is an act of the law where a request begins an operation, gives it up
 /// or is refused by the model, where a letter is served or heard, and where a tick sends a round's message again; what
-/// is told and sent is then what the law says of the act. That a tenant asks what it has is no act: it is told, and
+/// is told and sent is then what the law says of the act. That a tenant asks what it has, or what the server has of a volume, is no act: it is told, and
 /// nothing changes.
 pub fn acts()
     ensures requests { AllRequestsAct }
     ensures questions { AllQuestionsTell }
+    ensures looks { AllLooksTell }
     ensures letters { AllLettersAct }
     ensures ticks { AllTicksAct }
 {}

@@ -11,6 +11,7 @@ mod lacks;
 mod lanes;
 pub mod laws;
 mod letters;
+mod looks;
 mod lost;
 mod node;
 mod output;
@@ -23,6 +24,8 @@ pub use gq_model::{Line, Refusal};
 pub use lanes::LANES;
 pub use lost::{Lost, LostRefused, MOST_NUMBERS, MOST_TIMES, NODE_NUMBERS};
 pub use node::{Ended, Node};
-pub use output::{Answer, Fact, Holding, NeedRefused, NodeNumbers, Output, Transfer};
+pub use output::{
+    Answer, Fact, HeldRows, Holding, Look, NeedRefused, NodeNumbers, Output, Transfer,
+};
 pub use shorts::{Short, ShortBody, ShortOutput};
 pub use tables::place_of;

@@ -11,6 +11,7 @@ ghost use Rattle.gq_node.specs.Bounds.{IsBounded, content_bytes};
 ghost use Rattle.gq_replace.specs.Plans.{place_of};
 ghost use Rattle.gq_node.specs.Sites.{address_of, session_at, site_of};
 ghost use Rattle.gq_node.specs.Local.{new_local, asks, tells_holding, receives, ticks, recalls};
+ghost use Rattle.gq_node.specs.Looked.{tells_look};
 ghost use Rattle.gq_node.specs.Recalling.{tenant_of, own_fact, fits_in};
 ghost use Rattle.gq_node.specs.Needing.{IsRefusedIn};
 ghost use Rattle.gq_node.specs.Resting.{Needed};
@@ -226,6 +227,31 @@ impl Node {
             return Err(Ended(refused.again()));
         }
         match self.tables.tell_holding(tenant) {
+            Ok(out) => Ok(out),
+            Err(refused) => {
+                self.ended = Some(refused.again());
+                Err(Ended(refused))
+            }
+        }
+    }
+
+    /// Takes the question of a tenant, which it gave that number, what this node's server has of a volume: of each file the length and the tag
+    /// of its copy. It is told with how many losses the node's plan tells of, and nothing changes. Where whole rows and columns of servers tell
+    /// so much, a client knows which content a read gives, without one: it is a collect round that nobody but the client hears (Attiya,
+    /// Bar-Noy and Dolev, Sharing memory robustly in message-passing systems, JACM 42(1), 1995).
+    pub fn look_at(&mut self, tenant: u8, mark: u64, volume: u32) -> Result<Output, Ended>
+        requires { tenant < length self.old.tables.plan.rows }
+        ensures acts { IfOk result (λ out. Acts self.old.tables tenant (tells_look mark volume) out self.new.tables) }
+        ensures same { self.new.tables ≡ self.old.tables }
+        ensures ended { OnErr result (self.new.ended ≡ true) }
+        ensures after { self.old.ended ≡ true → IsErr result }
+        ensures still { self.old.ended ≡ true → self.new ≡ self.old }
+        ensures has_memory { OnOk result (self.new.ended ≡ false) }
+    {
+        if let Some(refused) = &self.ended {
+            return Err(Ended(refused.again()));
+        }
+        match self.tables.tell_look(tenant, mark, volume) {
             Ok(out) => Ok(out),
             Err(refused) => {
                 self.ended = Some(refused.again());

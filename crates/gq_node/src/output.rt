@@ -9,7 +9,7 @@ ghost use Rattle.gq_node.specs.Local.{ended, refused_with};
 use gq_desk::VolumeRows;
 use gq_memory::{GrowVec, OutOfMemory};
 use gq_model::Refusal;
-use gq_phase::{Heard, Messages, Outcome};
+use gq_phase::{Heard, Messages, Outcome, Row};
 use gq_tag::{FileId, Message, StoredCopy};
 use std::alloc::Global;
 use std::marker::Model;
@@ -45,6 +45,32 @@ impl Model for NodeNumbers {
     ghost Value = { List ℕ };
 
     ghost view = { λ n. n.items.items };
+}
+
+/// What a node's server has of the files of a volume.
+#[derive(Drop)]
+pub struct Look {
+    /// The number that the tenant gave the question.
+    pub mark: u64,
+    pub volume: u32,
+    /// How many nodes were lost, as the node's plan says.
+    pub losses: usize,
+    pub rows: HeldRows,
+}
+
+/// Of each file of a volume, from file 0 on, the length and the tag of the server's copy; nothing where the server lacks the file.
+#[derive(Drop)]
+pub struct HeldRows {
+    pub items: Vec<Option<Row>>,
+}
+
+impl Model for HeldRows {
+    ghost use Rattle.std.specs.Prelude.{List, Option};
+    ghost use Rattle.gq_phase.specs.declared.Row.{Row};
+
+    ghost Value = { List (Option Row) };
+
+    ghost view = { λ r. r.items.items };
 }
 
 /// What a node tells a tenant. Each answer to a request names the session and the number of the operation that it is of.
@@ -89,6 +115,13 @@ pub enum Answer {
     },
     /// What the tenant has.
     Has(Holding),
+    /// What the server has of a volume.
+    Looked(Look),
+    /// There is no such volume to look at.
+    NotLooked {
+        mark: u64,
+        volume: u32,
+    },
     /// The line is no request.
     Bad,
 }

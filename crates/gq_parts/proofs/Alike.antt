@@ -9,7 +9,8 @@ use Rattle.gq_tag.specs.declared.Body.{Body}
 use Rattle.gq_tag.specs.declared.Body.TheVariants.{Ask, Copy, Store, Stored}
 use Rattle.gq_tag.specs.Tag.{File, OwnMessage, is_file, to_server, first_copy, greatest, newer_of}
 use Rattle.gq_desk.specs.declared.volumes.VolumeRow.{VolumeRow}
-use Rattle.gq_phase.specs.Phase.{heard_servers, is_collect}
+use Rattle.gq_phase.specs.declared.Row.{Row}
+use Rattle.gq_phase.specs.Phase.{heard_servers, is_collect, listed_row}
 use Rattle.gq_model.specs.declared.events.Line.{Line}
 use Rattle.gq_model.specs.declared.events.Line.TheVariants.{Write, Read, List as ListFiles, Abandon}
 use Rattle.gq_model.specs.Trace.{Own, Entry, State, changed, files_of, operation, limit_at}
@@ -20,12 +21,13 @@ use Rattle.gq_cluster.specs.Cluster.{everyone, copy_in}
 use Rattle.gq_cluster.specs.Facts.{Had, reserving, reserved_by, replaced_in}
 use Rattle.gq_replace.specs.Plans.{place_of}
 use Rattle.gq_node.specs.declared.output.Answer.{Answer}
-use Rattle.gq_node.specs.declared.output.Answer.TheVariants.{Refused as IsRefused, Away, Old, Early, Bad as IsBad}
+use Rattle.gq_node.specs.declared.output.Answer.TheVariants.{Refused as IsRefused, Away, Old, Early, Looked, NotLooked, Bad as IsBad}
 use Rattle.gq_model.specs.declared.events.Refusal.TheVariants.{NoSession}
 use Rattle.gq_node.specs.Joining.{all_files, files_in_volume, lacked_files, hears_joined, all_joined, first_lacked, peer_for, asks_peer, looks, is_peer, has_file, gives, takes}
 use Rattle.gq_node.specs.Columns.{column_behind, stays_after}
 use Rattle.gq_node.specs.Lanes.{lane_of, lacks_of_lane}
 use Rattle.gq_node.specs.Local.{Local, Resident, Doing, Wants, Brings, part_in, state_of, state_for, state_behind, aim_at, tries_next, with_resident, silently, tells, answer_of, outcome_after, waits_after, goes_on, asker, begins, ended, asked_by, asks, letter_fits, file_fits, has_above, of_round, brings, serves, hears, receives, waits_on, ticks, with_copy, given}
+use Rattle.gq_node.specs.Looked.{held_row, look_answer}
 use Rattle.gq_node.specs.Sites.{Site, has_session, is_new, has_node, aim}
 use Rattle.gq_node.proofs.Receiving.{Parts, parts, session_here, to_a_session, to_the_server, has_it, lacks_it}
 use Rattle.gq_parts.specs.Alike.{is_own_session, is_file_in, AreAlike, DoSame}
@@ -467,6 +469,30 @@ first_same : (site : Site) (a b : Local) (lane : ℕ) → AreAlike site a b → 
 first_same site a b lane alike =
     ap (λ (vs : List VolumeRow). find (lacks_of_lane a.lacks vs lane) (all_files vs)) alike.volumes
     ∙ found_same (lacks_of_lane a.lacks b.volumes lane) (lacks_of_lane b.lacks b.volumes lane) (all_files b.volumes) (lanes_same a.lacks b.lacks b.volumes lane (all_files b.volumes) (lack_same site a b alike))
+
+-- the same is told of a volume
+rows_same : {X : Type 0} (p q : File → X) (v from many : ℕ) → ((place : ℕ) → place < from + many → p (record { volume = v; place = place }) ≡ q (record { volume = v; place = place })) →
+    map p (map (λ place. record { volume = v; place = place }) (range_with_len from many)) ≡ map q (map (λ place. record { volume = v; place = place }) (range_with_len from many))
+rows_same p q v from zero same = refl
+rows_same p q v from (suc many) same =
+    let first : p (record { volume = v; place = from }) ≡ q (record { volume = v; place = from }) = same from (omega arith) in
+    let rest = rows_same p q v (from + 1) many (λ place below. same place (omega arith)) in
+    λ i. first i ∷ rest i
+
+row_same : (site : Site) (a b : Local) → AreAlike site a b → (file : File) → is_file_in b file ≡ true → held_row a file ≡ held_row b file
+row_same site a b alike file there =
+    ap (λ c. if c then None else Some (listed_row (copy_in (part_in a) file))) (alike.lacks file there)
+    ∙ ap (λ (c : StoredCopy). if b.lacks file then None else Some (listed_row c)) (alike.copies file)
+
+held_same : (site : Site) (a b : Local) (v : ℕ) → AreAlike site a b → map (held_row a) (files_in_volume v (files_of a.volumes v)) ≡ map (held_row b) (files_in_volume v (files_of b.volumes v))
+held_same site a b v alike =
+    ap (λ (vs : List VolumeRow). map (held_row a) (files_in_volume v (files_of vs v))) alike.volumes
+    ∙ rows_same (held_row a) (held_row b) v 0 (files_of b.volumes v) (λ place below. row_same site a b alike (record { volume = v; place = place }) (one_there b v place (omega (arith, below))))
+
+pub looked_same : (mark volume : ℕ) (site : Site) (a b : Local) → AreAlike site a b → look_answer mark volume site a ≡ look_answer mark volume site b
+looked_same mark volume site a b alike =
+    let told : List (Option Row) → List VolumeRow → Answer = λ rows vs. if nat_lt volume (length vs) then Looked (record { mark = mark; volume = volume; losses = site.losses; rows = rows }) else NotLooked mark volume in
+    ap (λ (rows : List (Option Row)). told rows a.volumes) (held_same site a b volume alike) ∙ ap (told (map (held_row b) (files_in_volume volume (files_of b.volumes volume)))) alike.volumes
 
 -- as many are lacked in the one as in the other
 pub lacked_same : (site : Site) (a b : Local) → AreAlike site a b → lacked_files a.lacks a.volumes ≡ lacked_files b.lacks b.volumes

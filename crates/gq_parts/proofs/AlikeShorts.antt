@@ -13,8 +13,9 @@ use Rattle.gq_model.specs.Lone.{retry_step}
 use Rattle.gq_cluster.specs.Cluster.{everyone}
 use Rattle.gq_node.specs.declared.shorts.ShortBody.{ShortBody}
 use Rattle.gq_node.specs.declared.shorts.ShortBody.TheVariants.{AskAbove, Tagged, Confirm, Want}
+use Rattle.gq_node.specs.declared.output.Answer.{Answer}
 use Rattle.gq_node.specs.declared.output.Answer.TheVariants.{Has}
-use Rattle.gq_node.specs.Inputs.{Input, Asked, AskedPlan, Brought, Shortened, Ticked, Looked, Joined, Fetching, Fetched}
+use Rattle.gq_node.specs.Inputs.{Input, Asked, AskedPlan, AskedLook, Brought, Shortened, Ticked, Looked, Joined, Fetching, Fetched}
 use Rattle.gq_node.specs.Columns.{asks_to_confirm}
 use Rattle.gq_node.specs.Local.{Local, Resident, Doing, silently, state_of, state_for, holding, letter_fits, serves, hears}
 use Rattle.gq_node.specs.Shorts.{OwnShort, ShortDoing, letter_as, letter_with, short_as, wholly, copy_of, goes_short, takes_tag, asks_above, hears_tag, store_in, column_of, stores_again, confirms, takes_short, bound_by, is_beside, bound_from, bound_for, body_from, short_form}
@@ -23,7 +24,7 @@ use Rattle.gq_node.proofs.Receiving.{Parts, parts, session_here}
 use Rattle.gq_node.proofs.Shortly.{asks_short, asks_whole, confirm_held}
 use Rattle.gq_parts.specs.Alike.{is_own_session, is_file_in, AreAlike, DoSame, AllDoSame}
 use Rattle.gq_parts.specs.Within.{letters_by, reply_by}
-use Rattle.gq_parts.proofs.Alike.{silent_same, same_limits, fits_there, lone, served_same, heard_same, asks_same, receives_same, ticks_same, looks_same, joins_same, gives_same, takes_same}
+use Rattle.gq_parts.proofs.Alike.{silent_same, same_limits, fits_there, lone, served_same, heard_same, asks_same, receives_same, ticks_same, looks_same, looked_same, joins_same, gives_same, takes_same}
 
 -- ---- what is done by a short letter
 
@@ -190,6 +191,7 @@ shorts_same from s bytes site a b alike = by (letter_fits site (limit b) from pl
 pub does_same : AllDoSame
 does_same (Asked op line) site a b alike = asks_same op line site a b alike
 does_same AskedPlan site a b alike = record { local = alike; answer = ap (λ (vs : List VolumeRow). Some (Has (holding site vs))) alike.volumes; letters = refl; transfer = refl; fact = refl }
+does_same (AskedLook mark volume) site a b alike = record { local = alike; answer = ap (λ (x : Answer). Some x) (looked_same mark volume site a b alike); letters = refl; transfer = refl; fact = refl }
 does_same (Brought from letter) site a b alike = receives_same from letter site a b alike
 does_same (Shortened from short bytes) site a b alike = (shorts_same from short bytes site a b alike).doing
 does_same (Ticked session) site a b alike = ticks_same session site a b alike
@@ -206,6 +208,7 @@ pub record GoesSame (site : Site) (a b : Local) (input : Input) : Type 0 where
 pub goes_same_out : (site : Site) (a b : Local) (input : Input) → AreAlike site a b → GoesSame site a b input
 goes_same_out site a b (Asked op line) alike = record { letters = (does_same (Asked op line) site a b alike).letters; reply = refl }
 goes_same_out site a b AskedPlan alike = record { letters = refl; reply = refl }
+goes_same_out site a b (AskedLook mark volume) alike = record { letters = refl; reply = refl }
 goes_same_out site a b (Brought from letter) alike = record { letters = (does_same (Brought from letter) site a b alike).letters; reply = refl }
 goes_same_out site a b (Shortened from short bytes) alike = record { letters = (shorts_same from short bytes site a b alike).whole; reply = (shorts_same from short bytes site a b alike).short }
 goes_same_out site a b (Ticked session) alike = record { letters = (does_same (Ticked session) site a b alike).letters; reply = refl }

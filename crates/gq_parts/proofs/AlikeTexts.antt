@@ -12,7 +12,7 @@ use Rattle.gq_node.specs.Shorts.{short_with}
 use Rattle.gq_node.specs.Sites.{Here, Site, site_of}
 use Rattle.gq_node.specs.Tables.{fact_of, transfer_of}
 use Rattle.gq_wire.specs.declared.incoming.Incoming.{Incoming}
-use Rattle.gq_wire.specs.declared.incoming.Incoming.TheVariants.{Request, Plan as AsksPlan, Bad, Letter, ShortLetter, Joins, Joined, Speaks, Fetch, Fetched, Tick, Greet, Nothing}
+use Rattle.gq_wire.specs.declared.incoming.Incoming.TheVariants.{Request, Plan as AsksPlan, Look as AsksLook, Bad, Letter, ShortLetter, Joins, Joined, Speaks, Fetch, Fetched, Tick, Greet, Nothing}
 use Rattle.gq_parts.specs.declared.laws.TheConstants.{MOST_HOPS}
 use Rattle.gq_parts.specs.Alike.{AreAlike, DoSame, AllWriteSame}
 use Rattle.gq_parts.specs.Inputs.{asked_in}
@@ -152,6 +152,7 @@ lacks_same plan here one two alike = any_same _ _ 0 (length plan.rows) (λ t bel
 pub node_text_same : (plan : CheckedPlan) (here : Here) (incoming : Incoming) (one two : ℕ → Local) → AllAlike plan here one two → node_text plan here incoming one ≡ node_text plan here incoming two
 node_text_same plan here (Request tenant op line) one two alike = refl
 node_text_same plan here (AsksPlan tenant) one two alike = refl
+node_text_same plan here (AsksLook tenant mark volume) one two alike = refl
 node_text_same plan here (Bad tenant) one two alike = refl
 node_text_same plan here (Letter from m) one two alike = refl
 node_text_same plan here (ShortLetter from s) one two alike = refl

@@ -13,7 +13,7 @@ use Rattle.gq_facts.specs.Laws.{FitsFact}
 use Rattle.gq_replace.specs.Fleet.{new_fleet, all_node_steps}
 use Rattle.gq_replace.specs.Laws.{IsRight, Follows as FleetFollows}
 use Rattle.gq_node.specs.declared.lost.TheConstants.{MOST_NUMBERS}
-use Rattle.gq_node.specs.Inputs.{Input, Asked, AskedPlan, Brought, Shortened, Ticked, Looked, Joined as HeardJoined, Fetching, Fetched as WasFetched, does, after_all}
+use Rattle.gq_node.specs.Inputs.{Input, Asked, AskedPlan, AskedLook, Brought, Shortened, Ticked, Looked, Joined as HeardJoined, Fetching, Fetched as WasFetched, does, after_all}
 use Rattle.gq_node.specs.Joining.{all_joined, tells_joined}
 use Rattle.gq_node.specs.Local.{Local, Doing}
 use Rattle.gq_node.specs.Nodes.{NodeWorld, Nodes, Event, Came, Started, site_in, site_at, new_nodes, takes_word, with_ready, after_word, after_doing, after_start, after_event, nodes_after, first_of as law_first, fact_list, all_steps, AllCanCome, AllOpen}
@@ -25,7 +25,7 @@ use Rattle.gq_node.proofs.Recalling.{all_behind}
 use Rattle.gq_node.proofs.Using.{recall_volumes}
 use Rattle.gq_node.proofs.Volumes.{all_volumes_open}
 use Rattle.gq_wire.specs.declared.incoming.Incoming.{Incoming}
-use Rattle.gq_wire.specs.declared.incoming.Incoming.TheVariants.{Request, Plan as AsksPlan, Bad, Letter, ShortLetter, Joins, Joined, Speaks, Fetch, Fetched, Tick, Greet, Nothing}
+use Rattle.gq_wire.specs.declared.incoming.Incoming.TheVariants.{Request, Plan as AsksPlan, Look as AsksLook, Bad, Letter, ShortLetter, Joins, Joined, Speaks, Fetch, Fetched, Tick, Greet, Nothing}
 use Rattle.gq_wire.specs.Incoming.{incoming_of}
 use Rattle.gq_parts.specs.Alike.{AreAlike}
 use Rattle.gq_parts.specs.AllNodes.{first_in, GridPlans, here_in, volumes_in, plans_of, world_with, world_at, HasNode, AreSound, AllNodes, Happening, Took, Starts, Renews, StartsBy, first_of, IsStarted, TakesStep, TakesStart, TakesNewJournal, Stays, Happens, AllHappen, came_events, events_of, events_from, all_events, nodes_at, InputsCanCome, IncomingCanCome, HappeningCanCome, LinesCanCome, start_in, HasAlike, TellsAt, TellsAll, fleet_steps, cluster_steps, row_for, IsOneRegister, AllByLaw, AllFollowLaw, AllStepsHappen, AllStartsHappen, AllRenewalsHappen}
@@ -81,6 +81,7 @@ word_one w nodes after n from losses doing one = by (takes_word (site_at w nodes
 one_event : (w : NodeWorld) (nodes : Nodes) (n : ℕ) (a : Input) → AfterOne n nodes (after_event w nodes (Came n a)) (does a (site_at w nodes n) (nodes.local n))
 one_event w nodes n (Asked op line) = doing_one w nodes n (does (Asked op line) (site_at w nodes n) (nodes.local n))
 one_event w nodes n AskedPlan = doing_one w nodes n (does AskedPlan (site_at w nodes n) (nodes.local n))
+one_event w nodes n (AskedLook mark volume) = doing_one w nodes n (does (AskedLook mark volume) (site_at w nodes n) (nodes.local n))
 one_event w nodes n (Brought from letter) = doing_one w nodes n (does (Brought from letter) (site_at w nodes n) (nodes.local n))
 one_event w nodes n (Shortened from short bytes) = doing_one w nodes n (does (Shortened from short bytes) (site_at w nodes n) (nodes.local n))
 one_event w nodes n (Ticked session) = doing_one w nodes n (does (Ticked session) (site_at w nodes n) (nodes.local n))
@@ -129,6 +130,7 @@ after_came : (g : GridPlans) (p n : ℕ) (bytes : List ℕ) (t : ℕ) (nodes : N
     AfterAll (world_at g t) p n nodes (nodes_after (world_at g t) nodes (came_events g p n bytes t nodes incoming)) (all_taken g p n bytes t nodes incoming)
 after_came g p n bytes t nodes (Request tenant op line) plan = after_inputs (world_at g t) p n nodes (all_taken g p n bytes t nodes (Request tenant op line)) plan
 after_came g p n bytes t nodes (AsksPlan tenant) plan = after_inputs (world_at g t) p n nodes (all_taken g p n bytes t nodes (AsksPlan tenant)) plan
+after_came g p n bytes t nodes (AsksLook tenant mark volume) plan = after_inputs (world_at g t) p n nodes (all_taken g p n bytes t nodes (AsksLook tenant mark volume)) plan
 after_came g p n bytes t nodes (Bad tenant) plan = after_inputs (world_at g t) p n nodes (all_taken g p n bytes t nodes (Bad tenant)) plan
 after_came g p n bytes t nodes (Letter from m) plan = after_inputs (world_at g t) p n nodes (all_taken g p n bytes t nodes (Letter from m)) plan
 after_came g p n bytes t nodes (ShortLetter from short) plan = after_inputs (world_at g t) p n nodes (all_taken g p n bytes t nodes (ShortLetter from short)) plan
@@ -629,6 +631,7 @@ some_can g p n bytes t nodes incoming can =
 came_can : (g : GridPlans) (p n : ℕ) (bytes : List ℕ) (t : ℕ) (nodes : Nodes) (incoming : Incoming) → IncomingCanCome g p n bytes t nodes incoming → AllCanCome (world_at g t) nodes (came_events g p n bytes t nodes incoming)
 came_can g p n bytes t nodes (Request tenant op line) can = some_can g p n bytes t nodes (Request tenant op line) can
 came_can g p n bytes t nodes (AsksPlan tenant) can = some_can g p n bytes t nodes (AsksPlan tenant) can
+came_can g p n bytes t nodes (AsksLook tenant mark volume) can = some_can g p n bytes t nodes (AsksLook tenant mark volume) can
 came_can g p n bytes t nodes (Bad tenant) can = some_can g p n bytes t nodes (Bad tenant) can
 came_can g p n bytes t nodes (Letter from m) can = some_can g p n bytes t nodes (Letter from m) can
 came_can g p n bytes t nodes (ShortLetter from short) can = some_can g p n bytes t nodes (ShortLetter from short) can

@@ -2,7 +2,7 @@
 use Rattle.std.proofs.Common.{◌≡◌, ◌∙◌, ℕ, ◌<◌, Bool, true, false, List, [], ◌∷◌, ◌++◌, length, refl, sym, ap, subst}
 use Rattle.std.specs.Prelude.{All, filter}
 use Rattle.gq_wire.specs.declared.incoming.Incoming.{Incoming}
-use Rattle.gq_wire.specs.declared.incoming.Incoming.TheVariants.{Request, Plan, Bad, Letter, ShortLetter, Joins, Joined, Speaks, Fetch, Fetched, Tick, Greet, Nothing}
+use Rattle.gq_wire.specs.declared.incoming.Incoming.TheVariants.{Request, Plan, Look, Bad, Letter, ShortLetter, Joins, Joined, Speaks, Fetch, Fetched, Tick, Greet, Nothing}
 use Rattle.gq_wire.specs.Incoming.{incoming_of}
 use Rattle.gq_desk.specs.CheckedPlan.{CheckedPlan}
 use Rattle.gq_keeper.specs.Runs.{lines_of}
@@ -76,6 +76,7 @@ tenants_apart plan here t local ones twos same =
 others_none : (plan : CheckedPlan) (here : Here) (t : ℕ) (incoming : Incoming) → is_for t incoming ≡ false → inputs_of plan here incoming t ≡ []
 others_none plan here t (Request tenant op line) is = rw is refl
 others_none plan here t (Plan tenant) is = rw is refl
+others_none plan here t (Look tenant mark volume) is = rw is refl
 others_none plan here t (Bad tenant) is = rw is refl
 others_none plan here t (Letter from m) is = rw is refl
 others_none plan here t (ShortLetter from s) is = rw is refl

@@ -15,7 +15,7 @@ use Rattle.gq_cluster.specs.Facts.{OwnFact, Begun, Numbered, Kept, Had, Reserved
 use Rattle.gq_cluster.specs.Keeping.{KeptPart, kept_of, with_fact}
 use Rattle.gq_replace.specs.Keeping.{KeptFiles, files_of_part, with_fleet_fact, lacks_behind}
 use Rattle.gq_replace.specs.Plans.{place_of}
-use Rattle.gq_node.specs.Inputs.{Input, Asked, AskedPlan, Brought, Shortened, Ticked, Looked, Joined, Fetching, Fetched, does, after_one, after_all}
+use Rattle.gq_node.specs.Inputs.{Input, Asked, AskedPlan, AskedLook, Brought, Shortened, Ticked, Looked, Joined, Fetching, Fetched, does, after_one, after_all}
 use Rattle.gq_node.specs.Joining.{hears_joined, all_joined, first_lacked, peer_for, asks_peer, looks, is_peer, has_file, gives, takes}
 use Rattle.gq_node.specs.Lanes.{lane_of}
 use Rattle.gq_node.specs.Local.{Local, Doing, part_in, state_of, file_fits, fits_local, with_copy, given, recalled}
@@ -44,6 +44,7 @@ asked_volumes site local lane place = by (first_lacked local lane) refl
 pub does_volumes : (input : Input) (site : Site) (local : Local) → (does input site local).local.volumes ≡ local.volumes
 does_volumes (Asked op line) site local = ap (λ (v : List VolumeRow × Servers). v.0) (asks_view op line site local)
 does_volumes AskedPlan site local = refl
+does_volumes (AskedLook mark volume) site local = refl
 does_volumes (Brought from letter) site local = ap (λ (v : List VolumeRow × Servers). v.0) (receives_view from letter site local)
 does_volumes (Shortened from short bytes) site local = ap (λ (v : List VolumeRow × Servers). v.0) (shorts_view from short bytes site local)
 does_volumes (Ticked session) site local = ap (λ (v : List VolumeRow × Servers). v.0) (ticks_view session site local)

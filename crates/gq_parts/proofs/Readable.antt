@@ -15,7 +15,7 @@ use Rattle.gq_cluster.specs.Facts.{OwnFact, Begun, Numbered, Kept, Had}
 use Rattle.gq_tag.specs.declared.Body.TheVariants.{Store}
 use Rattle.gq_keeper.specs.Starting.{RecallsAll}
 use Rattle.gq_node.specs.declared.output.Fact.{Fact}
-use Rattle.gq_node.specs.Inputs.{Input, Asked, AskedPlan, Brought, Shortened, Ticked, Looked, Joined, Fetching, Fetched, does}
+use Rattle.gq_node.specs.Inputs.{Input, Asked, AskedPlan, AskedLook, Brought, Shortened, Ticked, Looked, Joined, Fetching, Fetched, does}
 use Rattle.gq_node.specs.Joining.{hears_joined, all_joined, peer_for, looks, is_peer, has_file, gives, takes}
 use Rattle.gq_node.specs.Local.{Local, Doing, asks, receives, ticks, fact_fits, file_fits, file_in, part_in, state_of}
 use Rattle.gq_node.specs.Resting.{FirstPlan, begun_local}
@@ -153,6 +153,7 @@ no_fact site local doing none = rw none refl
 doing_fits : (input : Input) (site : Site) (local : Local) → list_all (fits_part site local.volumes) (option_to_list (does input site local).fact) ≡ true
 doing_fits (Asked op line) site local = kept_fits site local (asks op line site local).fact (part_in (asks op line site local).local) (all_requests_keep op line site local)
 doing_fits AskedPlan site local = refl
+doing_fits (AskedLook mark volume) site local = refl
 doing_fits (Brought from letter) site local = kept_fits site local (receives from letter site local).fact (part_in (receives from letter site local).local) (all_letters_keep from letter site local)
 doing_fits (Shortened from short bytes) site local =
     kept_fits site local (takes_short from short bytes site local).doing.fact (part_in (takes_short from short bytes site local).doing.local) (shorts_keep from short bytes site local)

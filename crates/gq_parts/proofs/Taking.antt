@@ -34,7 +34,7 @@ use Rattle.gq_facts.specs.Facts.{verb_of, fact_words, fact_line, fact_text}
 use Rattle.gq_facts.specs.Laws.{FitsFact}
 use Rattle.gq_facts.proofs.FactsBack.{facts_stand_in_batches}
 use Rattle.gq_wire.specs.declared.incoming.Incoming.{Incoming}
-use Rattle.gq_wire.specs.declared.incoming.Incoming.TheVariants.{Request, Plan, Bad, Letter, ShortLetter, Joins, Joined, Speaks, Fetch, Fetched, Tick, Greet, Nothing}
+use Rattle.gq_wire.specs.declared.incoming.Incoming.TheVariants.{Request, Plan, Look, Bad, Letter, ShortLetter, Joins, Joined, Speaks, Fetch, Fetched, Tick, Greet, Nothing}
 use Rattle.gq_wire.specs.Incoming.{incoming_of}
 use Rattle.gq_parts.specs.Inputs.{asked_in, inputs_with, ticks_of}
 use Rattle.gq_parts.specs.declared.laws.TheConstants.{MOST_HOPS}
@@ -670,6 +670,7 @@ IsWhole _ = ⊤
 same_inputs : (plan : CheckedPlan) (here : Here) (incoming : Incoming) → IsWhole incoming → (bytes : List ℕ) → inputs_with bytes plan here incoming ≡ inputs_with [] plan here incoming
 same_inputs plan here (Request tenant op line) whole bytes = refl
 same_inputs plan here (Plan tenant) whole bytes = refl
+same_inputs plan here (Look tenant mark volume) whole bytes = refl
 same_inputs plan here (Bad tenant) whole bytes = refl
 same_inputs plan here (Letter from m) whole bytes = refl
 same_inputs plan here (ShortLetter from s) whole bytes = absurd whole

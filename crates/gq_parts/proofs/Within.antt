@@ -6,7 +6,7 @@ use Rattle.std.proofs.lemmas.List.{map-append}
 use Rattle.std.proofs.lemmas.List.Elements.{Contains-append_left, Contains-append_right}
 use Rattle.gq_tag.specs.Tag.{OwnMessage}
 use Rattle.gq_replace.specs.Fleet.{Posted}
-use Rattle.gq_node.specs.Inputs.{Input, Asked, AskedPlan, Brought, Shortened, Ticked, Looked, Joined as HeardJoined, Fetching, Fetched as WasFetched, does, after_one, after_all, doings}
+use Rattle.gq_node.specs.Inputs.{Input, Asked, AskedPlan, AskedLook, Brought, Shortened, Ticked, Looked, Joined as HeardJoined, Fetching, Fetched as WasFetched, does, after_one, after_all, doings}
 use Rattle.gq_node.specs.Local.{Local, Doing}
 use Rattle.gq_node.specs.Nodes.{NodeWorld, Nodes, Event, Came, site_in, site_at, address, posts, after_doing, after_event, nodes_after, CanCome, AllCanCome}
 use Rattle.gq_node.specs.Sites.{Site}
@@ -74,6 +74,7 @@ own_among w nodes n again (m ∷ ms) letters among =
 first_among : (site : Site) (local : Local) (input : Input) → (m : OwnMessage) → Contains (letters_by site local input) m → Contains (does input site local).letters m
 first_among site local (Asked op line) m c = c
 first_among site local AskedPlan m c = c
+first_among site local (AskedLook mark volume) m c = c
 first_among site local (Brought from letter) m c = c
 first_among site local (Shortened from short bytes) m c = (shorts_are_written from short bytes site local).whole m c
 first_among site local (Ticked session) m c = c
@@ -193,6 +194,7 @@ rest_can : (k : ℕ) (w : NodeWorld) (p n : ℕ) (nodes : Nodes) (input : Input)
     AllCanCome w (after_event w nodes (Came n input)) (map (λ a. Came n a) (hops k (site_in w p n) (after_one (site_in w p n) (nodes.local n) input) (first_own (site_in w p n) (nodes.local n) input)))
 rest_can k w p n nodes (Asked op line) plan can = first_can k w p n nodes (Asked op line) plan can refl
 rest_can k w p n nodes AskedPlan plan can = first_can k w p n nodes AskedPlan plan can refl
+rest_can k w p n nodes (AskedLook mark volume) plan can = first_can k w p n nodes (AskedLook mark volume) plan can refl
 rest_can k w p n nodes (Brought from letter) plan can = first_can k w p n nodes (Brought from letter) plan can refl
 rest_can k w p n nodes (Shortened from short bytes) plan can = first_can k w p n nodes (Shortened from short bytes) plan can refl
 rest_can k w p n nodes (Ticked session) plan can = first_can k w p n nodes (Ticked session) plan can refl

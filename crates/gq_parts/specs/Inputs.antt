@@ -6,11 +6,11 @@ use Rattle.gq_desk.specs.CheckedPlan.{CheckedPlan, row_at}
 use Rattle.gq_model.specs.declared.events.Line.{Line}
 use Rattle.gq_model.specs.declared.events.Line.TheVariants.{Bad as NoLine}
 use Rattle.gq_node.specs.declared.lanes.TheConstants.{LANES}
-use Rattle.gq_node.specs.Inputs.{Input, Asked, AskedPlan, Brought, Shortened, Ticked, Looked, Joined as HeardJoined, Fetching, Fetched as WasFetched}
+use Rattle.gq_node.specs.Inputs.{Input, Asked, AskedPlan, AskedLook, Brought, Shortened, Ticked, Looked, Joined as HeardJoined, Fetching, Fetched as WasFetched}
 use Rattle.gq_node.specs.Shorts.{own_short}
 use Rattle.gq_node.specs.Sites.{Here, session_at}
 use Rattle.gq_wire.specs.declared.incoming.Incoming.{Incoming}
-use Rattle.gq_wire.specs.declared.incoming.Incoming.TheVariants.{Request, Plan, Bad, Letter, ShortLetter, Joins, Joined, Speaks, Fetch, Fetched, Tick, Greet, Nothing}
+use Rattle.gq_wire.specs.declared.incoming.Incoming.TheVariants.{Request, Plan, Look, Bad, Letter, ShortLetter, Joins, Joined, Speaks, Fetch, Fetched, Tick, Greet, Nothing}
 use Rattle.gq_wire.specs.Incoming.{incoming_of}
 
 -- one input of that tenant, and none of any other
@@ -37,6 +37,7 @@ ticks_of plan here t = session_ticks plan here t ++ lane_ticks plan t
 abbrev pub inputs_with : List ℕ → CheckedPlan → Here → Incoming → ℕ → List Input
 inputs_with bytes plan here (Request tenant op line) t = alone tenant (Asked op line) t
 inputs_with bytes plan here (Plan tenant) t = alone tenant AskedPlan t
+inputs_with bytes plan here (Look tenant mark volume) t = alone tenant (AskedLook mark volume) t
 inputs_with bytes plan here (Bad tenant) t = alone tenant (Asked 0 NoLine) t
 inputs_with bytes plan here (Letter from m) t = alone m.tenant (Brought from (own_message m)) t
 inputs_with bytes plan here (ShortLetter from s) t = alone s.tenant (Shortened from (own_short s) bytes) t
@@ -57,6 +58,7 @@ inputs_of plan here incoming t = inputs_with [] plan here incoming t
 abbrev pub is_for : ℕ → Incoming → Bool
 is_for t (Request tenant op line) = t == tenant
 is_for t (Plan tenant) = t == tenant
+is_for t (Look tenant mark volume) = t == tenant
 is_for t (Bad tenant) = t == tenant
 is_for t (Letter from m) = t == m.tenant
 is_for t (ShortLetter from s) = t == s.tenant

@@ -30,7 +30,7 @@ use Rattle.gq_wire.proofs.ValuesBack.{name_at}
 pub short_number : (n : ℕ) → n < 2 ^ 32 → length (decimal n) ≤ 10
 short_number n fits = length-decimal-le 10 n (omega arith) (omega arith) (omega arith)
 
-long_number : (n : ℕ) → n < 2 ^ 64 → length (decimal n) ≤ 20
+pub long_number : (n : ℕ) → n < 2 ^ 64 → length (decimal n) ≤ 20
 long_number n fits = length-decimal-le 20 n (omega arith) (omega arith) fits
 
 pub short_name : (name : Word) → is_name name ≡ true → length name ≤ 16

@@ -1,5 +1,5 @@
 -- The line of a request is read as that request.
-use Rattle.std.proofs.Common.{◌≡◌, ℕ, ◌+◌, ◌*◌, ◌<◌, ◌≤◌, List, [], ◌∷◌, length, Some, None, true, false, refl, ap, ◌∙◌, arith, length-append}
+use Rattle.std.proofs.Common.{◌≡◌, ℕ, ◌+◌, ◌*◌, ◌^◌, ◌<◌, ◌≤◌, List, [], ◌∷◌, length, Some, None, true, false, refl, ap, ◌∙◌, arith, length-append}
 use Rattle.std.specs.Prelude.{codes, decimal, nat_le, nat_lt}
 use Rattle.std.specs.List.{list_all}
 use Rattle.std.proofs.lemmas.Bool.{and_parts, eq-eqb, ne_eqb, le-leb, lt-leb, leb-true, le-ltb}
@@ -11,16 +11,17 @@ use Rattle.gq_model.specs.declared.events.Line.TheVariants.{Write, Read, List as
 use Rattle.gq_text.specs.Words.{Word, number_of, number_up_to}
 use Rattle.gq_text.specs.AnswerText.{bytes_word, content_word, spaced}
 use Rattle.gq_text.specs.Canonical.{IsPlan, IsNumber}
-use Rattle.gq_text.proofs.Numbers.{numbers_read_back}
-use Rattle.gq_text.proofs.Plain.{are_plain, decimal_plain, bytes_plain, content_plain}
+use Rattle.gq_text.proofs.Numbers.{numbers_read_back, long_numbers_read_back}
+use Rattle.gq_text.proofs.Plain.{are_plain, decimal_plain, long_plain, bytes_plain, content_plain}
 use Rattle.gq_text.proofs.LinesBack.{words_back}
 use Rattle.gq_text.proofs.EventsBack.{line_of-bytes, line_of-words}
-use Rattle.gq_wire.specs.declared.incoming.Incoming.TheVariants.{Request, Plan}
+use Rattle.gq_wire.specs.declared.incoming.Incoming.TheVariants.{Request, Plan, Look}
+use Rattle.gq_wire.specs.Questions.{mark_and_volume, look_of, look_words}
 use Rattle.gq_wire.specs.Requests.{request_of, request_words}
 use Rattle.gq_wire.specs.Incoming.{is_only, incoming_of_words, longest_line}
-use Rattle.gq_wire.specs.Laws.{FitsRequest, request_text, write_text, plan_text, RequestsReadBack, WritesReadBack, PlansReadBack}
+use Rattle.gq_wire.specs.Laws.{FitsRequest, request_text, write_text, plan_text, look_text, RequestsReadBack, WritesReadBack, PlansReadBack, LooksReadBack}
 use Rattle.gq_wire.proofs.ValuesBack.{name_at, name_is_plain, place_back}
-use Rattle.gq_wire.proofs.Lengths.{short_number, short_name, bytes_length-le, content_length-le, one_more, number_more, fits_longest}
+use Rattle.gq_wire.proofs.Lengths.{short_number, long_number, short_name, bytes_length-le, content_length-le, one_more, number_more, fits_longest}
 
 -- ---- a name is no number
 
@@ -69,6 +70,13 @@ no_plan blocks op (Read k v f) fits = refl
 no_plan blocks op (ListFiles k v) fits = refl
 no_plan blocks op (Abandon k) fits = refl
 no_plan blocks op line fits = absurd fits
+
+no_look : (blocks op : ℕ) (line : Line) → FitsRequest blocks op line → look_of (request_words op line) ≡ None
+no_look blocks op (Write k v f bytes) fits = refl
+no_look blocks op (Read k v f) fits = refl
+no_look blocks op (ListFiles k v) fits = refl
+no_look blocks op (Abandon k) fits = refl
+no_look blocks op line fits = absurd fits
 
 words_short : (blocks op : ℕ) (line : Line) → FitsRequest blocks op line → length (spaced (request_words op line)) ≤ 52 + 2 * (BLOCK_BYTES * blocks)
 words_short blocks op (Write k v f bytes) fits =
@@ -123,6 +131,7 @@ line_back plan to t op line is to_fits within fits =
       name_is_no_number (row_at plan t).name (name_at plan t is within),
       place_back plan t is within,
       no_plan (row_at plan t).most_blocks op line fits,
+      no_look (row_at plan t).most_blocks op line fits,
       words_back_as (row_at plan t).most_blocks op line fits,
     ) refl
 
@@ -169,6 +178,10 @@ no_question : (op k v f : ℕ) (bytes : List ℕ) → is_only (codes "plan") (wr
 unfolding write_words
 no_question op k v f bytes = refl
 
+no_look_either : (op k v f : ℕ) (bytes : List ℕ) → look_of (write_words op k v f bytes) ≡ None
+unfolding write_words
+no_look_either op k v f bytes = refl
+
 write_line_back : (plan : CheckedPlan) (to t op k v f : ℕ) (bytes : List ℕ) → IsPlan plan → IsNumber to → t < length plan.rows → FitsRequest (row_at plan t).most_blocks op (Write k v f bytes) →
     incoming_of_words plan to (decimal to ∷ (row_at plan t).name ∷ write_words op k v f bytes) ≡ Request t op (Write k v f bytes)
 unfolding incoming_of_words
@@ -179,6 +192,7 @@ write_line_back plan to t op k v f bytes is to_fits within fits =
       name_is_no_number (row_at plan t).name (name_at plan t is within),
       place_back plan t is within,
       no_question op k v f bytes,
+      no_look_either op k v f bytes,
       write_back (row_at plan t).most_blocks op k v f bytes fits,
     ) refl
 
@@ -213,3 +227,41 @@ plans_read_back plan to t is to_fits within =
     let short : nat_lt (longest_line plan) (length (plan_text plan to t)) ≡ false = le-ltb (longest_line plan) (length (plan_text plan to t)) (plan_short plan to t is to_fits within) in
     let others : are_plain ((row_at plan t).name ∷ codes "plan" ∷ []) ≡ true = rw (name_is_plain plan t is within) refl in
     rw short (ap (incoming_of_words plan to) (words_back (decimal to) ((row_at plan t).name ∷ codes "plan" ∷ []) (decimal_plain to to_fits) others) ∙ plan_back plan to t is to_fits within)
+
+-- ---- the question what a server has of a volume
+
+look_plain : (mark volume : ℕ) → mark < 2 ^ 64 → IsNumber volume → are_plain (look_words mark volume) ≡ true
+look_plain mark volume fits number = rw (long_plain mark fits, decimal_plain volume number) refl
+
+look_words_back : (mark volume : ℕ) → mark < 2 ^ 64 → IsNumber volume → look_of (look_words mark volume) ≡ Some (mark, volume)
+unfolding mark_and_volume
+look_words_back mark volume fits number = rw (long_numbers_read_back mark fits, numbers_read_back volume number) refl
+
+look_short : (mark volume : ℕ) → mark < 2 ^ 64 → IsNumber volume → length (spaced (look_words mark volume)) ≤ 37
+look_short mark volume fits number =
+    let last = number_more volume [] 0 number (omega arith) in
+    let marked = one_more (decimal mark) (decimal volume ∷ []) 20 11 (long_number mark fits) (omega (arith, last)) in
+    omega (arith, one_more (codes "look") (decimal mark ∷ decimal volume ∷ []) 4 32 (omega arith) (omega (arith, marked)))
+
+look_text_short : (plan : CheckedPlan) (to t mark volume : ℕ) → IsPlan plan → IsNumber to → t < length plan.rows → mark < 2 ^ 64 → IsNumber volume → length (look_text plan to t mark volume) ≤ longest_line plan
+look_text_short plan to t mark volume is to_fits within fits number =
+    let name = one_more (row_at plan t).name (look_words mark volume) 16 37 (short_name (row_at plan t).name (name_at plan t is within)) (look_short mark volume fits number) in
+    omega (arith, length-append (decimal to) (spaced ((row_at plan t).name ∷ look_words mark volume)), short_number to to_fits, name)
+
+look_back : (plan : CheckedPlan) (to t mark volume : ℕ) → IsPlan plan → IsNumber to → t < length plan.rows → mark < 2 ^ 64 → IsNumber volume →
+    incoming_of_words plan to (decimal to ∷ (row_at plan t).name ∷ look_words mark volume) ≡ Look t mark volume
+unfolding incoming_of_words
+look_back plan to t mark volume is to_fits within fits number =
+    rw (
+      numbers_read_back to to_fits,
+      eq-eqb to to refl,
+      name_is_no_number (row_at plan t).name (name_at plan t is within),
+      place_back plan t is within,
+      look_words_back mark volume fits number,
+    ) refl
+
+pub looks_read_back : LooksReadBack
+looks_read_back plan to t mark volume is to_fits within fits number =
+    let short : nat_lt (longest_line plan) (length (look_text plan to t mark volume)) ≡ false = le-ltb (longest_line plan) (length (look_text plan to t mark volume)) (look_text_short plan to t mark volume is to_fits within fits number) in
+    let others : are_plain ((row_at plan t).name ∷ look_words mark volume) ≡ true = rw (name_is_plain plan t is within) (look_plain mark volume fits number) in
+    rw short (ap (incoming_of_words plan to) (words_back (decimal to) ((row_at plan t).name ∷ look_words mark volume) (decimal_plain to to_fits) others) ∙ look_back plan to t mark volume is to_fits within fits number)

@@ -16,6 +16,7 @@ use Rattle.gq_wire.specs.Incoming.{longest_line}
 use Rattle.gq_wire.specs.declared.incoming.Incoming.{Incoming}
 use Rattle.gq_wire.specs.declared.incoming.Incoming.TheVariants.{Tick, Greet, Nothing}
 use Rattle.gq_wire.specs.Values.{number_then, within_byte, byte_then, long_then, last_content, copy_of, alone}
+use Rattle.gq_wire.specs.Questions.{mark_and_volume, look_of}
 use Rattle.gq_wire.specs.Requests.{write_by, read_by, list_by, line_by, request_by, request_of}
 use Rattle.gq_node.specs.declared.lost.TheConstants.{NODE_NUMBERS}
 use Rattle.gq_node.specs.declared.shorts.ShortBody.TheVariants.{Want}
@@ -203,6 +204,15 @@ by_words_fails (verb ∷ words) =
 request_fails : (words : List Word) → request_of (marked words) ≡ None
 request_fails words = sym (same_request (marked words)) ∙ by_words_fails words
 
+mark_fails : (words : List Word) → mark_and_volume (marked words) ≡ None
+unfolding mark_and_volume
+mark_fails words =
+    step_fails _ (λ n ws. step_fails _ (λ v vs. alone_fails vs (n, v)) (number_then (marked ws)) (number_marked ws)) (long_then (marked words)) (long_marked words)
+
+look_fails : (words : List Word) → look_of (marked words) ≡ None
+look_fails [] = refl
+look_fails (verb ∷ words) = both (bytes_eq verb (codes "look")) _ None None (mark_fails words) refl
+
 -- ---- the line
 
 only_fails : (word : Word) → bytes_eq (63 ∷ []) word ≡ false → (words : List Word) → is_only word (marked words) ≡ false
@@ -210,9 +220,9 @@ only_fails word other [] = other
 only_fails word other (w ∷ []) = refl
 only_fails word other (w ∷ v ∷ words) = refl
 
-tenant_formless : (o : Option ℕ) (words : List Word) → is_only (codes "plan") words ≡ false → request_of words ≡ None → is_formless (from_tenant o words) ≡ true
-tenant_formless None words no_plan fails = refl
-tenant_formless (Some t) words no_plan fails = rw (no_plan, fails) refl
+tenant_formless : (o : Option ℕ) (words : List Word) → is_only (codes "plan") words ≡ false → look_of words ≡ None → request_of words ≡ None → is_formless (from_tenant o words) ≡ true
+tenant_formless None words no_plan no_look fails = refl
+tenant_formless (Some t) words no_plan no_look fails = rw (no_plan, no_look, fails) refl
 
 -- a choice of two of which one is that nothing is done
 chosen : (b : Bool) (x : Incoming) → is_formless x ≡ true → (is_formless (cond b x Nothing) ≡ true) × (is_formless (cond b Nothing x) ≡ true)
@@ -240,14 +250,14 @@ node_formless plan here from (word ∷ words) =
     rw (number_behind_fails (codes "joins") word words, number_behind_fails (codes "joined") word words, number_behind_fails (codes "speaks") word words) (name_formless here from (place_named plan word) words)
 
 from_formless : (plan : CheckedPlan) (here : ℕ) (from : Option ℕ) (word : Word) (words : List Word) → is_formless (incoming_from plan here from word (marked words)) ≡ true
-from_formless plan here None word words = tenant_formless (place_named plan word) (marked words) (only_fails (codes "plan") refl words) (request_fails words)
+from_formless plan here None word words = tenant_formless (place_named plan word) (marked words) (only_fails (codes "plan") refl words) (look_fails words) (request_fails words)
 from_formless plan here (Some n) word words =
     rw (only_fails (codes "tick") refl words, only_fails (codes "greet") refl words) (chosen (nat_lt n NODE_NUMBERS) (cond (n == here && false) Tick (cond (n == here && false) Greet (node_words plan here n (marked words)))) (no_tick (n == here) (node_words plan here n (marked words)) (node_formless plan here n words))).0
 
 words_formless : (plan : CheckedPlan) (here : ℕ) (words : List Word) → is_formless (incoming_of_words plan here (marked words)) ≡ true
 unfolding incoming_of_words number_up_to request_of
 words_formless plan here [] = refl
-words_formless plan here (to ∷ []) = (chosen (is_to here (number_of to)) (from_tenant (place_named plan (63 ∷ [])) []) (tenant_formless (place_named plan (63 ∷ [])) [] refl refl)).0
+words_formless plan here (to ∷ []) = (chosen (is_to here (number_of to)) (from_tenant (place_named plan (63 ∷ [])) []) (tenant_formless (place_named plan (63 ∷ [])) [] refl refl refl)).0
 words_formless plan here (to ∷ from ∷ words) = (chosen (is_to here (number_of to)) (incoming_from plan here (number_of from) from (marked words)) (from_formless plan here (number_of from) from words)).0
 
 pub torn_lines_have_no_form : TornLinesHaveNoForm

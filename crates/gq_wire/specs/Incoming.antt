@@ -14,7 +14,8 @@ use Rattle.gq_text.specs.Words.{Word, words_of, number_of}
 use Rattle.gq_text.specs.Input.{place_named}
 use Rattle.gq_wire.specs.declared.incoming.TheConstants.{MOST_LINE, BESIDE_CONTENT}
 use Rattle.gq_wire.specs.declared.incoming.Incoming.{Incoming}
-use Rattle.gq_wire.specs.declared.incoming.Incoming.TheVariants.{Request, Plan, Bad, Letter, ShortLetter, Joins, Joined, Speaks, Fetch, Fetched, Tick, Greet, Nothing}
+use Rattle.gq_wire.specs.declared.incoming.Incoming.TheVariants.{Request, Plan, Look, Bad, Letter, ShortLetter, Joins, Joined, Speaks, Fetch, Fetched, Tick, Greet, Nothing}
+use Rattle.gq_wire.specs.Questions.{look_of}
 use Rattle.gq_wire.specs.Requests.{request_of}
 use Rattle.gq_wire.specs.Letters.{letter_of_words, short_letter_of}
 use Rattle.gq_wire.specs.Fetching.{number_behind, fetch_of, fetched_of}
@@ -25,6 +26,11 @@ abbrev pub request_or_bad : ℕ → Option (ℕ × Line) → Incoming
 request_or_bad t (Some request) = Request t request.0 request.1
 request_or_bad t None = Bad t
 
+-- it asks what the server has of a volume; or else the line is another
+abbrev pub look_or : ℕ → Option (ℕ × ℕ) → Incoming → Incoming
+look_or t (Some asked) other = Look t asked.0 asked.1
+look_or t None other = other
+
 -- the words are this one, and no more
 abbrev pub is_only : Word → List Word → Bool
 is_only word (w ∷ []) = bytes_eq w word
@@ -32,7 +38,7 @@ is_only word _ = false
 
 -- from the tenant at that place of the plan; nobody else is one
 abbrev pub from_tenant : Option ℕ → List Word → Incoming
-from_tenant (Some t) body = if is_only (codes "plan") body then Plan t else request_or_bad t (request_of body)
+from_tenant (Some t) body = if is_only (codes "plan") body then Plan t else look_or t (look_of body) (request_or_bad t (request_of body))
 from_tenant None body = Nothing
 
 -- ---- from a node
@@ -124,6 +130,7 @@ incoming_of plan here line = if nat_lt (longest_line plan) (length line) then No
 abbrev pub FitsPlan : CheckedPlan → Incoming → Type 0
 FitsPlan plan (Request tenant op line) = tenant < length plan.rows
 FitsPlan plan (Plan tenant) = tenant < length plan.rows
+FitsPlan plan (Look tenant mark volume) = tenant < length plan.rows
 FitsPlan plan (Bad tenant) = tenant < length plan.rows
 FitsPlan plan (Letter from m) = (m.tenant < length plan.rows) × (m.file.tenant ≡ m.tenant)
 FitsPlan plan (ShortLetter from s) = (s.tenant < length plan.rows) × (s.file.tenant ≡ s.tenant)

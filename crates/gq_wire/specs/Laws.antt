@@ -24,8 +24,9 @@ use Rattle.gq_text.specs.Words.{Word}
 use Rattle.gq_text.specs.AnswerText.{bytes_word, content_word, spaced}
 use Rattle.gq_text.specs.Canonical.{IsPlan, IsNumber}
 use Rattle.gq_wire.specs.declared.incoming.Incoming.{Incoming}
-use Rattle.gq_wire.specs.declared.incoming.Incoming.TheVariants.{Request, Plan, Bad, Letter, ShortLetter, Joins, Joined, Speaks, Fetch, Fetched, Nothing}
+use Rattle.gq_wire.specs.declared.incoming.Incoming.TheVariants.{Request, Plan, Look, Bad, Letter, ShortLetter, Joins, Joined, Speaks, Fetch, Fetched, Nothing}
 use Rattle.gq_wire.specs.Values.{copy_of}
+use Rattle.gq_wire.specs.Questions.{look_words}
 use Rattle.gq_wire.specs.Requests.{request_words}
 use Rattle.gq_wire.specs.Letters.{is_of_round}
 use Rattle.gq_wire.specs.Incoming.{incoming_of}
@@ -207,6 +208,18 @@ plan_text plan to tenant = decimal to ++ spaced ((row_at plan tenant).name ∷ c
 abbrev pub PlansReadBack : Type 0
 PlansReadBack =
     (plan : CheckedPlan) (to tenant : ℕ) → IsPlan plan → IsNumber to → tenant < length plan.rows → incoming_of plan to (plan_text plan to tenant) ≡ Plan tenant
+
+-- ---- the question what a server has of a volume
+
+-- the line of it to that node, without its newline
+abbrev pub look_text : CheckedPlan → (to tenant mark volume : ℕ) → List ℕ
+look_text plan to tenant mark volume = decimal to ++ spaced ((row_at plan tenant).name ∷ look_words mark volume)
+
+-- it is read as that question
+abbrev pub LooksReadBack : Type 0
+LooksReadBack =
+    (plan : CheckedPlan) (to tenant mark volume : ℕ) → IsPlan plan → IsNumber to → tenant < length plan.rows → mark < 2 ^ 64 → IsNumber volume →
+    incoming_of plan to (look_text plan to tenant mark volume) ≡ Look tenant mark volume
 
 -- ---- lines that are not for the node
 

@@ -1,4 +1,5 @@
 pub mod Values
+pub mod Questions
 pub mod Requests
 pub mod Letters
 pub mod Fetching

@@ -1,5 +1,5 @@
 -- The lines that a node writes.
-use Rattle.std.specs.Prelude.{ℕ, List, [], ◌∷◌, ◌++◌, ◌+◌, ◌==◌, ◌&&◌, Bool, nat_le, if◌then◌else◌, codes, decimal, length, map, slice_index_or}
+use Rattle.std.specs.Prelude.{ℕ, List, [], ◌∷◌, ◌++◌, ◌+◌, ◌==◌, ◌&&◌, Bool, nat_le, if◌then◌else◌, codes, decimal, length, map, slice_index_or, Option, Some, None}
 use Rattle.gq_tag.specs.declared.Tag.{Tag}
 use Rattle.gq_tag.specs.declared.FileId.{FileId}
 use Rattle.gq_tag.specs.declared.StoredCopy.{StoredCopy}
@@ -9,21 +9,23 @@ use Rattle.gq_tag.specs.declared.Message.{Message}
 use Rattle.gq_desk.specs.declared.volumes.VolumeRow.{VolumeRow}
 use Rattle.gq_desk.specs.CheckedPlan.{CheckedPlan, row_at}
 use Rattle.gq_grid.specs.Grid.{Grid}
+use Rattle.gq_phase.specs.declared.Row.{Row}
 use Rattle.gq_model.specs.declared.events.Line.{Line}
 use Rattle.gq_model.specs.declared.events.Line.TheVariants.{Write, Read, List as ListFiles}
 use Rattle.gq_model.specs.declared.events.Refusal.{Refusal}
 use Rattle.gq_model.specs.declared.events.Refusal.TheVariants.{NoVolume, NoFile, TooLong}
 use Rattle.gq_text.specs.Words.{Word}
-use Rattle.gq_text.specs.AnswerText.{bytes_word, outcome_words, refusal_words, line_text}
+use Rattle.gq_text.specs.AnswerText.{bytes_word, file_word, outcome_words, refusal_words, line_text}
 use Rattle.gq_wire.specs.declared.answers.TheConstants.{VOLUMES_ONE_BY_ONE}
 use Rattle.gq_node.specs.declared.shorts.Short.{Short}
 use Rattle.gq_node.specs.declared.shorts.ShortBody.{ShortBody}
 use Rattle.gq_node.specs.declared.shorts.ShortBody.TheVariants.{AskAbove, Tagged, Confirm, Want}
 use Rattle.gq_node.specs.declared.output.Answer.{Answer}
 use Rattle.gq_node.specs.declared.output.Holding.{Holding}
+use Rattle.gq_node.specs.declared.output.Look.{Look}
 use Rattle.gq_node.specs.declared.output.Transfer.{Transfer}
 use Rattle.gq_node.specs.declared.output.Transfer.TheVariants.{Wants, Brings}
-use Rattle.gq_node.specs.declared.output.Answer.TheVariants.{Done, Gone, Refused, Old, Early, Busy, Away, Has, Bad}
+use Rattle.gq_node.specs.declared.output.Answer.TheVariants.{Done, Gone, Refused, Old, Early, Busy, Away, Has, Looked, NotLooked, Bad}
 use Rattle.gq_wire.specs.declared.incoming.TheConstants.{LINE_FORM}
 
 -- the first line that a node writes
@@ -180,9 +182,20 @@ abbrev pub holding_words : Holding → List Word
 holding_words has =
     decimal has.servers ∷ decimal has.home ∷ decimal has.sessions ∷ decimal has.share ∷ decimal has.most_blocks ∷ volumes_words has.volumes ++ map decimal has.nodes
 
+-- ---- what a server has of a volume
+
+-- of a file: the length and the tag of its copy, or `-` where it lacks the file
+abbrev pub held_word : Option Row → Word
+held_word None = codes "-"
+held_word (Some row) = file_word row
+
+-- the number of the question, the volume, how many losses the node's plan tells of, and the files
+abbrev pub looked_words : Look → List Word
+looked_words look = codes "looked" ∷ decimal look.mark ∷ decimal look.volume ∷ decimal look.losses ∷ map held_word look.rows
+
 -- ---- what a tenant is told
 
--- the words of an answer to the request `asked`, or to the question what the tenant has, by a node of this grid
+-- the words of an answer to the request `asked`, or to a question, by a node of this grid
 abbrev pub told_words : Grid → Line → Answer → List Word
 told_words grid asked (Done outcome) = codes "done" ∷ outcome_words outcome
 told_words grid asked (Gone session op) = codes "gone" ∷ decimal session ∷ decimal op ∷ []
@@ -192,6 +205,8 @@ told_words grid asked (Early session op last) = codes "refused" ∷ codes "early
 told_words grid asked (Busy session op last) = codes "refused" ∷ codes "busy" ∷ last_words session op last
 told_words grid asked (Away session op home) = codes "refused" ∷ codes "home" ∷ decimal home ∷ decimal session ∷ decimal op ∷ []
 told_words grid asked (Has has) = codes "plan" ∷ holding_words has ++ form_word ∷ grid_words grid
+told_words grid asked (Looked look) = looked_words look
+told_words grid asked (NotLooked mark volume) = codes "refused" ∷ codes "novolume" ∷ decimal mark ∷ decimal volume ∷ []
 told_words grid asked Bad = codes "refused" ∷ codes "bad" ∷ []
 
 -- the line of it, from that node

@@ -5,15 +5,15 @@ ghost use Rattle.std.specs.List.{flat_map};
 ghost use Rattle.gq_desk.specs.CheckedPlan.{row_at};
 ghost use Rattle.gq_text.specs.AnswerText.{line_text, spaced, outcome_words};
 ghost use Rattle.gq_text.specs.Pieces.{words_in, Extends};
-ghost use Rattle.gq_wire.specs.Texts.{volume_in, file_in, length_in, word_of, refusal_words_of, volume_word, are_alike, run_word, runs_behind, run_words, volumes_words, holding_words, form_word, grid_words, told_words, told_line};
+ghost use Rattle.gq_wire.specs.Texts.{volume_in, file_in, length_in, word_of, refusal_words_of, volume_word, are_alike, run_word, runs_behind, run_words, volumes_words, holding_words, form_word, grid_words, held_word, looked_words, told_words, told_line};
 
 use crate::incoming::LINE_FORM;
 use gq_desk::{Plan, VolumeRow};
 use gq_grid::Grid;
 use gq_memory::{GrowCopies, GrowVec, OutOfMemory};
 use gq_model::{Line, Refusal};
-use gq_node::{Answer, Holding};
-use gq_phase::Outcome;
+use gq_node::{Answer, Holding, Look};
+use gq_phase::{Outcome, Row};
 use gq_text::{Piece, put_done, put_number, put_words};
 
 /// The most open volumes of a tenant that are told one by one. Where there are more, those that are alike, one after another, are told at once.
@@ -383,8 +383,54 @@ fn put_has(
     out.grow(b'\n')
 }
 
+// Appends what the server has of a file, after a space.
+fn put_held(out: &mut Vec<u8>, row: &Option<Row>) -> Result<(), OutOfMemory>
+    ensures ok { OnOk result (out.new.items ≡ out.old.items ++ 32 ∷ held_word row.now) }
+    ensures err { OnErr result (Extends out.old.items out.new.items) }
+{
+    let Some(row) = row else {
+        return out.grow_by(b" -");
+    };
+    put_spaced(out, row.length)?;
+    out.grow(b':')?;
+    put_number(out, row.tag.number)?;
+    out.grow(b'.')?;
+    put_number(out, u64::from(row.tag.session))
+}
+
+// Appends what it has of each file.
+fn put_rows(out: &mut Vec<u8>, rows: &[Option<Row>]) -> Result<(), OutOfMemory>
+    ensures ok { OnOk result (out.new.items ≡ out.old.items ++ spaced (map held_word rows.now)) }
+    ensures err { OnErr result (Extends out.old.items out.new.items) }
+{
+    for row in rows {
+        put_held(out, row)?;
+    }
+    Ok(())
+}
+
+// Appends the line of what the server has of a volume.
+fn put_looked(
+    out: &mut Vec<u8>,
+    plan: &Plan,
+    from: u16,
+    tenant: u8,
+    look: &Look,
+) -> Result<(), OutOfMemory>
+    requires { tenant < length plan.now.rows }
+    ensures ok { OnOk result (out.new.items ≡ out.old.items ++ line_text (row_at plan.now tenant).name (decimal from ∷ looked_words look.now)) }
+    ensures err { OnErr result (Extends out.old.items out.new.items) }
+{
+    put_head(out, plan, from, tenant)?;
+    out.grow_by(b" looked")?;
+    let numbers = [look.mark, u64::from(look.volume), look.losses as u64];
+    put_numbers(out, &numbers)?;
+    put_rows(out, look.rows.items.as_slice())?;
+    out.grow(b'\n')
+}
+
 /// Appends the line by which the node of that number tells the tenant this, or a part of it where memory is refused. `asked` is
-/// the request that is answered; where an operation is done by a letter, and where the tenant is told what it has, it is not looked at.
+/// the request that is answered; where an operation is done by a letter, and where a question is answered, it is not looked at.
 pub fn put_told(
     out: &mut Vec<u8>,
     plan: &Plan,
@@ -437,6 +483,18 @@ pub fn put_told(
             ],
         ),
         Answer::Has(holding) => put_has(out, plan, from, tenant, holding),
+        Answer::Looked(look) => put_looked(out, plan, from, tenant, look),
+        Answer::NotLooked { mark, volume } => put_line(
+            out,
+            plan,
+            from,
+            tenant,
+            &[
+                Piece::Text(b"refused novolume"),
+                Piece::Number(*mark),
+                Piece::Number(u64::from(*volume)),
+            ],
+        ),
         Answer::Bad => put_line(out, plan, from, tenant, &[Piece::Text(b"refused bad")]),
     }
 }

@@ -8,7 +8,7 @@ ghost use Rattle.gq_wire.specs.Incoming.{is_only, is_tick, is_greet, behind_name
 
 use crate::fetching::{fetch, fetched, number_behind};
 use crate::letters::{letter, short_letter};
-use crate::requests::request;
+use crate::requests::{look, request};
 use gq_desk::{Plan, TenantRow};
 use gq_memory::OutOfMemory;
 use gq_model::Line;
@@ -24,9 +24,9 @@ pub const MOST_LINE: usize = 4095;
 /// The most bytes of a line beside the digits of a content that is as long as a file of the plan may be.
 const BESIDE_CONTENT: usize = 255;
 
-/// This program speaks all forms of lines between nodes up to this one. Another number is told to other nodes and to tenants once a form comes
-/// that programs of before can't read.
-pub const LINE_FORM: u32 = 2;
+/// This program speaks all forms of lines up to this one, those between nodes and those of tenants. Another number is told to other nodes and to
+/// tenants once a form comes that programs of before can't read.
+pub const LINE_FORM: u32 = 3;
 
 /// What a line is to a node.
 #[derive(Drop)]
@@ -40,6 +40,12 @@ pub enum Incoming {
     /// That tenant asks what it has.
     Plan {
         tenant: u8,
+    },
+    /// That tenant asks, with this number, what the server has of a volume.
+    Look {
+        tenant: u8,
+        mark: u64,
+        volume: u32,
     },
     /// A line of that tenant whose body has no form.
     Bad {
@@ -192,6 +198,13 @@ fn from_tenant(
     };
     if is_only(text, b"plan") {
         return Ok(Incoming::Plan { tenant });
+    }
+    if let Some((mark, volume)) = look(text) {
+        return Ok(Incoming::Look {
+            tenant,
+            mark,
+            volume,
+        });
     }
     match request(alloc, text)? {
         Some((op, line)) => Ok(Incoming::Request { tenant, op, line }),

@@ -1,6 +1,6 @@
 //! What is read of the lines that are written.
 
-ghost use Rattle.gq_wire.specs.Laws.{AllJoinsReadBack, CopiesInDigitsReadBack, FormsReadBack, LettersReadBack, ShortsReadBack, TransfersReadBack, PassesOver, PlansReadBack, RequestsReadBack, TornLinesHaveNoForm, WritesReadBack};
+ghost use Rattle.gq_wire.specs.Laws.{AllJoinsReadBack, CopiesInDigitsReadBack, FormsReadBack, LettersReadBack, LooksReadBack, ShortsReadBack, TransfersReadBack, PassesOver, PlansReadBack, RequestsReadBack, TornLinesHaveNoForm, WritesReadBack};
 
 /// The line of a letter, up to its newline, is read by the node that it is to as that letter.
 pub fn letters_read_back()
@@ -26,11 +26,12 @@ pub fn transfers_read_back()
 {}
 
 /// The line of a request is read by the node that it is to as that request, with the number of its operation, whether a content is
-/// written in digits or in bytes; and that by which a tenant asks what it has, as this question.
+/// written in digits or in bytes; and those by which a tenant asks what it has, and what a server has of a volume, as these questions.
 pub fn requests_read_back()
     ensures requests { RequestsReadBack }
     ensures writes { WritesReadBack }
     ensures plans { PlansReadBack }
+    ensures looks { LooksReadBack }
 {}
 
 /// A node passes over what nodes write to tenants, and to other nodes.

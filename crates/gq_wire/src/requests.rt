@@ -2,9 +2,10 @@
 
 ghost use Rattle.std.specs.Prelude.{◌≡◌, IfOk};
 ghost use Rattle.gq_text.specs.Words.{words_after};
+ghost use Rattle.gq_wire.specs.Questions.{mark_and_volume, look_of};
 ghost use Rattle.gq_wire.specs.Requests.{write_by, read_by, list_by, abandon_by, line_by, request_of};
 
-use crate::values::{last_content, take_number};
+use crate::values::{last_content, take_long, take_number};
 use gq_memory::OutOfMemory;
 use gq_model::Line;
 use gq_text::{is_end, next_word};
@@ -102,4 +103,28 @@ pub(crate) fn request(alloc: Global, text: &[u8]) -> Result<Option<(u32, Line)>,
         Some(line) => Ok(Some((op, line))),
         None => Ok(None),
     }
+}
+
+// The number of a question and the volume, where no word follows.
+#[tactic(auto, unfolding(crate::specs::Questions::mark_and_volume))]
+fn mark_and_volume(text: &[u8]) -> Option<(u64, u32)>
+    ensures { result ≡ mark_and_volume (words_after text.now) }
+{
+    let (mark, rest) = take_long(text)?;
+    let (volume, rest) = take_number(rest)?;
+    if !is_end(rest) {
+        return None;
+    }
+    Some((mark, volume))
+}
+
+/// The number that a tenant gives its question what the server has of a volume, and the volume.
+pub(crate) fn look(text: &[u8]) -> Option<(u64, u32)>
+    ensures { result ≡ look_of (words_after text.now) }
+{
+    let (verb, rest) = next_word(text)?;
+    if verb != b"look".as_slice() {
+        return None;
+    }
+    mark_and_volume(rest)
 }

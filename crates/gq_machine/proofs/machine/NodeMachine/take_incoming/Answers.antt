@@ -2,10 +2,10 @@
 use Rattle.std.proofs.Common.{◌≡◌, ◌<◌, ◌∷◌, [], length, refl, sym, ap, subst}
 use Rattle.gq_tag.specs.Tag.{own_message, file_place}
 use Rattle.gq_model.specs.declared.events.Line.TheVariants.{Bad as NoLine}
-use Rattle.gq_node.specs.Inputs.{Asked, AskedPlan, Brought, Joined as HeardJoined, Fetching, Fetched as WasFetched}
+use Rattle.gq_node.specs.Inputs.{Asked, AskedPlan, AskedLook, Brought, Joined as HeardJoined, Fetching, Fetched as WasFetched}
 use Rattle.gq_wire.specs.Incoming.{FitsPlan}
 use Rattle.gq_wire.specs.declared.incoming.Incoming.{Incoming}
-use Rattle.gq_wire.specs.declared.incoming.Incoming.TheVariants.{Request, Plan as AsksPlan, Bad, Letter, ShortLetter, Joined, Speaks, Fetch, Fetched, Nothing}
+use Rattle.gq_wire.specs.declared.incoming.Incoming.TheVariants.{Request, Plan as AsksPlan, Look as AsksLook, Bad, Letter, ShortLetter, Joined, Speaks, Fetch, Fetched, Nothing}
 use Rattle.gq_node.specs.Tables.{Tables}
 use Rattle.gq_node.specs.declared.node.Node.{Node}
 use Rattle.gq_parts.specs.Texts.{joined_text, greeting_text}
@@ -26,6 +26,13 @@ returns-in-Plan c =
     let within : c.in-Plan.tenant < length w.plan.rows = subst (λ (i : Incoming). FitsPlan w.plan i) c.in-Plan.is c.requires in
     let P : Incoming → Type 0 = λ i. TookIncoming w i c.args.facts.now.items c.question.new.facts.items c.args.told.now.items c.question.new.told.items c.question.new.self.node.tables in
     on_ok c.question.result (λ one. subst P (sym c.in-Plan.is) (all_took w c.question.new.self.node.tables (AsksPlan c.in-Plan.tenant) _ _ _ _ (took_alone w c.question.new.self.node.tables c.in-Plan.tenant (AskedPlan ∷ []) _ _ _ _ within one) tt (λ parts. refl))) c.question.ensures
+
+pub returns-in-Look : goal.returns-in-Look
+returns-in-Look c =
+    let w = c.args.self.now.node.tables in
+    let within : c.in-Look.tenant < length w.plan.rows = subst (λ (i : Incoming). FitsPlan w.plan i) c.in-Look.is c.requires in
+    let P : Incoming → Type 0 = λ i. TookIncoming w i c.args.facts.now.items c.look_at.new.facts.items c.args.told.now.items c.look_at.new.told.items c.look_at.new.self.node.tables in
+    on_ok c.look_at.result (λ one. subst P (sym c.in-Look.is) (all_took w c.look_at.new.self.node.tables (AsksLook c.in-Look.tenant c.in-Look.mark c.in-Look.volume) _ _ _ _ (took_alone w c.look_at.new.self.node.tables c.in-Look.tenant (AskedLook c.in-Look.mark c.in-Look.volume ∷ []) _ _ _ _ within one) tt (λ parts. refl))) c.look_at.ensures
 
 pub returns-in-Bad : goal.returns-in-Bad
 returns-in-Bad c =

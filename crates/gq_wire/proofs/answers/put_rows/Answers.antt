@@ -1,0 +1,5 @@
+use Rattle.gq_text.proofs.Extending.{extends_more, on_err}
+use Rattle.gq_wire.proofs.answers.put_rows.Goals as goal
+
+pub returns-in_err-put_held-clause-err : goal.returns-in_err-put_held-clause-err
+returns-in_err-put_held-clause-err c = on_err _ (extends_more _ _ _ _ c.loop-row.invariant c.in_err-put_held.ensures.err)
