@@ -43,7 +43,7 @@ SHARP = [
 # What bob and the nodes write for him, and ticks, each with what the node writes (but for the form of copies): a write that is done, asked for again, and read; a store and
 # an ask of session 2, whose home is node 1; a listing that goes on; and a question of a node of the column for a copy.
 LINES = [
-    (b"0 bob plan", b"bob 0 plan 4 0 4 8 16 2.1 lines=2 rows=2 columns=2\n"),
+    (b"0 bob plan", b"bob 0 plan 4 0 4 8 16 2.1 lines=3 rows=2 columns=2\n"),
     (b"0 1 joins 0", b"1 0 joined 0\n"),
     (b"0 bob write 1 1 0 1 aabb", b"1 0 bob 1 1 1 0 1 ask 18446744073709551615 255\n"),
     (b"0 bob write 1 1 0 1 aabb", b""),
@@ -66,7 +66,7 @@ LINES = [
     (b"0 bob write 1 4 9 9 00", b"bob 0 refused early 1 4 2\n"),
     (b"0 bob nonsense", b"bob 0 refused bad\n"),
     (b"0 2 bob fetch 0 1", b"2 0 bob fetched 0 1 4 1 aabb\n"),
-    (b"0 bob plan", b"bob 0 plan 4 0 4 8 16 2.1 lines=2 rows=2 columns=2\n"),
+    (b"0 bob plan", b"bob 0 plan 4 0 4 8 16 2.1 lines=3 rows=2 columns=2\n"),
 ]
 # Two facts of each session that has its home here, 1 and 5 of ann and 1 of bob, and one of each file.
 MOST_FACTS = 2 * 3 + 4

@@ -19,7 +19,7 @@ from gridfs_grid.one_machine import InUse, lock
 CLIENT = os.path.join(HERE, "..", "..", "clients", "python", "gridfs-client")
 NAMES = ["ann", "bob"]
 SECONDS = 25  # that something may take until it is told to be wrong
-LINE_FORM = 2  # of lines between nodes: that of this program
+LINE_FORM = 3  # of lines between nodes: that of this program
 DAY = 86_400
 UP = "nodes are up"
 FILES = {"plan", "begun"}  # what others may read, as far as the folder lets them

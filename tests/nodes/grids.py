@@ -29,7 +29,7 @@ ANSWERS = [
     "bob done list 1 2 0:0.0 0:0.0 0:0.0 0:0.0 0:0.0 0:0.0 0:0.0 0:0.0",
     "ann done write 1 3 tag 2 1",
     "ann done read 4 2 tag 2 1 ff",
-    "bob plan 4 0 2 16 16 8.2 lines=2 rows=2 columns=2",
+    "bob plan 4 0 2 16 16 8.2 lines=3 rows=2 columns=2",
 ]
 OF_A_LOSS = 1_099_511_627_776  # numbers of tags that are left for what is written between two losses
 # A node's journal is lost, and a new node takes its place; so twice at one place, and then at the place of its peer.
@@ -50,7 +50,7 @@ LOST = [  # (operations without their numbers, which hang on when a node starts 
     "node 65 stands in the place of node 1",
     f"ann done read 36 tag {OF_A_LOSS + 1} 20 aa",
     "ann done read 3 tag 1 4 6869",
-    "bob plan 4 0 2 16 16 8.2 65 131 lines=2 rows=2 columns=2",
+    "bob plan 4 0 2 16 16 8.2 65 131 lines=3 rows=2 columns=2",
     "node 131 is lost: it is down, and its journal is gone",
 ]
 LOST_AGAIN = "grid: node 131 is down: its journal is gone (`replace 131` puts a new node in its place)"
@@ -141,7 +141,7 @@ class Grids:
         status, _, told = self.run("--plan", folder + ".row", folder + ".one", given="lose 0\nreplace 0\n")
         fault = "grid: line 2: no node 64 may be put in the place of node 0: gridfs: the plan: line 6: replace"
         self.held("a grid of one row", (status, told[1:]), (1, [fault]))
-        self.held("and starts again without its node", self.run(folder + ".one", given="ann plan\n")[:2], (0, "ann plan 2 0 2 4 16 4.1 lines=2 rows=1 columns=2\n"))
+        self.held("and starts again without its node", self.run(folder + ".one", given="ann plan\n")[:2], (0, "ann plan 2 0 2 4 16 4.1 lines=3 rows=1 columns=2\n"))
 
     def takes_large_lines(self, folder):
         with open(folder + ".plan", "w", encoding="ascii") as out:

@@ -42,7 +42,13 @@ LINES = {
     "contents in bytes with no form": (WRITE + b"=\\\n" + WRITE + b"=\\x\n" + WRITE + b"=a b\n" + WRITE + b"-=\n", 4 * BAD),
     "a content in bytes": (STORE + b"3 2 =a\\sb\\n\\bn\xff=\n0 1 ann 2 1 1 0 0 ask\n", STORED + b"1 0 ann 2 1 1 0 0 copy 3 2 6120620a5c6eff3d\n"),
     "a content in bytes that is too long": (WRITE + b"=" + b"\\s" * 129 + b"\n" + WRITE + b"=" + b"\\s" * 128 + b"\n", b"ann 0 refused toolong 1 1 0 0 129\n" + ASK_TAG),
-    "what a tenant has": (b"0 ann plan\n0 bob plan\n0 ann plan 1\n0 zed plan\n", b"ann 0 plan 4 0 4 16 16 4.2 1.1 lines=2 rows=2 columns=2\nbob 0 plan 4 0 2 16 16 1.1 lines=2 rows=2 columns=2\n" + BAD),
+    "what a tenant has": (b"0 ann plan\n0 bob plan\n0 ann plan 1\n0 zed plan\n", b"ann 0 plan 4 0 4 16 16 4.2 1.1 lines=3 rows=2 columns=2\nbob 0 plan 4 0 2 16 16 1.1 lines=3 rows=2 columns=2\n" + BAD),
+    "what the server has of a volume": (
+        b"0 ann look 7 0\n" + STORE + b"5 2 6869\n0 ann look 18446744073709551615 0\n0 bob look 7 0\n0 ann look 0 1\n",
+        b"ann 0 looked 7 0 0 0:0.0 0:0.0 0:0.0 0:0.0\n" + STORED + b"ann 0 looked 18446744073709551615 0 0 2:5.2 0:0.0 0:0.0 0:0.0\nbob 0 looked 7 0 0 0:0.0\nann 0 looked 0 1 0 0:0.0\n",
+    ),
+    "a look at a volume that is not there": (b"0 ann look 7 2\n0 bob look 4294967296 4294967295\n", b"ann 0 refused novolume 7 2\nbob 0 refused novolume 4294967296 4294967295\n"),
+    "looks with no form": (b"0 ann look\n0 ann look 7\n0 ann look 7 0 0\n0 ann look 07 0\n0 ann look 18446744073709551616 0\n0 ann look 7 4294967296\n0 ann looks 7 0\n0 1 look 7 0\n0 zed look 7 0\n1 ann look 7 0\n", 7 * BAD),
     "refusals": (
         WRITE + b"aa" * 200 + b"\n0 ann list 1 1 5\n0 ann read 1 1 0 7\n0 ann read 9 1 0 0\n0 ann read 2 1 0 0\n0 ann read 1 0 0 0\n0 ann read 1 5 0 0\n0 ann abandon 1 1\n",
         b"ann 0 refused toolong 1 1 0 0 200\nann 0 refused novolume 1 1 5\nann 0 refused nofile 1 1 0 7\nann 0 refused nosession 9 1\n"
@@ -128,7 +134,7 @@ ROOM_LINES = {
     "with room, a line of the most bytes": (filled(LONGEST) + READ, BAD + ASK),
     "with room, a line of one byte more": (filled(LONGEST + 1) + READ, ASK),
     "with room, a line of 300,000 bytes": (filled(300_000) + READ, ASK),
-    "with room, what a tenant has": (b"0 ann plan\n0 bob plan\n", b"ann 0 plan 4 0 1 80 40 2.40 lines=2 rows=2 columns=2\nbob 0 plan 4 1 2 16 16 1.1 lines=2 rows=2 columns=2\n"),
+    "with room, what a tenant has": (b"0 ann plan\n0 bob plan\n", b"ann 0 plan 4 0 1 80 40 2.40 lines=3 rows=2 columns=2\nbob 0 plan 4 1 2 16 16 1.1 lines=3 rows=2 columns=2\n"),
     "with room, a content of the most bytes": (WRITE + b"ab" * 2560 + b"\n", ASK_TAG),
     "with room, a content of one byte more": (WRITE + b"ab" * 2561 + b"\n", b"ann 0 refused toolong 1 1 0 0 2561\n"),
     "with room, a content in bytes of the most bytes": (WRITE + b"=" + b"\\b" * 2560 + b"\n", ASK_TAG),
@@ -145,9 +151,9 @@ WIDE = (
     b"cat open 1 1 times 64\ncat open 1 1\ncat open 2 1 times 2\ncat open 1 1 times 4\ncat open 1 2\nreplace 3\n"
 )
 WIDE_LINES = {
-    "wide, what a tenant of 65 volumes has": (b"0 ann plan\n", b"ann 0 plan 4 0 1 200 16 1.1.64 1.2.1 67 lines=2 rows=2 columns=2\n"),
-    "wide, what one of 64 has": (b"0 bob plan\n", b"bob 0 plan 4 1 1 200 16 1.2" + 63 * b" 2.1" + b" 67 lines=2 rows=2 columns=2\n"),
-    "wide, what one of several runs has": (b"0 cat plan\n", b"cat 0 plan 4 2 1 100 16 1.1.65 2.1.2 1.1.4 1.2.1 67 lines=2 rows=2 columns=2\n"),
+    "wide, what a tenant of 65 volumes has": (b"0 ann plan\n", b"ann 0 plan 4 0 1 200 16 1.1.64 1.2.1 67 lines=3 rows=2 columns=2\n"),
+    "wide, what one of 64 has": (b"0 bob plan\n", b"bob 0 plan 4 1 1 200 16 1.2" + 63 * b" 2.1" + b" 67 lines=3 rows=2 columns=2\n"),
+    "wide, what one of several runs has": (b"0 cat plan\n", b"cat 0 plan 4 2 1 100 16 1.1.65 2.1.2 1.1.4 1.2.1 67 lines=3 rows=2 columns=2\n"),
     "wide, a file of the last volume": (b"0 ann read 1 1 64 0\n", b"1 0 ann 1 1 1 64 0 ask\n"),
     "wide, one of none": (b"0 ann read 1 1 65 0\n0 ann read 1 1 64 1\n", b"ann 0 refused novolume 1 1 65\nann 0 refused nofile 1 1 64 1\n"),
     "wide, a line of 4,096 bytes": (filled(4096) + READ, ASK),
@@ -174,7 +180,7 @@ NAMED = b"grid 2 2\nblocks 24\ntenant ann 8 2 10\ntenant tick 8 2 10\ngo\n"
 NAMED_LINES = {
     "a tenant named tick": (
         b"0 tick list 300 0 1\n0 tick abandon 1 4000000000\n0 tick plan\n0 tick\n0 0 tick\n",
-        b"tick 0 refused nosession 300 0\ntick 0 refused home 2 1 4000000000\ntick 0 plan 4 2 2 8 16 lines=2 rows=2 columns=2\ntick 0 refused bad\n",
+        b"tick 0 refused nosession 300 0\ntick 0 refused home 2 1 4000000000\ntick 0 plan 4 2 2 8 16 lines=3 rows=2 columns=2\ntick 0 refused bad\n",
     ),
 }
 COLUMN = b"grid 2 1\nblocks 16\ntenant ann 8 2 10\ntenant bob 8 2 10\ngo\nann open 2 1\n"

@@ -65,7 +65,7 @@ ANN, BOB = [b"0 0", b"0 1", b"0 2", b"0 3", b"1 0"], [b"0 0"]
 ALL_GIVEN = b"".join(b"67 1 ann fetched %s 0 0 -\n" % file for file in ANN) + b"67 1 bob fetched 0 0 0 0 -\n"
 # Lines that a new node is given at its first start, and what it writes behind its first line.
 LINES = {
-    "what a tenant has": (b"67 ann plan\n", b"ann 67 plan 4 0 4 16 16 4.2 1.1 67 lines=2 rows=2 columns=2\n"),
+    "what a tenant has": (b"67 ann plan\n", b"ann 67 plan 4 0 4 16 16 4.2 1.1 67 lines=3 rows=2 columns=2\n"),
     "a tick": (TICK, JOINS),
     "some have joined": (b"67 1 joined 1\n" + TICK, b"0 67 joins 1\n2 67 joins 1\n"),
     "all have joined": (JOINED + TICK, FETCHES),
@@ -77,6 +77,7 @@ LINES = {
     "a file that it lacks": (ASK + STORE + b"67 1 ann fetch 0 0\n", b""),
     "tags of a file that it lacks": (ASK[:-1] + b" 1 1\n67 0 ann 1 1 2 0 0 confirm 0 0\n67 0 ann 1 1 2 0 0 confirm 9 1\n", b""),
     "a file that it was given": (GIVEN + ASK, NEXT + COPY),
+    "what its server has of a volume": (b"67 ann look 7 0\n" + GIVEN + b"67 ann look 8 0\n", b"ann 67 looked 7 0 1 - - - -\n" + NEXT + b"ann 67 looked 8 0 1 1:5.1 - - -\n"),
     "a file that it was given, asked for by its peer": (GIVEN + b"67 1 ann fetch 0 0\n67 0 ann fetch 0 0\n67 2 ann fetch 0 0\n", NEXT + b"1 67 ann fetched 0 0 5 1 aa\n"),
     "a file that it was given twice": (GIVEN + b"67 1 ann fetched 0 0 6 1 bb\n" + ASK, NEXT + COPY),
     "a file that another column gives": (b"67 0 ann fetched 0 0 5 1 aa\n67 2 ann fetched 0 0 5 1 aa\n67 3 ann fetched 0 0 5 1 aa\n" + ASK, b""),
@@ -98,7 +99,8 @@ LINES = {
 }
 # The same of an old node, 0, which is started with the plan that says that 3 was lost; and with the one that does not.
 OF_AN_OLD_ONE = {
-    "what a tenant has": (b"0 ann plan\n", b"ann 0 plan 4 0 4 16 16 4.2 1.1 67 lines=2 rows=2 columns=2\n"),
+    "what a tenant has": (b"0 ann plan\n", b"ann 0 plan 4 0 4 16 16 4.2 1.1 67 lines=3 rows=2 columns=2\n"),
+    "what its server has of a volume": (b"0 ann look 7 1\n", b"ann 0 looked 7 1 1 0:0.0\n"),
     "a new node asks whether it has joined": (b"0 67 joins 1\n0 67 joins 0\n0 67 joins 2\n0 3 joins 1\n0 2 joins 1\n", b"67 0 joined 1\n67 0 joined 0\n2 0 joined 1\n"),
     "a tick": (b"0 0 tick\n", b""),
     "a node of another column wants a file": (b"0 67 ann fetch 0 0\n0 1 ann fetch 0 0\n0 2 ann fetch 0 0\n", b"2 0 ann fetched 0 0 0 0 -\n"),
@@ -297,7 +299,7 @@ class NewNodes(Faults):
         put(self.at("named"), named)
         told = LACKS % (0, FILES)
         seen = self.node(b"67 replace plan\n", plan="named", journal="named.journal", is_new=True)
-        self.held("a tenant with that name", seen, (0, told, FIRST + b"replace 67 plan 4 0 2 16 16 1.1 67 lines=2 rows=2 columns=2\n"))
+        self.held("a tenant with that name", seen, (0, told, FIRST + b"replace 67 plan 4 0 2 16 16 1.1 67 lines=3 rows=2 columns=2\n"))
         for name, text in ALIKE.items():
             self.begin(text)
             self.held(name, get(self.at("journal")), sealed(1, b"node 67 of 2 by 2\n" + LOST) + sealed(2, BASE))

@@ -144,7 +144,7 @@ class Watch:
         elif words[2] == b"joined":
             wrong = self.joined_of(number, int(words[0]), int(words[3]))
         elif words[2] == b"speaks":
-            wrong = None if words[3:] == [b"2"] and int(words[0]) != number else "and tells another form, or itself"
+            wrong = None if words[3:] == [b"3"] and int(words[0]) != number else "and tells another form, or itself"
         elif words[3] in (b"fetch", b"fetched"):
             wrong = self.fetch_of(number, int(words[0]), *words[2:6])
         elif words[8] in (b"copy", b"stored", b"tag", b"want"):

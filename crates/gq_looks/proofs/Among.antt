@@ -1,5 +1,5 @@
 -- Looks among the operations on a file: all of them are tagged.
-use Rattle.std.proofs.Common.{◌≡◌, ◌⊎◌, ℕ, zero, suc, ◌+◌, ◌*◌, ◌<◌, ◌≤◌, Bool, true, false, List, [], ◌∷◌, ◌++◌, length, map, refl, sym, ap, ◌∙◌, subst, inl, inr, Option, Some, None, is_some, arith, nat_lt}
+use Rattle.std.proofs.Common.{◌≡◌, ◌⊎◌, ℕ, zero, suc, ◌+◌, ◌*◌, ◌<◌, ◌≤◌, Bool, true, false, List, [], ◌∷◌, ◌++◌, length, map, refl, sym, ap, ◌∙◌, subst, inl, inr, Option, Some, None, is_some, arith}
 use Rattle.std.specs.Prelude.{IsSome, Contains, slice_get, option_map}
 use Rattle.std.proofs.lemmas.Bool.{ltb-true}
 use Rattle.gq_grid.specs.Grid.{Grid}
@@ -8,8 +8,8 @@ use Rattle.gq_tag.specs.declared.StoredCopy.{StoredCopy}
 use Rattle.gq_tag.specs.Tag.{first_tag, File, is_less}
 use Rattle.gq_tag.proofs.Order.{IsAtMost, less_at_most}
 use Rattle.gq_desk.specs.declared.plans.TenantRow.{TenantRow}
-use Rattle.gq_phase.specs.Phase.{Writing, Listing}
-use Rattle.gq_model.specs.Trace.{files_of, Turn, Trace, start, volumes}
+use Rattle.gq_phase.specs.Phase.{Writing}
+use Rattle.gq_model.specs.Trace.{files_of, Turn, start, volumes}
 use Rattle.gq_model.specs.Lone.{lone}
 use Rattle.gq_laws.specs.Laws.{lone_operations, IsRising, answered_at}
 use Rattle.gq_laws.specs.declared.ops.Op.{Op}
@@ -18,11 +18,10 @@ use Rattle.gq_laws.specs.Orders.{order}
 use Rattle.gq_laws.proofs.AllTagged.{all_tagged}
 use Rattle.gq_laws.proofs.Beginnings.{OpAt, op_at, at_first}
 use Rattle.gq_laws.proofs.Completed.{Completed, completed_op, MadeTag, made_tag, tagged_ended}
-use Rattle.gq_laws.proofs.Found.{contains_at}
 use Rattle.gq_laws.proofs.Opening.{listed_files, volume_files}
 use Rattle.gq_laws.proofs.Ordering.{order_legal}
 use Rattle.gq_laws.proofs.OtherPlaces.{moved_op, answered_at-moved, operations-moved, op_was, op_is, tagged-moved}
-use Rattle.gq_laws.proofs.Reaching.{Reach, reach_between, reach_run, reach_extends}
+use Rattle.gq_laws.proofs.Reaching.{reach_between, reach_run, reach_extends}
 use Rattle.gq_laws.proofs.Runs.{IsKnown, Settled}
 use Rattle.gq_laws.proofs.Sessions.{settled_since}
 use Rattle.gq_laws.proofs.Sorting.{order_is}

@@ -1,3 +1,4 @@
 pub mod Moments
 pub mod Seeing
 pub mod Among
+pub mod WorkedCase

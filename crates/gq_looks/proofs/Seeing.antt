@@ -1,21 +1,20 @@
 -- What a look tells: no less than what was settled as it began, settled as it ends, and the first copy or one that a write made.
-use Rattle.std.proofs.Common.{◌≡◌, ◌⊎◌, ℕ, zero, suc, ◌<◌, ◌≤◌, Bool, true, false, List, [], ◌∷◌, ◌++◌, length, map, refl, sym, ap, ◌∙◌, subst, inl, inr, Some, arith, eqb}
-use Rattle.std.specs.Prelude.{◌==◌, ◌||◌, Contains, slice_get}
-use Rattle.std.specs.List.{list_any}
-use Rattle.std.proofs.lemmas.Bool.{cases_Bool, eqb-true, true≢false}
-use Rattle.gq_grid.specs.Grid.{Grid, Servers}
+use Rattle.std.proofs.Common.{◌≡◌, ℕ, zero, suc, Bool, true, false, List, [], ◌∷◌, ◌++◌, map, refl, sym, ap, ◌∙◌, subst, inl, Some, arith}
+use Rattle.std.specs.Prelude.{◌==◌, Contains, slice_get}
+use Rattle.std.proofs.lemmas.Bool.{eqb-true, true≢false}
+use Rattle.gq_grid.specs.Grid.{Grid}
 use Rattle.gq_tag.specs.declared.Tag.{Tag}
 use Rattle.gq_tag.specs.declared.StoredCopy.{StoredCopy}
-use Rattle.gq_tag.specs.Tag.{File, greatest, is_less}
+use Rattle.gq_tag.specs.Tag.{File}
 use Rattle.gq_tag.proofs.Order.{IsAtMost, at_most_trans}
 use Rattle.gq_phase.proofs.Meeting.{rounds_meet, stores_have_peers}
 use Rattle.gq_desk.specs.declared.plans.TenantRow.{TenantRow}
-use Rattle.gq_model.specs.Trace.{Turn, Trace, lacks, held, questions}
+use Rattle.gq_model.specs.Trace.{Turn, Trace, held, questions}
 use Rattle.gq_laws.proofs.Holding.{keeps_had, had_keeps}
 use Rattle.gq_laws.proofs.Found.{greatest_in, greatest_bound, position_of}
 use Rattle.gq_laws.proofs.Invariant.{Invariant}
 use Rattle.gq_laws.proofs.InvariantKept.{invariant_along}
-use Rattle.gq_laws.proofs.Runs.{IsKnown, Keeps, Settled, Extends, made}
+use Rattle.gq_laws.proofs.Runs.{IsKnown, Keeps, Settled, Extends}
 use Rattle.gq_laws.proofs.Sessions.{kept_since, known_grows}
 use Rattle.gq_looks.specs.Looks.{Seen, Look, IsLook, WasSeen, trace_at, servers_of, copy_of}
 use Rattle.gq_looks.proofs.Moments.{run_at, extends_at, keeps_at}

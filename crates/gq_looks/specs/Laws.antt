@@ -1,5 +1,5 @@
 -- Looks are reads.
-use Rattle.std.specs.Prelude.{◌≡◌, List, ◌++◌, length, map, nat_lt, true, Contains}
+use Rattle.std.specs.Prelude.{◌≡◌, List, ◌++◌, map, nat_lt, true, Contains}
 use Rattle.gq_grid.specs.Grid.{Grid}
 use Rattle.gq_tag.specs.Tag.{File}
 use Rattle.gq_desk.specs.declared.plans.TenantRow.{TenantRow}
