@@ -17,6 +17,7 @@ sys.path.insert(0, os.path.join(HERE, "..", "linearizable"))
 sys.path.insert(0, os.path.join(HERE, "..", "..", "clients", "python"))
 from checker import is_linearizable
 from contents import in_digits
+from looks import Looks
 from plans import homes
 from processes import MARKER, Stepped, Wrong, disk, get, lose_power, put, words_of
 from reserved import Numbers
@@ -172,11 +173,11 @@ class Storm:
         self.write_plan()
         self.count, _ = homes(self.plan)
         self.has_one_row = self.plan.startswith("grid 1 ")
-        self.turn = self.given = self.done = self.gone = self.deaths = self.processes = 0
+        self.turn = self.given = self.done = self.gone = self.deaths = self.processes = self.looked = 0
         self.events, self.tags, self.numbers = {}, {}, Numbers()
         self.lives = [[] for _ in range(self.count)]
         self.ways = [[] for _ in range(self.count)]
-        self.stale, self.clients, self.by_name = [], {}, {}
+        self.stale, self.clients, self.by_name, self.looks = [], {}, {}, {}
         self.add_clients()
 
     def a_plan(self):
@@ -196,6 +197,8 @@ class Storm:
             if name in self.volumes and (name, session) not in self.clients:
                 client = self.clients[name, session] = self.client(self, name, session, home)
                 self.by_name.setdefault(name.encode(), []).append(client)
+                if name not in self.looks:
+                    self.looks[name] = Looks(self, name)
 
     # ---- nodes
 
@@ -340,7 +343,13 @@ class Storm:
             return
         if draw < 2 * self.weather.lost + self.weather.repeated:
             self.stale.append(line)
-        name, _, body = line.split(b" ", 2)
+        self.told(line)
+
+    def told(self, line):
+        """A line comes to a tenant: to each of its clients."""
+        name, number, body = line.split(b" ", 2)
+        if body.startswith(b"looked "):
+            return self.looks[name.decode()].hear(int(number), body)
         for client in self.by_name.get(name, []):
             client.sender.hear(body)
 
@@ -361,6 +370,8 @@ class Storm:
                     client.begin_anew()
                 if draw.random() < 0.006:
                     client.sender.give_up()
+            for looks in self.looks.values():
+                looks.turn()
             self.deliver()
             if self.weather.nonsense and draw.random() < self.weather.nonsense:
                 self.send(self.nonsense())
@@ -372,10 +383,7 @@ class Storm:
             for line in self.due(client):
                 self.send(line)
         if self.stale and self.draw.random() < 0.05:
-            line = self.stale.pop(self.draw.randrange(len(self.stale)))
-            name, _, body = line.split(b" ", 2)
-            for client in self.by_name.get(name, []):
-                client.sender.hear(body)
+            self.told(self.stale.pop(self.draw.randrange(len(self.stale))))
 
     def due(self, client):
         return client.sender.due(self.turn * TURN)
