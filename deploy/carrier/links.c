@@ -23,7 +23,10 @@
 enum {
     HOSTS = 320,                /* most other nodes, with those that were replaced */
     SESSIONS = 241,             /* numbers of sessions, with 0 */
+    ASKED = 1024,               /* the last requests of a tenant about chunks, of which it is known who made them */
+    KEY = 128,                  /* bytes of a line in which what it is about has to stand */
     OF_A_TENANT = 32,           /* most connections of a tenant */
+    STUCK = 5,                  /* seconds after which a reader who took nothing does not hold up his tenant's others */
     STRANGERS = 32,             /* most connections of a listener that have not shown a certificate yet */
     NEWCOMERS = 100,            /* connections that a listener takes in a second; twice as many at once */
     CHAIN = 16384,              /* bytes of certificates that the other end may show */
@@ -51,7 +54,8 @@ struct peer {                   /* a node or a tenant that is connected, or was 
     char name[NAME + 1];
     struct queue *queue;
     struct link *of[OF_A_TENANT], *by_session[SESSIONS];
-    size_t many;
+    struct { uint64_t chunk; struct link *link; } asked[ASKED];   /* by turns; a link of NULL: it was answered, or has ended */
+    size_t many, asked_many;
     bool is_slow;
 };
 struct host {                   /* another node, as the file of hosts has it */
@@ -159,6 +163,8 @@ static void unlink_peer(struct link *link) {
         if (peer->of[i] == link) peer->of[i] = peer->of[--peer->many];
     for (size_t i = 0; i < SESSIONS; i++)
         if (peer->by_session[i] == link) peer->by_session[i] = NULL;
+    for (size_t i = 0; i < ASKED; i++)
+        if (peer->asked[i].link == link) peer->asked[i].link = NULL;
 }
 
 static void welcome(struct link *link, const char *name) {
@@ -247,13 +253,56 @@ static size_t session_of(const char *body, size_t length) {
     return number < SESSIONS && (body == end || *body == ' ') ? number : 0;
 }
 
+/* What a request about chunks and its answer are known by, a sum of two words; 0: it is of something else. A chunk is asked for by whose session it is, which
+   says nothing of who asks. */
+static uint64_t chunk_of(const char *body, size_t length) {
+    static const struct { const char *verb; size_t one, other; } forms[] = {{"keep", 1, 2}, {"kept", 1, 2}, {"get", 1, 2}, {"got", 1, 2}, {"none", 1, 2}, {"lacks", 1, 2},
+        {"damaged", 1, 2}, {"chunks", 1, 2}, {"forget", 1, 3}, {"forgot", 1, 3}, {"room", 0, 0}, {"refused", 2, 3}};
+    struct { const char *text; size_t length; } words[4] = {{NULL, 0}};
+    const char *end = body + (length < KEY ? length : KEY), *at = body;
+    for (size_t i = 0; i < 4 && at < end; i++) {
+        const char *space = memchr(at, ' ', (size_t)(end - at));
+        words[i].text = at, words[i].length = (size_t)((space ? space : end) - at);
+        at = space ? space + 1 : end;
+    }
+    for (size_t i = 0; i < sizeof forms / sizeof *forms; i++) {
+        if (words[0].length != strlen(forms[i].verb) || memcmp(body, forms[i].verb, words[0].length)) continue;
+        uint64_t sum = 14695981039346656037u;
+        for (size_t at_word = forms[i].one; at_word; at_word = at_word == forms[i].other ? 0 : forms[i].other) {
+            for (size_t k = 0; k < words[at_word].length; k++) sum = (sum ^ (unsigned char)words[at_word].text[k]) * 1099511628211u;
+            sum = (sum ^ ' ') * 1099511628211u;
+        }
+        return sum | 1;
+    }
+    return 0;
+}
+
+static void note_asked(struct peer *peer, uint64_t chunk, struct link *link) {
+    size_t at = peer->asked_many++ % ASKED;
+    peer->asked[at].chunk = chunk, peer->asked[at].link = link;
+}
+
+/* Who asked for this first, of those who were not answered yet. */
+static struct link *who_asked(struct peer *peer, uint64_t chunk) {
+    for (size_t i = 0; i < ASKED; i++) {
+        size_t at = (peer->asked_many + i) % ASKED;
+        struct link *link = peer->asked[at].link;
+        if (!link || peer->asked[at].chunk != chunk) continue;
+        peer->asked[at].link = NULL;
+        return link;
+    }
+    return NULL;
+}
+
 static void lines(struct link *link, const char *text, size_t length) {
     struct peer *peer = link->peer;
     if (is_tenant(peer->name)) {
         const char *end = text + length;
         for (const char *line = text, *stop; line < end; line = stop + 1) {
             if (!(stop = memchr(line, '\n', (size_t)(end - line)))) stop = end;
-            size_t session = session_of(line, (size_t)(stop - line));
+            uint64_t chunk = chunk_of(line, (size_t)(stop - line));
+            size_t session = chunk ? 0 : session_of(line, (size_t)(stop - line));
+            if (chunk) note_asked(peer, chunk, link);
             if (session) peer->by_session[session] = link;
         }
     }
@@ -314,6 +363,7 @@ static bool put(struct link *link, const char *body, size_t length) {
     struct stream *stream = &link->stream;
     size_t waits = 0;
     for (size_t i = 0; i < link->peer->many; i++) waits += unwritten(&link->peer->of[i]->stream);
+    link->peer->queue->told = waits + length + 1;
     if (waits + length + 1 > bound) {
         count.slow++;
         if (!link->peer->is_slow && !is_tenant(link->peer->name)) say("node %s takes less than node %s writes: drops lines", link->peer->name, me);
@@ -328,15 +378,30 @@ static bool put(struct link *link, const char *body, size_t length) {
     return true;
 }
 
-/* An answer goes to the connection on which its session asked last; an answer of no session goes to all connections of the tenant. */
+/* Whether so much waits for a tenant that answers to more of his lines could find no room. One who has taken nothing for a while does not count: he would hold
+   up all others until he is cut off. */
+bool engine_is_behind(struct queue *queue, double time) {
+    struct peer *peer = peer_of(queue->name, strlen(queue->name), false);
+    queue->told = 0;
+    for (size_t i = 0; peer && i < peer->many; i++) {
+        const struct stream *stream = &peer->of[i]->stream;
+        if (stream->since + STUCK > time) queue->told += unwritten(stream);
+    }
+    return queue->told > bound / 2;
+}
+
+/* An answer about chunks goes to the connection that asked, another one to that on which its session asked last; an answer of no session goes to all connections
+   of the tenant. */
 void engine_carry(const char *to, size_t name, const char *body, size_t length) {
     struct peer *peer = peer_of(to, name, false);
-    if (!peer || !peer->many) {
+    uint64_t chunk = peer && peer->many && is_tenant(peer->name) ? chunk_of(body, length) : 0;
+    struct link *only = chunk ? who_asked(peer, chunk) : NULL;
+    if (!peer || !peer->many || (chunk && !only && memcmp(body, "refused ", 8))) {
         count.lost++;
         return;
     }
-    size_t session = is_tenant(peer->name) ? session_of(body, length) : 0;
-    struct link *only = session ? peer->by_session[session] : NULL;
+    size_t session = is_tenant(peer->name) && !only ? session_of(body, length) : 0;
+    if (session) only = peer->by_session[session];
     bool went = false;
     if (only) went = put(only, body, length);
     else

@@ -282,6 +282,12 @@ void engine_read_words(void) {
     if (!password_file && !certificate) wrong("--password-file", "is wanting");
 }
 
+/* (The broker keeps what waits for a tenant.) */
+bool engine_is_behind(struct queue *queue, double time) {
+    (void)queue, (void)time;
+    return false;
+}
+
 double engine_turn(double time) {
     if (state == COMING || state == HERE) use_broker(0);
     if (state == AWAY && !fault && time >= next_try) try_broker();

@@ -24,7 +24,7 @@ enum {
     AHEAD = 4 << 20,            /* .. in between so many that they make it write no more than this */
     PRICE = 800,                /* bytes that each line adds to its own in a tenant's rate, short lines of the node that it causes among them */
     SHORT = 255,                /* bytes of a line of the node that costs a tenant no more than that */
-    PART = 4,                   /* so many bytes of longer ones cost him as much as one of his own */
+    PART = 4,                   /* so many bytes of longer ones cost him as much as one of his own short ones; so do those of his own behind the first LONGEST */
     ENDS = 10,                  /* seconds that the node has to end once it has closed its output */
     TENANTS = 64,               /* of a plan; what more of them bring is told in one sum */
     METRICS = 10,               /* seconds between two writes of the metrics */
@@ -142,7 +142,7 @@ struct queue *queue_of(const char *name, size_t length) {
     memset(empty->name, 0, sizeof empty->name);
     memcpy(empty->name, name, length);
     snprintf(empty->head, sizeof empty->head, "%s %s ", me, empty->name);
-    empty->dropped = 0, empty->paid_until = 0, empty->given_to = 0;
+    empty->dropped = 0, empty->paid_until = 0, empty->given_to = 0, empty->told = 0;
     return empty;
 }
 
@@ -251,7 +251,8 @@ static void give_lines(struct queue *queue, size_t bytes, double time) {
         tick_waits -= bytes < tick_waits ? bytes : tick_waits;
         if (!tick_waits) tick_end = given + chunk_held;
     }
-    if (is_tenant(queue->name)) charge(queue, bytes + PRICE * count_lines(text, bytes), time);
+    size_t cost = bytes > LONGEST ? LONGEST + (bytes - LONGEST) / PART : bytes;     /* (of more than TURN it is one line) */
+    if (is_tenant(queue->name)) charge(queue, cost + PRICE * count_lines(text, bytes), time);
     queue->given_to = given + chunk_held;
     forget(queue, bytes);
 }
@@ -262,10 +263,12 @@ static uint64_t read_by_node(void) {
 }
 
 /* When the next lines of a name may be given; 0: now. A tenant who has used more than his rate waits, so that he can't keep the node busy
-   alone; and until the node has read those before, since each of them may make it write a long answer before another's line. */
-static double waits_until(const struct queue *queue, uint64_t read, double time) {
+   alone; and until the node has read those before, since each of them may make it write a long answer before another's line; and as long as
+   he takes his answers so slowly that more of them would find no room. */
+static double waits_until(struct queue *queue, uint64_t read, double time) {
     double rests = rests_until(queue, time);
-    return is_tenant(queue->name) && queue->given_to > read && rests < time + LOOK ? time + LOOK : rests;
+    bool waits = is_tenant(queue->name) && (queue->given_to > read || (queue->told > bound / 2 && engine_is_behind(queue, time)));
+    return waits && rests < time + LOOK ? time + LOOK : rests;
 }
 
 /* Bytes of the lines that a name gives in one turn. */

@@ -26,6 +26,7 @@ struct queue {                  /* whole lines from one name that wait for the n
     size_t first, end, room;
     double paid_until;          /* how much of its rate a tenant has used */
     uint64_t given_to;          /* where its last lines end in what was written to the node */
+    size_t told;                /* bytes that waited for a tenant when he was told something last */
     int users;                  /* as long as there are some, no other name gets this queue */
     long dropped;
     struct tally *tally;        /* of a tenant; NULL for a node */
@@ -63,6 +64,7 @@ extern const struct word engine_words[];        /* the last one has no word */
 void engine_read_words(void);                   /* looks at its words, before the node starts */
 bool engine_begin(void);                        /* after the node's start; false if it can't begin, with `fault` if that is known */
 void engine_carry(const char *to, size_t name, const char *body, size_t length);    /* takes one line, without its LF */
+bool engine_is_behind(struct queue *queue, double time);        /* whether a tenant has to take more of what he was told, before his next lines are given */
 double engine_turn(double time);                /* writes what waits; the time at which it has to be called again */
 bool engine_is_empty(void);                     /* whether nothing waits to be written */
 const char *engine_counts(void);                /* its own counts, for the line of counts */

@@ -2,6 +2,7 @@
 
 import random
 import unittest
+from collections import Counter
 
 from servers import MOST, Net, Server, Servers
 
@@ -194,6 +195,25 @@ class Kept(unittest.TestCase):
             self.assertLessEqual(sum(body.startswith(b"keep") for _, body in self.net.sent), 20 + most)
             self.assertEqual(list(chunks.get(wanted(runs, map(len, pieces)))), pieces)
             self.assertLessEqual(sum(body.startswith(b"get") for _, body in self.net.sent), 10 + most)
+
+    def test_no_line_is_sent_that_would_be_lost(self):
+        net, waiting, lost = Net(self.servers), Counter(), []
+        send, to_node = net.send, net.to_node
+        net.would_lose = lambda node, size: waiting[node] + size > 2 * MOST
+
+        def counted(node, body):
+            lost.extend([node] if net.would_lose(node, len(body)) else [])
+            waiting[node] += len(body)
+            send(node, body)
+
+        def left(node, body):
+            waiting[node] -= len(body)
+            to_node(node, body)
+
+        net.send, net.to_node = counted, left
+        pieces = [bytes([at]) * (MOST // 2) for at in range(20)]
+        self.expect_kept(client(net).keep(iter(pieces), 0), pieces)
+        self.assertEqual((lost, sum(body.startswith(b"keep") for _, body in net.sent)), ([], 40))
 
     def test_one_long_line_at_a_time_where_the_connection_bears_no_more(self):
         uplink = module.uplink_of(self.net)

@@ -25,7 +25,8 @@ THREE = "grid 1 3\nblocks 64\ntenant ann 8 16 1\ngo\nann open 2 2\n"
 ROOM = "grid 1 2\nroom 20000\ntenant ann 16384 16 1 16384\ngo\n"
 RUNS = "grid 1 2\nroom 916\ntenant bob 16 1 1 16\ntenant ann 900 16 1 16 600\ngo\nbob open 1 1\n" + "ann open 1 1\nann open 2 1\n" * 300
 WIDE = "grid 1 2\nroom 20000\ntenant ann 4094 16 1 4094\ntenant bob 16 1 1 16\ngo\n"  # (the longest lines that don't raise the rate above 8 MiB a second)
-LONG = b"6" * 500_000  # of a line by WIDE: it costs three times what a tenant may use at once
+CHUNKS = "grid 1 2\nblocks 64\ntenant ann 8 16 1\ntenant bob 8 16 1\ngo\nann open 2 2\nbob open 2 2\nann chunks 9000\nbob chunks 9000\n"
+LONG = b"6" * 500_000  # of a line by WIDE: it costs three quarters of what a tenant may use at once
 SOON = 5  # seconds in which what is to come has come
 NODE = "exec 3<&0; cat <&3 >{folder}/in.{number} & exec cat {folder}/out.{number}"
 STILL = "exec cat {folder}/out.{number}"
@@ -339,6 +340,52 @@ def answers_go_home(program, folder):
     finally:
         check(carry.end() == 0, carry.told())
         check("strange 4 " in carry.told() and "lost 1 " in carry.told(), carry.told())
+
+
+def chunks_go_home(program, folder):
+    """Of a tenant's connections each is told what it asked of chunks, whosever they are, and no other is; what is asked of a chunk takes no session away."""
+    carry = fresh(program, folder)
+    numbers = [b"%d" % (1 << 40 | each) for each in range(4)]
+    try:
+        with come(carry, "ann") as first, come(carry, "ann") as second:
+            first.sendall(b"write 1 7 0 0 aa\nget 3 %b 0 9\nkeep 1 %b ~a\nroom\nforget 3 9 5 6\n" % (numbers[0], numbers[1]))
+            carry.gets(b"0 ann forget 3 9 5 6")
+            second.sendall(b"get 1 %b 0 9\nget 3 %b 0 9\nget 3 %b 0 9\nchunks 3 0\nforget 3 9 6 6\n" % (numbers[2], numbers[0], numbers[3]))
+            carry.gets(b"0 ann forget 3 9 6 6")
+            carry.says(b"".join(b"ann 0 %b\n" % line for line in [
+                b"done write 1 7 tag 1 2", b"got 3 %b 9 0 ~first" % numbers[0], b"refused room 1 %b 5" % numbers[1], b"room 5 7 0 0", b"forgot 3 9 5 6",
+                b"damaged 1 %b" % numbers[2], b"got 3 %b 9 0 ~second" % numbers[0], b"none 3 %b" % numbers[3], b"chunks 3 0 0 7.1 end", b"forgot 3 9 6 6", b"kept 1 9 0", b"refused bad",
+            ]))  # fmt: skip
+            told = [line.split(b" ")[0] for line in hear(first, 6)], [line.split(b" ")[0] for line in hear(second, 6)]
+            check(told == ([b"done", b"got", b"refused", b"room", b"forgot", b"refused"], [b"damaged", b"got", b"none", b"chunks", b"forgot", b"refused"]), f"they are told {told}")
+            second.close()
+            wait_for(lambda: second.fileno() < 0, "")
+    finally:
+        check(carry.end() == 0, carry.told())
+        check("lost 1 " in carry.told(), carry.told())
+
+
+def a_tenant_who_takes_his_time(program, folder):
+    """Amid answers that wait for a tenant no more of his lines are given, so that none is dropped; another's are, and his too once he has taken nothing at all for a
+    while."""
+    carry = fresh(program, folder, CHUNKS)
+    content, most = b"x" * 900_000, 40  # (the system takes some of them)
+    try:
+        with come(carry, "ann") as ann, come(carry, "bob") as bob:
+            for number in range(most):
+                ann.sendall(b"get 1 %d 0 9\n" % number)
+                try:
+                    carry.gets(b"0 ann get 1 %d 0 9" % number, seconds=SOON if number < 4 else 0.5)
+                except Wrong:
+                    break
+                carry.says(b"ann 0 got 1 %d 9 0 ~" % number + content + b"\n")
+            check(number < most - 1, "lines are given, however much waits for their tenant")
+            bob.sendall(b"get 1 3 0 9\n")
+            carry.gets(b"0 bob get 1 3 0 9")
+            carry.gets(b"0 ann get 1 %d 0 9" % number, seconds=4 * SOON)
+    finally:
+        check(carry.end() == 0, carry.told())
+        check(" slow 0 " in carry.told(), carry.told())
 
 
 def nodes_are_linked(program, folder):
@@ -829,7 +876,11 @@ def metrics_are_true(program, folder):
             check(dropped == {"lost": 1, "full": 0, "slow": 0, "long": 0, "strange": 1, "memory": 0}, f"of lines that were dropped: {dropped}")
             for _ in range(30):
                 ann.sendall(b"write 1 1 0 0 " + LONG + b"\n")
-            told = carry.tells(path, lambda told: told.of("tenant_lines_total", 'tenant="ann"') == 40, "a flood is not told")
+            told = carry.tells(path, lambda told: told.of("tenant_lines_total", 'tenant="ann"') == 40, "long lines are not told")
+            check(told.of("tenant_over_rate_seconds_total", 'tenant="ann"') < 1, f"long lines cost as much as short ones: {told}")
+            for _ in range(30):
+                ann.sendall((b"write 1 1 0 0 " + LONG[:4_000] + b"\n") * 60)
+            told = carry.tells(path, lambda told: told.of("tenant_lines_total", 'tenant="ann"') == 1_840, "a flood is not told")
             told = carry.tells(path, lambda told: told.of("tenant_over_rate_seconds_total", 'tenant="ann"') > 1, "that ann had to wait is not told")
             ticks = told.of("node_ticks_total")
             carry.tells(path, lambda told: told.of("node_ticks_total") > ticks, "ticks are not told")
@@ -952,5 +1003,5 @@ def metrics_as_prometheus_reads(program, folder):
         carry.end()
 
 
-CHECKS = [odd_files, hosts_amid_a_write, its_own_ports, another_authority, costly_ones, who_may_come, a_denied_one_stays_out, who_is_gone_is_told, who_is_dialed, lines_are_whole, answers_go_home, nodes_are_linked, a_still_node, ticks, a_burst, long_answers, a_slow_reader, too_many, long_lines, what_a_tenant_of_many_volumes_has, its_end, its_words, ends_soon, a_slow_name, a_name_of_two_addresses, a_node_that_does_not_end, what_a_denied_one_said, metrics_are_true, forms_are_told, metrics_are_whole]
+CHECKS = [odd_files, hosts_amid_a_write, its_own_ports, another_authority, costly_ones, who_may_come, a_denied_one_stays_out, who_is_gone_is_told, who_is_dialed, lines_are_whole, answers_go_home, chunks_go_home, a_tenant_who_takes_his_time, nodes_are_linked, a_still_node, ticks, a_burst, long_answers, a_slow_reader, too_many, long_lines, what_a_tenant_of_many_volumes_has, its_end, its_words, ends_soon, a_slow_name, a_name_of_two_addresses, a_node_that_does_not_end, what_a_denied_one_said, metrics_are_true, forms_are_told, metrics_are_whole]
 LONG_CHECKS = [metrics_as_prometheus_reads, forms_are_told_again]

@@ -17,7 +17,7 @@ from gridfs_client import settings
 from gridfs_client.answers import Done, PlanTold
 from gridfs_client.asking import ask_plan
 from gridfs_client.errors import BadSettings, CarrierFault
-from gridfs_client.links import READ, LinkCarrier
+from gridfs_client.links import MOST_WAITS, READ, LinkCarrier
 from gridfs_client.sessions import Pace
 from gridfs_client.settings import Settings
 
@@ -165,8 +165,11 @@ def a_link_that_breaks_amid_a_send(_, folder):
 
         for _ in range(2):
             node = come()
-            while len(client.links[0].waits) < 2 * READ:
+            while not client.would_lose(0, READ):
                 client.send(0, b"x" * READ)
+            waits = len(client.links[0].waits)
+            client.send(0, b"x" * READ)
+            check(MOST_WAITS - READ < waits == len(client.links[0].waits) <= MOST_WAITS, f"{waits} bytes wait, and then {len(client.links[0].waits)}")
             node.setsockopt(socket.SOL_SOCKET, socket.SO_LINGER, struct.pack("ii", 1, 0))
             node.close()
             wait_for(lambda: client.send(0, b"y") or client.links[0].socket is None, "it holds a link that was reset")

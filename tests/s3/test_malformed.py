@@ -250,10 +250,16 @@ class Malformed(unittest.TestCase):
         sized = lambda content: b"Content-Length: %d\r\n\r\n" % len(content) + content
         completion, tagged = sized(of_parts), sized(b"<Tagging><TagSet><Tag><Key>a</Key><Value>b</Value></Tag></TagSet></Tagging>")
         removal = lambda more: (f"Content-Length: {75 + len(more)}\r\n\r\n<Delete><Object><Key>k</Key>{more}</Object><Object><Key>l</Key></Object></Delete>").encode()
+        # (a client that has the source of a copy decrypted, or its destination encrypted, by a key of its own)
+        of_key = lambda which: {f"{which}server-side-encryption-customer-{name}": text for name, text in (("algorithm", "AES256"), ("key", "eA=="), ("key-md5", "nd4aPzIfCgwBfG5SAAAAAA=="))}
+        of_source = {"x-amz-copy-source": "two/k", **of_key("x-amz-copy-source-")}
         for method, path, headers, rest in [
+            ("PUT", "/two/l", of_source, empty), ("PUT", in_parts + "&partNumber=1", of_source, empty), ("PUT", "/two/l", {"x-amz-copy-source": "two/k", **of_key("x-amz-")}, empty),
+            ("PUT", "/two/k", of_key("x-amz-"), body), ("PUT", in_parts + "&partNumber=1", of_key("x-amz-"), body), ("POST", "/two/k?uploads", of_key("x-amz-"), empty),
             ("PUT", "/two/k?renameObject", {}, empty), ("PUT", "/two/k?anything", {}, body), ("PUT", "/two/k?partNumber=1", {}, body), ("PUT", "/two/k?acl", {}, body), ("PUT", "/two?anything=1", {}, empty),
             ("PUT", in_parts + "&partNumber=1&anything", {}, body), ("DELETE", "/two/k?anything", {}, empty), ("DELETE", "/two/k?partNumber=1", {}, empty),
-            ("DELETE", "/empty?metadataTable", {}, empty), ("DELETE", "/empty?x-amz-anything", {}, empty), ("POST", "/two/k?restore", {}, empty), ("POST", "/two/k", {}, body), ("POST", "/two", {}, body),
+            ("DELETE", "/empty?metadataTable", {}, empty), ("DELETE", "/empty?x-amz-anything", {}, empty), ("DELETE", "/two/k?X-Amz-Expected-Bucket-Owner=dave", {}, empty),
+            ("PUT", "/two/k?X-Amz-Object-Lock-Mode=COMPLIANCE", {}, body), ("POST", "/two/k?uploads&X-Amz-Storage-Class=GLACIER", {}, empty), ("POST", "/two/k?restore", {}, empty), ("POST", "/two/k", {}, body), ("POST", "/two", {}, body),
             ("POST", "/two/k?uploads&anything", {}, empty), ("POST", in_parts + "&anything", {}, completion), ("PUT", "/two/k", {"x-amz-rename-source": "l"}, empty), ("PUT", "/two/k", {"x-amz-anything": "l"}, body),
             ("PUT", "/two/k", {"If-Unmodified-Since": "Mon, 01 Jan 2001 00:00:00 GMT"}, body), ("DELETE", "/two/k", {"If-Modified-Since": "Mon, 01 Jan 2001 00:00:00 GMT"}, empty),
             ("DELETE", "/two/k", {"x-amz-if-match-size": "9"}, empty), ("DELETE", "/two/k", {"x-amz-if-match-last-modified-time": "Mon, 01 Jan 2001 00:00:00 GMT"}, empty),

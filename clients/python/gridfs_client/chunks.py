@@ -17,7 +17,7 @@ from .grid import Shape, listed
 from .runs import Place, Run, runs_of
 from .sessions import LOOK, SHARE, Pace, Sent, Uplink, uplink_of
 
-MOST_AHEAD = 6 << 20  # bytes of chunks under way over a connection: fewer than may wait for one node (links.MOST_WAITS)
+MOST_AHEAD = 6 << 20  # bytes of chunks under way over a connection, and the first one of each content besides
 MOST_AT_A_TIME = 16  # chunks of a content that are under way at a time, however short they are
 MOST_NOTED = 10_000  # runs that nodes have not forgotten yet: what is more is found by a sweep
 MOST_QUESTIONS = 64  # short ones that are under way at a time
@@ -132,13 +132,16 @@ class Line:
         return max(0.0, self.chunks.carrier.now() - self.begun - self.length - self.held)
 
     def send(self) -> bool:
-        """Sends it; not where others have to be answered before."""
+        """Sends it; not where others have to be answered before, or to leave."""
         carrier, length = self.chunks.carrier, self.size / self.chunks.pace.rate * self.chunks.ahead.slow.get(self.way, 1.0)
+        node = self.chunks.node_at(self.place)
+        if carrier.would_lose(node, len(self.body)):
+            return False
         self.has_room = self.has_room or uplink_of(carrier).may_wait(len(self.body))
         if self.has_room:
             if self.first:
                 self.chunks.ahead.look_for_nodes(carrier)
-            carrier.send(self.chunks.node_at(self.place), self.body)
+            carrier.send(node, self.body)
             self.sent = Sent(self.way, carrier.now, length, self.patience * self.chunks.draw.uniform(0.8, 1.2) + length)
             self.first, self.pause, self.length = self.first or self.sent, 0.0, length
             self.patience = min(2 * self.patience, self.chunks.pace.again_at_most)

@@ -52,8 +52,11 @@ BY, KIND = f"{HEADER}algorithm", f"{HEADER}type"
 OF_BUCKETS = {"CreateBucketConfiguration": {"LocationConstraint"}}
 OF_REMOVALS = {"Delete": {"Object", "Quiet"}, "Object": {"Key", "VersionId"}}
 OF_PARTS = {"CompleteMultipartUpload": {"Part"}, "Part": {"ETag", "PartNumber", *(f"Checksum{name.upper()}" for name in ALGORITHMS)}}
-# In the query of a signed URL there are these besides, and those that begin with X-Amz-.
-OF_ANY_URL = {"x-id", "x-amz-sdk-checksum-algorithm", "x-amz-user-agent"}
+# In the query of a URL there are these besides, in letters of any case. Some clients write other headers there too, as an owner that they expect or a lock.
+OF_ANY_URL = {
+    "x-id", "x-amz-algorithm", "x-amz-content-sha256", "x-amz-credential", "x-amz-date", "x-amz-expires", "x-amz-sdk-checksum-algorithm", "x-amz-security-token", "x-amz-signature",
+    "x-amz-signedheaders", "x-amz-user-agent",
+}  # fmt: skip
 CONDITIONS, NEVER_JUDGED = {"if-match", "if-none-match"}, {"if-modified-since", "if-range", "if-unmodified-since"}
 
 
@@ -257,7 +260,7 @@ class Endpoint:
 
     def change_of(self, asked: Asked) -> Operation:
         """501 NotImplemented, 405 MethodNotAllowed."""
-        words = {name for name in asked.query if name not in OF_ANY_URL and not name.startswith(signing.IN_QUERY)}
+        words = {name for name in asked.query if name.lower() not in OF_ANY_URL}
         conditions = (CONDITIONS | NEVER_JUDGED) & asked.headers.keys()
         found = self.changes(asked.method, bool(asked.key))
         if not found:
