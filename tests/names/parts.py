@@ -15,6 +15,7 @@ from histories import HERE
 sys.path[:0] = [os.path.join(HERE, "..", "nodes"), os.path.join(HERE, "..")]
 os.environ["PATH"] += ":/usr/sbin"  # (where Debian has mosquitto and nginx)
 import commands
+import looking
 import outages
 import planted
 import registers
@@ -31,12 +32,12 @@ DEPLOY, PACKAGE = os.path.join(TOP, "deploy", "mqtt"), os.path.join(TOP, "client
 LONG, MOST_MEMORY = 100, 84  # MiB of a content, and of a process that moves it and plays the nodes too
 ATTEMPTS, LEAST_OPERATIONS, MOST_OPERATIONS = 10, 50, 2_000  # of trials over nodes; a bug has to be found within the most
 GROUPS = {"broker": "broker", "package": "checkers"}  # of tests/packages, which these parts want
-SHAPES = ("MIXED", "CROWDED", "LENDING", "REMOVING", "DYING", "SWEEPING", "UNSURE")
+SHAPES = ("MIXED", "CROWDED", "LENDING", "REMOVING", "DYING", "SWEEPING", "UNSURE", "LOOKING")
 
 
 def steps():
     loader, told = unittest.TestLoader(), io.StringIO()
-    suite = loader.loadTestsFromNames(["test_core", "test_parts", "test_sessions", "test_names", "test_status", "test_mirror", "test_journals"])
+    suite = loader.loadTestsFromNames(["test_core", "test_parts", "test_sessions", "test_names", "test_looks", "test_status", "test_mirror", "test_journals"])
     result = unittest.TextTestRunner(told, verbosity=0).run(suite)
     return f"{result.testsRun} tests", [f"{test}: {text.splitlines()[-1]}" for test, text in result.failures + result.errors]
 
@@ -73,6 +74,21 @@ def bugs():
         if not registers.is_found(bug, seed, shape=shape) or registers.is_found(registers.NamedFiles, seed, shape=shape):
             missed.append(f"{bug.__name__} is not found")
     return f"{len(planted.FOUND)} bugs in histories", missed
+
+
+def random_looks(shape, first, count):
+    total, wrong = collections.Counter(), []
+    for seed in range(first, first + count):
+        world = looking.tried(seed, getattr(looking, shape))
+        total.update(world.counts)
+        wrong += [f"seed {seed} of {shape}: no order of file {file} was found" for file in world.wrong()]
+    return f"looks, {count} seeds of {shape}: {told_of(total)}", wrong
+
+
+def bugs_in_looks():
+    """Each wrong variant of a look is found."""
+    missed = [f"{bug} is not found" for bug, seed in looking.FOUND.items() if not looking.is_found(bug, seed)]
+    return f"{len(looking.FOUND)} bugs in looks", missed
 
 
 def bugs_in_worlds():

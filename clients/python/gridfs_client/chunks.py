@@ -15,7 +15,8 @@ from .chunk_lines import CHUNK_CHARGE, ROOM, ChunkTold
 from .errors import Damaged, NoRoom, Unanswered
 from .grid import Shape, listed
 from .runs import Place, Run, runs_of
-from .sessions import LOOK, SHARE, Pace, Sent, Uplink, uplink_of
+from .sessions import SHARE, Pace
+from .uplinks import LOOK, Sent, Uplink, uplink_of
 
 MOST_AHEAD = 6 << 20  # bytes of chunks under way over a connection, and the first one of each content besides
 MOST_AT_A_TIME = 16  # chunks of a content that are under way at a time, however short they are

@@ -189,7 +189,7 @@ class Carries:
 State = Knows | Enters | Looks | Announces | Carries
 
 
-# What it asks for, and what it is told: a page where it reads one, with the tag; the tags of all pages; the tag of what it wrote.
+# What it asks for, and what it is told: a page where it reads one, with the tag; the tags of all pages, none of one that has to be read; the tag of what it wrote.
 
 
 @dataclass(frozen=True)
@@ -218,7 +218,7 @@ class WritePage:
 
 
 Request = ReadJournal | ListPages | ReadPage | WriteJournal | WritePage
-Answer = Known | tuple[Tag, ...] | Tag
+Answer = Known | tuple[Tag | None, ...] | Tag
 
 
 class Older(Exception):

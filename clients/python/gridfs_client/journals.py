@@ -9,7 +9,7 @@ Only the numbers and lengths of batches are looked at, not their digests: conten
 
 import os
 import re
-from collections.abc import Iterator, Sequence
+from collections.abc import Collection, Iterator, Sequence
 from contextlib import ExitStack
 from dataclasses import dataclass
 from typing import IO, BinaryIO
@@ -167,6 +167,9 @@ class JournalFiles:
         """The tags; lengths are left out."""
         found = (self.places.get((self.tenant, volume, file)) for file in range(self.layout.volumes[volume].files))
         return tuple(Row(0, place.tag if place else NO_COPY) for place in found)
+
+    def look(self, volume: int, wanted: Collection[int] | None = None) -> tuple[Row | None, ...]:
+        return self.list(volume)
 
     def write(self, volume: int, file: int, content: bytes) -> Tag:
         raise Refused("a journal is only read")

@@ -80,7 +80,8 @@ class Reader(NamedFiles):
         if self.trip:
             return self.trip.look(name)
         page = self.layout.page_of(name)
-        rows = self.session.list(self.layout.page(1, page)[0])
+        places = [self.layout.page(each, page) for each in range(1, self.layout.sessions + 1)]
+        rows = self.session.look(places[0][0], [file for _, file in places])
         if self.index_has(page, rows):
             return held_of(self.shared.index.greatest(page, name))
         bucket = self.writer.bucket(page)
@@ -100,11 +101,11 @@ class Reader(NamedFiles):
         versions = [each for each in (version_in(name, found) for found in held if found) if each]
         return max(versions, key=lambda each: each.order).held if versions else None
 
-    def index_has(self, page: int, rows: Sequence[Row]) -> bool:
+    def index_has(self, page: int, rows: Sequence[Row | None]) -> bool:
         """Whether the index has all pages of a bucket as they are listed: then a look would see just these."""
         index = self.shared.index
-        places = ((each, self.layout.page(each, page)[1]) for each in range(1, self.layout.sessions + 1))
-        return not self.ground and page not in index.open and all(rows[file].tag == index.tag(page, each) for each, file in places)
+        places = ((each, rows[self.layout.page(each, page)[1]]) for each in range(1, self.layout.sessions + 1))
+        return not self.ground and page not in index.open and all(row and row.tag == index.tag(page, each) for each, row in places)
 
     def all(self) -> Iterator[Held]:
         """All that names hold, each at some moment of the call."""

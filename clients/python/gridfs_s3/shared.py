@@ -103,7 +103,6 @@ class SharedBucket(Bucket):
     def __init__(self, writer: "SharedWriter", session: Files, layout: Layout, number: int, ground: Ground | None = None):
         super().__init__(session, layout, number, ground)
         self.writer, self.shared = writer, writer.shared
-        self.listed: tuple[Tag, ...] = ()
         self.is_changing = False
         self.go_on()
 
@@ -116,21 +115,17 @@ class SharedBucket(Bucket):
         self.client = replace(self.client, seen=tuple(index.known(self.number, each) or Known() for each in self.all), journal=own.page)
         self.is_carried = True
 
-    def tags(self, rows: tuple[Row, ...]) -> tuple[Tag, ...]:
-        self.listed = super().tags(rows)
-        return self.listed
-
     def known(self, state: core.State) -> core.Answer | None:
         match state:
             case core.Looks(client, _, ((session, least), *_)):
                 listed = self.listed[session - 1]
-                if self.shared.index.tag(self.number, session) == listed != client.seen[session - 1].tag:
+                if listed and self.shared.index.tag(self.number, session) == listed != client.seen[session - 1].tag:
                     found = self.shared.index.known(self.number, session)
                     if found and found.tag == listed and found.page.number >= least:
                         return found
         return None
 
-    def answer(self, request: core.Request, rows: tuple[Row, ...] | None) -> core.Answer:
+    def answer(self, request: core.Request, rows: tuple[Row | None, ...] | None) -> core.Answer:
         told = super().answer(request, rows)
         match request:
             case core.ReadPage(session):

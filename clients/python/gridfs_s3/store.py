@@ -284,7 +284,7 @@ class Store(Reader):
         """Sees that the index has each page of these volumes as it is now, or was after this began: a request for each volume, and those for each bucket of
         which a page was changed."""
         for volume in volumes:
-            rows = self.session.list(volume)
+            rows = self.session.look(volume)
             for page in self.layout.pages_in(volume):
                 if not self.index_has(page, rows):
                     self.writer.bucket(page).refresh(rows)
