@@ -3,3 +3,4 @@ pub mod Tenants
 pub mod Segments
 pub mod Settling
 pub mod Memory
+pub mod Moved

@@ -6,13 +6,17 @@ use Rattle.gq_stock.specs.Stocks.{fresh_in}
 use Rattle.gq_stock.specs.declared.stock.Stock.{Stock}
 use Rattle.gq_stock.specs.declared.limits.TheConstants.{MOST_FRESH_BYTES}
 use Rattle.gq_depot.specs.Depots.{StaysWithin, in_memory}
-use Rattle.gq_depot.specs.Laws.{Deed, Asked, Filled, Does, MemoryIsBounded}
+use Rattle.gq_depot.specs.Laws.{Deed, Asked, Filled, Moved, Does, MemoryIsBounded}
 use Rattle.gq_depot.specs.declared.depot.Depot.{Depot}
+
+not_more : (mid now most : ℕ) → now ≤ mid → now ≤ max mid most
+not_more mid now most less = omega (arith, less)
 
 -- one deed
 step_within : (noted : Noted) (losses : ℕ) (mid now : Depot) (deed : Deed) → Does noted losses mid deed now → StaysWithin mid now
 step_within noted losses mid now (Asked request answered) step = step.memory
 step_within noted losses mid now (Filled filling fact) step = step.memory
+step_within noted losses mid now (Moved s n end fact) step = not_more (in_memory mid) (in_memory now) MOST_FRESH_BYTES step.memory
 
 from_both : (first mid now most : ℕ) → mid ≤ max first most → now ≤ max mid most → now ≤ max first most
 from_both first mid now most one two = omega arith

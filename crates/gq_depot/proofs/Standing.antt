@@ -224,7 +224,7 @@ long_new : (o : Option Chunk) (place : Place) (sure : Bool) (long : ℕ) → opt
 long_new None place sure long is it = absurd it
 long_new (Some chunk) place sure long is it = subst (λ (at : Place). long_at at ≡ long) (ap (λ (it : Placed). it.place) (same_Some (placed_of chunk) (record { place = place; is_sure = sure }) is)) it
 
-reads_put : (sessions p s long : ℕ) (n : ℕ) (sure : Bool) (place : Place) → s ≡ p + 1 → p < sessions → long ≤ MOST_CHUNK → long_at place ≡ long → reads_fact sessions (Put s n sure place) ≡ true
+pub reads_put : (sessions p s long : ℕ) (n : ℕ) (sure : Bool) (place : Place) → s ≡ p + 1 → p < sessions → long ≤ MOST_CHUNK → long_at place ≡ long → reads_fact sessions (Put s n sure place) ≡ true
 reads_put sessions p s long n sure place number within few is =
     and_from (nat_le 1 s && nat_le s sessions) (nat_le (long_at place) MOST_CHUNK)
     (and_from (nat_le 1 s) (nat_le s sessions) (le-leb 1 s (omega (arith, number))) (le-leb s sessions (omega (arith, number, within))))

@@ -7,8 +7,9 @@ use Rattle.gq_shelf.specs.Notes.{Noted}
 use Rattle.gq_ledger.specs.Steps.{Book, with_at}
 use Rattle.gq_stock.specs.Forgetting.{is_in, is_in_any}
 use Rattle.gq_depot.specs.Depots.{Placed, Standing, standing_of, forgotten, after_fact, IsSame}
+use Rattle.gq_depot.specs.Moving.{MoveStep, MovesOwn}
 use Rattle.gq_depot.specs.Tenants.{Step, TakesOwn, FillStep, FillsOwn}
-use Rattle.gq_depot.specs.Laws.{Did, Deed, Asked, Filled, fact_of, Does, Ran, RanAlone, own_with, own, Apart, after_all, FactsRemake}
+use Rattle.gq_depot.specs.Laws.{Did, Deed, Asked, Filled, Moved, fact_of, Does, Ran, RanAlone, own_with, own, Apart, after_all, FactsRemake}
 use Rattle.gq_depot.specs.declared.answer.Answered.{Answered}
 use Rattle.gq_depot.specs.declared.depot.Depot.{Depot}
 use Rattle.gq_depot.specs.declared.fact.ChunkFact.{ChunkFact}
@@ -32,6 +33,13 @@ fills_own noted olds t d new filling fact lt is step old now was after =
     let first : old ≡ d = same_Some old d (sym was ∙ (slice_get-get_or olds t d lt ∙ ap (λ (x : Depot). Some x) (sym is))) in
     let last : now ≡ new = same_Some now new (sym after ∙ (slice_get-get_or (set olds t new) t new within ∙ ap (λ (x : Depot). Some x) (get_or-set_same olds t new new lt))) in
     subst (λ (x : Depot). FillStep noted x filling fact now) (sym first) (subst (λ (x : Depot). FillStep noted d filling fact x) (sym last) step)
+
+pub moves_own : (noted : Noted) (end : ℕ) (olds : List Depot) (t s n : ℕ) (d new : Depot) (fact : Option ChunkFact) → t < length olds → d ≡ get_or olds t d → MoveStep noted end d s n fact new → MovesOwn noted end olds t s n fact (set olds t new)
+moves_own noted end olds t s n d new fact lt is step old now was after =
+    let within : t < length (set olds t new) = omega (arith, length-set olds t new) in
+    let first : old ≡ d = same_Some old d (sym was ∙ (slice_get-get_or olds t d lt ∙ ap (λ (x : Depot). Some x) (sym is))) in
+    let last : now ≡ new = same_Some now new (sym after ∙ (slice_get-get_or (set olds t new) t new within ∙ ap (λ (x : Depot). Some x) (get_or-set_same olds t new new lt))) in
+    subst (λ (x : Depot). MoveStep noted end x s n fact now) (sym first) (subst (λ (x : Depot). MoveStep noted end d s n fact x) (sym last) step)
 
 -- ---- any requests, and what peers give
 
@@ -105,3 +113,4 @@ facts_remake losses first now (did ∷ before) (mid, ran, step) =
     leads : (deed : Deed) → Does did.noted losses mid deed now → IsSame (standing_of now) (after_fact (fact_of deed) (standing_of mid))
     leads (Asked request answered) step = step.leads.standing
     leads (Filled filling fact) step = step.leads.standing
+    leads (Moved s n end fact) step = step.leads.standing

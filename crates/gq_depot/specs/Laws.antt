@@ -1,7 +1,8 @@
--- What holds of any requests of any tenants, and of what peers give.
+-- What holds of any requests of any tenants, of what peers give, and of chunks that are moved.
 use Rattle.std.specs.Prelude.{◌≡◌, ℕ, Bool, true, false, ◌==◌, List, [], ◌∷◌, length, Option, Some, slice_get}
 use Rattle.gq_shelf.specs.Notes.{Noted}
 use Rattle.gq_depot.specs.Depots.{Standing, standing_of, after_fact, IsSame, StaysWithin}
+use Rattle.gq_depot.specs.Moving.{MoveStep}
 use Rattle.gq_depot.specs.Tenants.{Step, FillStep, ApartFrom}
 use Rattle.gq_depot.specs.declared.answer.Answered.{Answered}
 use Rattle.gq_depot.specs.declared.depot.Depot.{Depot}
@@ -9,10 +10,11 @@ use Rattle.gq_depot.specs.declared.fact.ChunkFact.{ChunkFact}
 use Rattle.gq_depot.specs.declared.filling.Filling.{Filling}
 use Rattle.gq_depot.specs.declared.request.ChunkRequest.{ChunkRequest}
 
--- it was asked this, and this came of it; or this was done of what a peer gave, and this fact came of it
+-- it was asked this, and this came of it; or this was done of what a peer gave, and this fact came of it; or the chunk of a session's number was moved behind this end, and this fact came of it
 pub data Deed : Type 0 where
   Asked : ChunkRequest → Answered → Deed
   Filled : Filling → Option ChunkFact → Deed
+  Moved : (s n end : ℕ) → Option ChunkFact → Deed
 
 -- for whom it was done, and what was noted of the shelf then
 pub record Did : Type 0 where
@@ -24,11 +26,13 @@ pub record Did : Type 0 where
 abbrev pub fact_of : Deed → Option ChunkFact
 fact_of (Asked request answered) = answered.fact
 fact_of (Filled filling fact) = fact
+fact_of (Moved s n end fact) = fact
 
 -- what the deed makes of the tenant's depot
 abbrev pub Does : Noted → (losses : ℕ) → (old : Depot) → Deed → (new : Depot) → Type 0
 Does noted losses old (Asked request answered) new = Step noted losses old request answered new
 Does noted losses old (Filled filling fact) new = FillStep noted old filling fact new
+Does noted losses old (Moved s n end fact) new = MoveStep noted end old s n fact new
 
 abbrev pub DoesOwn : Noted → (losses : ℕ) → List Depot → (tenant : ℕ) → Deed → List Depot → Type 0
 DoesOwn noted losses olds tenant deed news = (old new : Depot) → slice_get olds tenant ≡ Some old → slice_get news tenant ≡ Some new → Does noted losses old deed new

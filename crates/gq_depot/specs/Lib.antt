@@ -4,4 +4,5 @@ pub mod Filling
 pub mod Seeking
 pub mod Tenants
 pub mod Segments
+pub mod Moving
 pub mod Laws

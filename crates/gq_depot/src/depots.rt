@@ -1,10 +1,11 @@
 //! The chunks of all tenants at a server.
 
-ghost use Rattle.std.specs.Prelude.{◌≡◌, ◌+◌, ◌<◌, ◌≤◌, true, false, Some, None, length, IfOk, IfErr, slice_get};
+ghost use Rattle.std.specs.Prelude.{◌≡◌, ◌+◌, ◌<◌, ◌≤◌, true, false, Some, None, length, IfOk, IfErr, OnOk, slice_get};
 ghost use Rattle.gq_shelf.specs.Extents.{place_of};
-ghost use Rattle.gq_shelf.specs.Notes.{GoesOn};
+ghost use Rattle.gq_shelf.specs.Notes.{GoesOn, after_sync};
 ghost use Rattle.gq_shelf.specs.declared.fault.ShelfFault.TheVariants.{Full};
 ghost use Rattle.gq_stock.specs.Finding.{IsRefused, LacksSpace};
+ghost use Rattle.gq_stock.specs.Sure.{PutsStay};
 
 use crate::{Answered, ChunkFact, ChunkRequest, Depot, Filling};
 use gq_memory::OutOfMemory;
@@ -25,6 +26,7 @@ pub struct Depots<S: Shelf + Drop> {
 impl<S: Shelf + Drop> Depots<S> {
     ghost use Rattle.gq_depot.specs.Tenants.{ApartFrom, TakesOwn, FillsOwn, LeadsOwn, ReadsOwn, DamageOf};
     ghost use Rattle.gq_depot.specs.Segments.{NoneLies, SomeLies};
+    ghost use Rattle.gq_depot.specs.Moving.{MovesOwn, FactIsPut};
 
     /// What comes of the tenant's request. What is told of it and kept of it hangs on this tenant's chunks alone, and no other tenant's change. It is refused
     /// where memory is wanting, or the shelf refuses a read or a put; all is given up then.
@@ -68,6 +70,42 @@ impl<S: Shelf + Drop> Depots<S> {
         let lacking = &mut self.depots[tenant];
         let fact = lacking.fill(alloc, &mut self.shelf, filling)?;
         Ok(fact)
+    }
+
+    /// Moves the chunk of the tenant's session and number behind all others on the shelf. Nothing that is told changes, and no other tenant's chunks do. It is refused where memory is wanting, or the shelf
+    /// refuses a read or a put; all is given up then. Where the shelf has no space for it (`Full`) all is as it was instead.
+    pub fn shelve(
+        &mut self,
+        tenant: usize,
+        session: u32,
+        number: u64,
+    ) -> Result<Option<ChunkFact>, ShelfFault>
+        requires { tenant < length self.old.depots.items }
+        ensures own { IfOk result (λ fact. MovesOwn (S.noted self.new.shelf) (S.end self.old.shelf) self.old.depots.items tenant session number fact self.new.depots.items) }
+        ensures apart { ApartFrom tenant self.old.depots.items self.new.depots.items }
+        ensures tenants { length self.new.depots.items ≡ length self.old.depots.items }
+        ensures losses { self.new.losses ≡ self.old.losses }
+        ensures put { IfOk result (λ fact. FactIsPut fact (S.noted self.new.shelf)) }
+        ensures puts_stay { PutsStay (S.noted self.old.shelf) (S.noted self.new.shelf) }
+        ensures refused { IfErr result (λ fault. IsRefused fault (S.noted self.old.shelf) (S.noted self.new.shelf)) }
+        ensures full { IfErr result (λ fault. fault ≡ Full → MovesOwn (S.noted self.new.shelf) (S.end self.old.shelf) self.old.depots.items tenant session number None self.new.depots.items) }
+        ensures goes_on { GoesOn (S.noted self.old.shelf) (S.noted self.new.shelf) }
+    {
+        let moving = &mut self.depots[tenant];
+        match moving.shelve(&mut self.shelf, session, number) {
+            Ok(fact) => Ok(fact),
+            Err(fault) => Err(fault),
+        }
+    }
+
+    /// The shelf makes sure of all that was put. It is refused where memory is wanting, or the shelf refuses it.
+    pub fn make_sure(&mut self) -> Result<(), ShelfFault>
+        ensures sure { OnOk result (S.noted self.new.shelf ≡ after_sync (S.noted self.old.shelf)) }
+        ensures depots { self.new.depots ≡ self.old.depots }
+        ensures losses { self.new.losses ≡ self.old.losses }
+        ensures refused { IfErr result (λ fault. IsRefused fault (S.noted self.old.shelf) (S.noted self.new.shelf)) }
+    {
+        self.shelf.sync()
     }
 
     /// The tenant's depot reads a fact of an earlier run. False: it reads none such; nothing changes then. Where memory is wanting all is given up.

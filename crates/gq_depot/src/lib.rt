@@ -3,6 +3,7 @@
 
 mod answer;
 mod asked;
+mod cleaning;
 mod depot;
 mod depots;
 mod fact;
@@ -10,12 +11,14 @@ mod filling;
 mod gone;
 pub mod laws;
 mod limits;
+mod moving;
 mod recalling;
 mod request;
 mod seeking;
 mod sweeping;
 
 pub use answer::{Answered, ChunkAnswer, ListedChunk};
+pub use cleaning::{Cleaner, MOST_SEEN, Spot};
 pub use depot::Depot;
 pub use depots::Depots;
 pub use fact::ChunkFact;

@@ -546,6 +546,14 @@ impl<R: Files<File = File> + Drop> Shelf for FileShelf<R> {
         }
     }
 
+    fn length(&self, segment: u32) -> Result<u64, ShelfFault> {
+        let path = path_of(self.alloc, self.place.folder.as_str(), segment)?;
+        match fs::metadata(&self.rt, text_of(path.as_slice())?) {
+            Ok(found) => Ok(found.len()),
+            Err(error) => Err(why_unlisted(self.alloc, &error)),
+        }
+    }
+
     fn remove(&self, segment: u32) -> Result<bool, ShelfFault> {
         if segment >= self.segment {
             return Ok(false);

@@ -113,6 +113,13 @@ impl Shelf for MemoryShelf {
         Ok(Vec::new(self.alloc))
     }
 
+    fn length(&self, segment: u32) -> Result<u64, ShelfFault> {
+        if segment != 1 {
+            return Err(ShelfFault::Read);
+        }
+        Ok(self.bytes.len() as u64)
+    }
+
     fn remove(&self, _segment: u32) -> Result<bool, ShelfFault> {
         Ok(false)
     }

@@ -59,6 +59,9 @@ pub trait Shelf {
     fn segments(&self) -> Result<Vec<u32>, ShelfFault>
         ensures { IfOk result (λ found. All (λ segment. place_of (segment + 1) 0 ≤ end self.now) found.items) };
 
+    /// How many bytes the segment of this number has, as far as the system tells.
+    fn length(&self, segment: u32) -> Result<u64, ShelfFault>;
+
     /// Removes the segment with all that lies on it, and says whether it did. That of the greatest number stays: a start goes on behind it, so no
     /// number comes twice.
     fn remove(&self, segment: u32) -> Result<bool, ShelfFault>

@@ -50,7 +50,7 @@ taken_within long left NoSpace = omega arith
 -- ---- all sessions
 
 -- one session in place of another
-in_all : (sessions : List Session) (i : ℕ) (d new : Session) → i < length sessions → d ≡ get_or sessions i d → fresh_in (set sessions i new) + all_fresh d.chunks ≡ fresh_in sessions + all_fresh new.chunks
+pub in_all : (sessions : List Session) (i : ℕ) (d new : Session) → i < length sessions → d ≡ get_or sessions i d → fresh_in (set sessions i new) + all_fresh d.chunks ≡ fresh_in sessions + all_fresh new.chunks
 in_all sessions i d new lt is =
     let sum : fresh_in (set sessions i new) + all_fresh (get_or sessions i d).chunks ≡ fresh_in sessions + all_fresh new.chunks = sum_by-set (λ (s : Session). all_fresh s.chunks) sessions i new d lt in
     let same : all_fresh d.chunks ≡ all_fresh (get_or sessions i d).chunks = ap (λ (s : Session). all_fresh s.chunks) is in

@@ -6,7 +6,8 @@ use Rattle.gq_ledger.specs.Ledgers.{book_of, all_bytes, all_fresh}
 use Rattle.gq_shelf.specs.Notes.{Noted}
 use Rattle.gq_stock.specs.Finding.{FindsDamage}
 use Rattle.gq_stock.specs.Held.{contents}
-use Rattle.gq_stock.specs.Sure.{IsSureOf, IsLongOf}
+use Rattle.gq_stock.specs.Moving.{IsMoved}
+use Rattle.gq_stock.specs.Sure.{IsSureOf, IsLongOf, IsPutOf}
 use Rattle.gq_stock.specs.Keeping.{KeptAs, ChangesOnly}
 use Rattle.gq_stock.specs.declared.session.Session.{Session}
 use Rattle.gq_stock.specs.declared.keeping.Keeping.{Keeping}
@@ -51,3 +52,11 @@ ChangesIn olds place n news = (old new : Session) → slice_get olds place ≡ S
 -- A read found damage where its chunk under the number lies.
 abbrev pub DamagedIn : List Session → (place n : ℕ) → Noted → Noted → Type 0
 DamagedIn sessions place n old new = (session : Session) → slice_get sessions place ≡ Some session → FindsDamage ((book_of session.chunks).at n) old new
+
+-- What the session at this place has under the number stands elsewhere.
+abbrev pub MovedIn : (is_clean : Type 0) → (Extent → List ℕ) → (end : ℕ) → List Session → (place n : ℕ) → List Session → Type 0
+MovedIn is_clean written end olds place n news = (old new : Session) → slice_get olds place ≡ Some old → slice_get news place ≡ Some new → IsMoved is_clean written end ((book_of old.chunks).at n) ((book_of new.chunks).at n)
+
+-- What it has under the number was put on the shelf in this life.
+abbrev pub PutIn : List Session → (place n : ℕ) → Noted → Type 0
+PutIn sessions place n noted = (session : Session) → slice_get sessions place ≡ Some session → IsPutOf ((book_of session.chunks).at n) noted

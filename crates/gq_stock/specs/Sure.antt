@@ -1,5 +1,5 @@
 -- A content that would outlast a loss of power, and how many bytes one has.
-use Rattle.std.specs.Prelude.{◌≡◌, ℕ, List, Contains, Option, Some, None, ⊤}
+use Rattle.std.specs.Prelude.{◌≡◌, ◌≤◌, ℕ, List, Contains, Option, Some, None, ⊤}
 use Rattle.gq_shelf.specs.Notes.{Noted}
 use Rattle.gq_shelf.specs.Places.{long_at}
 use Rattle.gq_shelf.specs.declared.place.Place.{Place}
@@ -20,3 +20,18 @@ IsLongOf (Some chunk) long = long_at chunk.place ≡ long
 abbrev pub IsSureOf : Option Chunk → Noted → Type 0
 IsSureOf None noted = ⊥
 IsSureOf (Some chunk) noted = PlaceIsSure chunk.place noted
+
+-- The content was put on the shelf in this life, where it lies there: the next sync makes sure of it.
+abbrev pub PlaceIsPut : Place → Noted → Type 0
+PlaceIsPut (Fresh bytes) noted = ⊤
+PlaceIsPut (Shelved extent) noted = (bytes : List ℕ) × Contains noted.put (extent, bytes)
+
+-- so was that of the chunk that is there
+abbrev pub IsPutOf : Option Chunk → Noted → Type 0
+IsPutOf None noted = ⊥
+IsPutOf (Some chunk) noted = PlaceIsPut chunk.place noted
+
+-- what was put by the one notes was put by the others, which tell as many refusals or more
+pub record PutsStay (old new : Noted) : Type 0 where
+  pub put : (place : Place) → PlaceIsPut place old → PlaceIsPut place new
+  pub refused : old.refused ≤ new.refused

@@ -9,6 +9,7 @@ ghost use Rattle.gq_shelf.specs.declared.fault.ShelfFault.TheVariants.{Full};
 ghost use Rattle.gq_stock.specs.Finding.{FindsDamageAt, IsRefused, LacksSpace};
 ghost use Rattle.gq_stock.specs.Memory.{fresh_at, fresh_of};
 ghost use Rattle.gq_stock.specs.Moving.{LiesBehind};
+ghost use Rattle.gq_stock.specs.Sure.{PlaceIsPut, PutsStay};
 
 use crate::keeping::placed;
 use crate::{Chunk, Session};
@@ -23,6 +24,8 @@ fn copied<S: Shelf>(shelf: &mut S, place: &Place) -> Result<Option<Place>, Shelf
     ensures bytes { (written : Extent → List ℕ) → IfOk result (λ copy. IfSome copy (λ there. IsClean written (S.noted shelf.new) → content_at written there ≡ content_at written place.now)) }
     ensures long { IfOk result (λ copy. IfSome copy (λ there. long_at there ≡ long_at place.now)) }
     ensures shelved { IfOk result (λ copy. IfSome copy (λ there. LiesBehind (S.end shelf.old) there)) }
+    ensures put { IfOk result (λ copy. IfSome copy (λ there. PlaceIsPut there (S.noted shelf.new))) }
+    ensures puts_stay { PutsStay (S.noted shelf.old) (S.noted shelf.new) }
     ensures damaged { IfOk result (λ copy. IfNone copy (FindsDamageAt (extent_in place.now) (S.noted shelf.old) (S.noted shelf.new))) }
     ensures refused { IfErr result (λ fault. IsRefused fault (S.noted shelf.old) (S.noted shelf.new)) }
     ensures goes_on { GoesOn (S.noted shelf.old) (S.noted shelf.new) }
@@ -41,9 +44,9 @@ impl Session {
     ghost use Rattle.gq_ledger.specs.Ledgers.{book_of, all_bytes, bytes_under, all_fresh, fresh_under};
     ghost use Rattle.gq_ledger.specs.Steps.{Leads, Gives};
     ghost use Rattle.gq_stock.specs.Held.{contents};
-    ghost use Rattle.gq_stock.specs.Moving.{MovedAs, IsBehind, NoneIsRead};
+    ghost use Rattle.gq_stock.specs.Moving.{MovedAs, IsBehind, IsMoved, NoneIsRead};
     ghost use Rattle.gq_stock.specs.Keeping.{ChangesOnly};
-    ghost use Rattle.gq_stock.specs.Sure.{IsSureOf, IsLongOf};
+    ghost use Rattle.gq_stock.specs.Sure.{IsSureOf, IsLongOf, IsPutOf};
 
     /// Puts the chunk under the number, in place of what is there. False: it would be more bytes in all than 64 bits tell, and nothing changes. Nor does it
     /// where memory is refused.
@@ -105,6 +108,10 @@ impl Session {
     pub fn shelve<S: Shelf>(&mut self, shelf: &mut S, number: u64) -> Result<bool, ShelfFault>
         ensures moved { (written : Extent → List ℕ) → IfOk result (λ is_moved. IsClean written (S.noted shelf.new) → MovedAs (contents written (book_of self.old.chunks)) (contents written (book_of self.new.chunks))) }
         ensures shelved { IfOk result (λ is_moved. is_moved ≡ true → IsBehind (S.end shelf.old) ((book_of self.new.chunks).at number)) }
+        ensures is { (written : Extent → List ℕ) → IfOk result (λ is_moved. is_moved ≡ true → IsMoved (IsClean written (S.noted shelf.new)) written (S.end shelf.old) ((book_of self.old.chunks).at number) ((book_of self.new.chunks).at number)) }
+        ensures alone { IfOk result (λ is_moved. is_moved ≡ true → ChangesOnly (book_of self.old.chunks) number (book_of self.new.chunks)) }
+        ensures put { IfOk result (λ is_moved. is_moved ≡ true → IsPutOf ((book_of self.new.chunks).at number) (S.noted shelf.new)) }
+        ensures puts_stay { PutsStay (S.noted shelf.old) (S.noted shelf.new) }
         ensures none { IfOk result (λ is_moved. is_moved ≡ false → NoneIsRead ((book_of self.old.chunks).at number) (S.noted shelf.old) (S.noted shelf.new)) }
         ensures same { IfOk result (λ is_moved. is_moved ≡ false → book_of self.new.chunks ≡ book_of self.old.chunks) }
         ensures used { all_bytes self.new.chunks ≡ all_bytes self.old.chunks }

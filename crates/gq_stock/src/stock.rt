@@ -25,7 +25,8 @@ impl Stock {
     ghost use Rattle.gq_stock.specs.Finding.{IsRefused, LacksSpace};
     ghost use Rattle.gq_stock.specs.Keeping.{taken_of};
     ghost use Rattle.gq_stock.specs.Memory.{fresh_taken};
-    ghost use Rattle.gq_stock.specs.Stocks.{used_in, fresh_in, KeptIn, GivenIn, ChangesIn, DamagedIn, SureIn, LongIn, StaysIn, IsEmpty};
+    ghost use Rattle.gq_stock.specs.Stocks.{used_in, fresh_in, KeptIn, GivenIn, ChangesIn, DamagedIn, SureIn, LongIn, StaysIn, MovedIn, PutIn, IsEmpty};
+    ghost use Rattle.gq_stock.specs.Sure.{PutsStay};
 
     /// So many sessions, which have nothing.
     pub fn new(alloc: Global, sessions: u32, allowed: u64) -> Result<Stock, OutOfMemory>
@@ -153,5 +154,33 @@ impl Stock {
         let session = &mut self.sessions[place];
         let is_given = session.give(shelf, number, bytes, left)?;
         Ok(is_given)
+    }
+
+    /// Puts the content of the number of the session at this place behind all others on the shelf. It is told as before, and has the same bytes where no read was wrong. No
+    /// other session changes, nor what is used, and no more is in memory. The shelf has to make sure of it before it is told where it lies (`PutIn`). False: none is there, or this read of the
+    /// shelf found it damaged, and nothing changes. It is refused where memory is wanting, or the shelf refuses a read or a put, as where it has no space (`Full`). Nothing changes then.
+    pub fn shelve<S: Shelf>(
+        &mut self,
+        shelf: &mut S,
+        place: usize,
+        number: u64,
+    ) -> Result<bool, ShelfFault>
+        requires { place < length self.old.sessions.items }
+        ensures moved { (written : Extent → List ℕ) → IfOk result (λ is_moved. is_moved ≡ true → MovedIn (IsClean written (S.noted shelf.new)) written (S.end shelf.old) self.old.sessions.items place number self.new.sessions.items) }
+        ensures alone { IfOk result (λ is_moved. is_moved ≡ true → ChangesIn self.old.sessions.items place number self.new.sessions.items) }
+        ensures same { IfOk result (λ is_moved. is_moved ≡ false → StaysIn self.old.sessions.items place self.new.sessions.items) }
+        ensures put { IfOk result (λ is_moved. is_moved ≡ true → PutIn self.new.sessions.items place number (S.noted shelf.new)) }
+        ensures puts_stay { PutsStay (S.noted shelf.old) (S.noted shelf.new) }
+        ensures sessions { length self.new.sessions.items ≡ length self.old.sessions.items }
+        ensures others { (other : ℕ) → other ≢ place → slice_get self.new.sessions.items other ≡ slice_get self.old.sessions.items other }
+        ensures used { used_in self.new.sessions.items ≡ used_in self.old.sessions.items }
+        ensures fresh { fresh_in self.new.sessions.items ≤ fresh_in self.old.sessions.items }
+        ensures refused { IfErr result (λ fault. IsRefused fault (S.noted shelf.old) (S.noted shelf.new)) }
+        ensures unchanged { OnErr result (StaysIn self.old.sessions.items place self.new.sessions.items) }
+        ensures allowed { self.new.allowed ≡ self.old.allowed }
+        ensures goes_on { GoesOn (S.noted shelf.old) (S.noted shelf.new) }
+    {
+        let _allowed = self.allowed;
+        self.sessions[place].shelve(shelf, number)
     }
 }

@@ -1,7 +1,7 @@
 //! The chunks of two tenants over a shelf in memory: each call where memory and the shelf refuse nothing, and a start from the facts.
 
 use bytes::Bytes;
-use gq_depot::{Answered, ChunkAnswer, ChunkFact, ChunkRequest, Depot, Depots, Sweep};
+use gq_depot::{Answered, ChunkAnswer, ChunkFact, ChunkRequest, Cleaner, Depot, Depots, Sweep};
 use gq_memory::{GrowBytes, GrowVec, filled};
 use gq_shelf::{Extent, MemoryShelf, Place};
 use gq_stock::{CHUNK_CHARGE, Found, Keeping, MOST_FRESH, Run};
@@ -251,6 +251,58 @@ fn segments_of_chunks_are_known(rt: HostRuntime) -> Result<(), Fail> {
     };
     assert!(&rt; is_recalled(&rt, alloc, &mut depots, forgot));
     assert!(&rt; !depots.lies_in(3));
+    Ok(())
+}
+
+// A chunk that is moved is told as before, and its fact says where it lies.
+#[test]
+fn a_moved_chunk_is_told_as_before(rt: HostRuntime) -> Result<(), Fail> {
+    let alloc = rt.alloc();
+    let mut depots = two_depots(alloc)?;
+    let request = keep(&rt, alloc, 7, "moved");
+    assert!(&rt; matches!(depots.answer(alloc, 0, request), Ok(_)));
+    assert!(&rt; matches!(depots.shelve(0, 1, 8), Ok(None)));
+    assert!(&rt; matches!(depots.shelve(0, 9, 7), Ok(None)));
+    for _ in 0..2 {
+        assert!(&rt;
+            matches!(
+                depots.shelve(0, 1, 7),
+                Ok(Some(ChunkFact::Put {
+                    session: 1,
+                    number: 7,
+                    is_sure: true,
+                    place: Place::Shelved(Extent { len: 5, .. }),
+                }))
+            )
+        );
+        assert!(&rt; matches!(depots.make_sure(), Ok(())));
+        let request = ChunkRequest::Get {
+            session: 1,
+            number: 7,
+            from: 0,
+            length: 9,
+        };
+        assert!(&rt;
+            matches!(
+                depots.answer(alloc, 0, request),
+                Ok(Answered {
+                    answer: ChunkAnswer::Found {
+                        found: Found::There(_),
+                        ..
+                    },
+                    ..
+                })
+            )
+        );
+    }
+    // a shelf in memory has one segment, which is the last: nothing is to be moved
+    let mut cleaner = Cleaner::new(alloc);
+    for _ in 0..9 {
+        cleaner.begin_part();
+        assert!(&rt; matches!(depots.next_spot(alloc, &mut cleaner), Ok(None)));
+    }
+    cleaner.rest();
+    assert!(&rt; matches!(depots.next_spot(alloc, &mut cleaner), Ok(None)));
     Ok(())
 }
 

@@ -83,6 +83,8 @@ fn goes_on<S: Shelf>(rt: &impl Abort, shelf: &mut S, first: &Extent) {
         Ok(found) => assert!(rt; found.as_slice() == [1u32].as_slice()),
         Err(_) => panic!(rt; "not listed"),
     }
+    assert!(rt; matches!(shelf.length(1), Ok(length) if length > 0));
+    assert!(rt; matches!(shelf.length(2), Ok(5)));
     removes(rt, shelf, 1, true);
     removes(rt, shelf, 1, false);
     removes(rt, shelf, 2, false);

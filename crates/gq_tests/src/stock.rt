@@ -164,6 +164,10 @@ fn chunks_are_kept_moved_and_forgotten(rt: HostRuntime) -> Result<(), Fail> {
     let mut stock = Stock::new(alloc, 1, ROOM)?;
     keeps_contents(&rt, alloc, &mut stock, &mut shelf);
     assert!(rt; stock.sessions.len() == 1);
+    let used = stock.used();
+    assert!(rt; matches!(stock.shelve(&mut shelf, 0, 2), Ok(true)));
+    assert!(rt; matches!(stock.shelve(&mut shelf, 0, 9), Ok(false)));
+    assert!(rt; stock.used() == used && stock.sessions.len() == 1);
     moves_contents(&rt, alloc, &mut stock.sessions[0], &mut shelf);
     keeps(
         &rt,
