@@ -1,6 +1,7 @@
 //! The laws, as clauses of functions that do nothing.
 
 ghost use Rattle.gq_looks.specs.Laws.{AllLooksTagged, AllLooksLegal};
+ghost use Rattle.gq_looks.specs.Losses.{AllAnswersKept};
 
 /// A look sees servers, each at a moment of its own, with the copy that it then has. It takes the greatest copy of a full row, where each
 /// server of a full column has that copy's tag or a greater one, and none of these servers lost its copy until the look ended. Whatever
@@ -11,4 +12,12 @@ ghost use Rattle.gq_looks.specs.Laws.{AllLooksTagged, AllLooksLegal};
 pub fn looks_are_reads()
     ensures tagged { AllLooksTagged }
     ensures legal { AllLooksLegal }
+{}
+
+/// An answer to a look tells how many losses its node's plan tells, and a client counts answers together that tell as many. Whatever happens in
+/// a fleet whose lost places are taken over by new nodes: after some steps a node can tell its copy of a file, and after some more another
+/// one, or the same, tells as many losses. Then the first one's server did not lose that file in between. So of the answers that are counted
+/// together each still stood when the last of them was given.
+pub fn answers_stand()
+    ensures kept { AllAnswersKept }
 {}
