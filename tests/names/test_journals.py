@@ -198,6 +198,33 @@ class Cases(unittest.TestCase):
             self.assertEqual(file.read(), b"x" * 100)
         self.assertEqual(sorted(os.listdir(folder)), ["a", "b"])
 
+    def test_what_is_on_a_shelf(self):
+        path = os.path.join(self.folder, "of-chunks")
+        plan = "grid 2 2\nroom 9000\ntenant ann 900 2 9 64\ntenant bob 9 1 9 16\ngo\nann chunks 100\nbob chunks 9\n"
+        node = Node(path, 66, plan)
+        node.write(b"chunk ann 1 5 1 =a\\sb\nextent ann 1 7 1 1 0 300 99\n")
+        node.write(b"extent ann 2 7 0 1 300 50 98\nextent bob 1 1 1 2 0 40 97\nkept ann 0 0 1 1 -\n")
+        node.write(b"extent ann 2 7 0 2 40 50 98\nforgot ann 1 9 6 9\nfilled bob\n")
+        os.mkdir(path + ".shelf")
+        for number, length in ((1, 350), (2, 100), (4, 7)):
+            with open(f"{path}.shelf/{number:010}", "wb") as out:
+                out.write(b"x" * length)
+        status, out, told = self.command("shelf", path)
+        self.assertEqual((status, told), (0, ""))
+        self.assertEqual(out.splitlines(), [
+            "node 66: 3 chunks; 4 bytes of them in the journal, 90 on the shelf",
+            "  the shelf has 457 bytes in 3 segments; 367 are dead, and 2 segments are sparse",
+            "  chunks are lacked of ann",
+        ])  # fmt: skip
+        os.unlink(f"{path}.shelf/0000000002")
+        self.assertIn("  1 segments are missing: their chunks are damaged", self.command("shelf", path)[1])
+        metrics = os.path.join(self.folder, "shelf.prom")
+        self.assertEqual(self.command("shelf", "--metrics", metrics, path), (0, "", ""))
+        with open(metrics) as file:
+            text = file.read()
+        self.assertIn('gridfs_shelf_named_bytes{node="66"} 90\n', text)
+        self.assertIn('gridfs_shelf_lacking_tenants{node="66"} 1\n', text)
+
 
 if __name__ == "__main__":
     unittest.main()

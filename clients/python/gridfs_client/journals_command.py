@@ -15,6 +15,7 @@ from .layout import BLOCK
 from .local import OUTPUT, complain, json_of, out, out_lines, standard
 from .mirror import ToFolder, shown
 from .names import NamedFiles
+from .shelves import Shelf, shelf_of
 from .status import usage_value
 from .usage import Usage, usage_of
 
@@ -24,6 +25,7 @@ examples, on a node's machine and for copies of the journals of nodes 0 and 1, w
   gridfs-journals room /var/lib/gridfs/0/journal               how full each tenant is, as node 0 has it
   gridfs-journals room --metrics /run/gridfs/room.prom 0.pages 1.pages
   gridfs-journals pages /var/lib/gridfs/0/journal > 0.pages    the little that `room` wants, to be brought elsewhere
+  gridfs-journals shelf /var/lib/gridfs/0/journal              what node 0 has of chunks, and what is dead or lacked
   gridfs-journals get ann backup journal.0 journal.1           ann's names, with their contents, into the folder backup
 
 A journal may be that of a node that runs, or a copy: it is read as far as its batches are whole. The journals of a whole row of nodes have all that was
@@ -38,6 +40,18 @@ METRICS: dict[str, tuple[str, Callable[[Usage], float]]] = {
     "fullest_page_ratio": ("how full the fullest page is", lambda usage: usage.fullest.bytes / usage.fullest.most),
 }
 
+SHELF_METRICS = {
+    "chunks": "chunks that the node has",
+    "journal_bytes": "bytes of them in the journal and in memory",
+    "named_bytes": "bytes of them on the shelf",
+    "disk_bytes": "bytes of the shelf's segments",
+    "dead_bytes": "bytes there that nothing names",
+    "segments": "segments of the shelf",
+    "sparse_segments": "segments of which less than half is named: their chunks are moved",
+    "missing_segments": "segments that are named and are not there: their chunks are damaged",
+    "lacking_tenants": "tenants of whom the node lacks chunks",
+}
+
 
 def parser() -> argparse.ArgumentParser:
     main = argparse.ArgumentParser(
@@ -50,6 +64,11 @@ def parser() -> argparse.ArgumentParser:
     sub.add_argument("--metrics", metavar="FILE", help="write metrics for Prometheus' textfile collector in place of telling")
     sub.add_argument("journals", nargs="+", metavar="JOURNAL")
     sub.set_defaults(call=room)
+    sub = words.add_parser("shelf", help="what nodes have of chunks, and what is dead or lacked", description="What each node has of chunks: what its journal names, what lies in the folder beside it, and of how many tenants it lacks some.")
+    sub.add_argument("--json", action="store_true", help="the answer as JSON, one value")
+    sub.add_argument("--metrics", metavar="FILE", help="write metrics for Prometheus' textfile collector in place of telling")
+    sub.add_argument("journals", nargs="+", metavar="JOURNAL")
+    sub.set_defaults(call=shelf)
     sub = words.add_parser("pages", help="what `room` wants of a journal, to standard output", description="Writes what `room` wants of a journal to standard output: some MB at most, which are read as a journal.")
     sub.add_argument("journals", nargs=1, metavar="JOURNAL")
     sub.set_defaults(call=pages)
@@ -112,6 +131,29 @@ def write_whole(path: str, text: str) -> None:
         except BaseException:
             os.unlink(beside.name)
             raise
+
+
+def shelf(args: argparse.Namespace) -> None:
+    found = [shelf_of(path) for path in args.journals]
+    if args.metrics:
+        write_whole(args.metrics, "".join(shelf_metrics(found)))
+    elif args.json:
+        out(json_of([{"node": it.node, "lacking": it.lacking} | it.value() for it in found]).encode() + b"\n")
+    else:
+        for it in found:
+            told = it.value()
+            lines = [f"node {it.node}: {told['chunks']} chunks; {told['journal_bytes']} bytes of them in the journal, {told['named_bytes']} on the shelf"]
+            lines.append(f"  the shelf has {told['disk_bytes']} bytes in {told['segments']} segments; {told['dead_bytes']} are dead, and {told['sparse_segments']} segments are sparse")
+            lines += [f"  {told['missing_segments']} segments are missing: their chunks are damaged"] * bool(told["missing_segments"])
+            lines += [f"  chunks are lacked of {', '.join(it.lacking)}"] * bool(it.lacking)
+            out_lines(lines)
+
+
+def shelf_metrics(found: Sequence[Shelf]) -> Iterator[str]:
+    for name, meaning in SHELF_METRICS.items():
+        yield f"# HELP gridfs_shelf_{name} {meaning}\n# TYPE gridfs_shelf_{name} gauge\n"
+        for it in found:
+            yield f'gridfs_shelf_{name}{{node="{it.node}"}} {it.value()[name]}\n'
 
 
 def pages(args: argparse.Namespace) -> None:
