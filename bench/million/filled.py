@@ -76,7 +76,7 @@ class Filled:
         told = [f"{files}.{blocks}" for files, blocks in self.volumes]
         if len(told) > 64:
             told = [f"{word}.{len(list(alike))}" for word, alike in itertools.groupby(told)]
-        self.plan = f"plan 1 0 {self.sessions} {self.share} {self.most} " + " ".join(told)
+        self.plan = f"plan 1 0 {self.sessions} {self.share} {self.most} {' '.join(told)} lines=3 rows=1 columns=1"
         self.sizes = [(size, digest_of(b"x" * size), hashlib.md5(b"x" * size).hexdigest()) for size in sizes]
         self.fill(names)
 
@@ -124,10 +124,16 @@ class Filled:
         number, session, content = self.file(volume, file)
         return f"{len(content)}:{number}.{session}"
 
+    def rows(self, volume):
+        return " ".join(self.length(volume, file) for file in range(self.volumes[volume][0]))
+
     def answer(self, body):
         words = body.split(" ")
         if words == ["plan"]:
             return self.plan
+        if words[0] == "look":
+            self.counts["look"] += 1
+            return f"looked {words[1]} {words[2]} 0 {self.rows(int(words[2]))}"
         kind, session, operation, *rest = words
         session, operation = int(session), int(operation)
         last = self.last.get(session, 0)
@@ -142,7 +148,7 @@ class Filled:
             return f"refused early {session} {operation} {last}"
         volume = int(rest[0])
         if kind == "list":
-            told = f"done list {session} {operation} " + " ".join(self.length(volume, file) for file in range(self.volumes[volume][0]))
+            told = f"done list {session} {operation} {self.rows(volume)}"
         else:
             file = int(rest[1])
             number, writer, content = self.file(volume, file)

@@ -27,7 +27,12 @@ class Tenant:
         self.chunks = None  # a node that keeps some
 
     def plan(self):
-        return f"plan 1 0 {self.sessions} {self.share} {self.most} " + " ".join(f"{files}.{blocks}" for files, blocks in self.volumes)
+        return f"plan 1 0 {self.sessions} {self.share} {self.most} {' '.join(f'{files}.{blocks}' for files, blocks in self.volumes)} lines=3 rows=1 columns=1"
+
+    def rows(self, volume):
+        """The words for the files of a volume."""
+        found = (self.files.get((volume, file), (0, 0, "-")) for file in range(self.volumes[volume][0]))
+        return " ".join(f"{0 if content == '-' else len(content) // 2}:{number}.{writer}" for number, writer, content in found)
 
 
 def tenants_of(text):
@@ -57,6 +62,10 @@ def answer(tenant, body):
     words = body.split(" ")
     if words == ["plan"]:
         return tenant.plan()
+    if words[0] == "look":
+        tenant.counts["look"] += 1
+        number, volume = map(int, words[1:])
+        return f"looked {number} {volume} 0 {tenant.rows(volume)}" if volume < len(tenant.volumes) else f"refused novolume {number} {volume}"
     kind, session, operation, *rest = words
     session, operation = int(session), int(operation)
     tenant.counts[kind] += 1
@@ -74,9 +83,7 @@ def answer(tenant, body):
         return f"refused novolume {session} {operation} {volume}"
     files, blocks = tenant.volumes[volume]
     if kind == "list":
-        rows = (tenant.files.get((volume, file), (0, 0, "-")) for file in range(files))
-        told = " ".join(f"{0 if content == '-' else len(content) // 2}:{number}.{writer}" for number, writer, content in rows)
-        told = f"done list {session} {operation} {told}"
+        told = f"done list {session} {operation} {tenant.rows(volume)}"
     else:
         file = int(rest[1])
         if file >= files:

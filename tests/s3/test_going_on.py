@@ -26,6 +26,10 @@ from gridfs_s3.store import Store
 COUNT, SESSIONS = 40, 8
 
 
+def looks_in(counts):
+    return counts.get("look", 0) + counts.get("list", 0)
+
+
 def listed(s3, bucket="bucket"):
     """Keys with their sizes."""
     found = s3.list_objects_v2(Bucket=bucket)
@@ -84,7 +88,7 @@ class GoingOn(unittest.TestCase):
             listed(s3)  # (which finds that all sessions are the gateway's still, for two seconds)
             endpoint.counts(self.room)
             listed(s3)
-            if endpoint.counts(self.room).get("list", 0) <= 1:
+            if looks_in(endpoint.counts(self.room)) <= 1:
                 break
             self.assertLess(time.monotonic(), until)
             time.sleep(0.5)
@@ -101,7 +105,7 @@ class GoingOn(unittest.TestCase):
             s3 = it.client()
             self.assertEqual(listed(s3), wanted)
             told = endpoint.counts(self.room)
-            self.assertEqual((told.get("list"), told.get("write")), (2 + SESSIONS, None), told)  # (for the index' word, the bucket, and each session)
+            self.assertEqual((looks_in(told), told.get("write")), (2 + SESSIONS, None), told)  # (for the index' word, the bucket, and each session)
             s3.put_object(Bucket="bucket", Key="new", Body=b"12345")
             s3.delete_object(Bucket="bucket", Key="003")
             wanted = {key: size for key, size in wanted.items() if key != "003"} | {"new": 5}
@@ -238,12 +242,12 @@ class SeveralGrids(unittest.TestCase):
                 self.assertEqual(listed(s3), wanted, slices)
 
     def looks_of(self, work, room):
-        """How many volumes are listed meanwhile."""
+        """How many volumes are looked at meanwhile."""
         work()  # (which finds that all sessions are the gateway's still, for two seconds)
         for label in ("east", "west"):
             endpoint.counts(os.path.join(room, label))
         work()
-        return sum(endpoint.counts(os.path.join(room, label)).get("list", 0) for label in ("east", "west"))
+        return sum(looks_in(endpoint.counts(os.path.join(room, label))) for label in ("east", "west"))
 
 
 class Ending(endpoint.Gateway):
