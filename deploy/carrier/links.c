@@ -23,7 +23,7 @@
 enum {
     HOSTS = 320,                /* most other nodes, with those that were replaced */
     SESSIONS = 241,             /* numbers of sessions, with 0 */
-    ASKED = 1024,               /* the last requests of a tenant about chunks, of which it is known who made them */
+    ASKED = 1024,               /* the last looks and requests about chunks of a tenant, of which it is known who made them */
     KEY = 128,                  /* bytes of a line in which what it is about has to stand */
     OF_A_TENANT = 32,           /* most connections of a tenant */
     STUCK = 5,                  /* seconds after which a reader who took nothing does not hold up his tenant's others */
@@ -54,7 +54,7 @@ struct peer {                   /* a node or a tenant that is connected, or was 
     char name[NAME + 1];
     struct queue *queue;
     struct link *of[OF_A_TENANT], *by_session[SESSIONS];
-    struct { uint64_t chunk; struct link *link; } asked[ASKED];   /* by turns; a link of NULL: it was answered, or has ended */
+    struct { uint64_t request; struct link *link; } asked[ASKED];   /* by turns; a link of NULL: it was answered, or has ended */
     size_t many, asked_many;
     bool is_slow;
 };
@@ -253,11 +253,12 @@ static size_t session_of(const char *body, size_t length) {
     return number < SESSIONS && (body == end || *body == ' ') ? number : 0;
 }
 
-/* What a request about chunks and its answer are known by, a sum of two words; 0: it is of something else. A chunk is asked for by whose session it is, which
-   says nothing of who asks. */
-static uint64_t chunk_of(const char *body, size_t length) {
+/* What a request about chunks, or a look, and its answer are known by, a sum of two words; 0: it is of something else. A chunk is asked for by whose session it is,
+   which says nothing of who asks, and a look is of no session. */
+static uint64_t request_of(const char *body, size_t length) {
     static const struct { const char *verb; size_t one, other; } forms[] = {{"keep", 1, 2}, {"kept", 1, 2}, {"get", 1, 2}, {"got", 1, 2}, {"none", 1, 2}, {"lacks", 1, 2},
-        {"damaged", 1, 2}, {"chunks", 1, 2}, {"forget", 1, 3}, {"forgot", 1, 3}, {"room", 0, 0}, {"refused", 2, 3}};
+        {"damaged", 1, 2}, {"chunks", 1, 2}, {"forget", 1, 3}, {"forgot", 1, 3}, {"room", 0, 0}, {"look", 1, 2}, {"looked", 1, 2},
+        {"refused", 2, 3}};
     struct { const char *text; size_t length; } words[4] = {{NULL, 0}};
     const char *end = body + (length < KEY ? length : KEY), *at = body;
     for (size_t i = 0; i < 4 && at < end; i++) {
@@ -277,17 +278,17 @@ static uint64_t chunk_of(const char *body, size_t length) {
     return 0;
 }
 
-static void note_asked(struct peer *peer, uint64_t chunk, struct link *link) {
+static void note_asked(struct peer *peer, uint64_t request, struct link *link) {
     size_t at = peer->asked_many++ % ASKED;
-    peer->asked[at].chunk = chunk, peer->asked[at].link = link;
+    peer->asked[at].request = request, peer->asked[at].link = link;
 }
 
 /* Who asked for this first, of those who were not answered yet. */
-static struct link *who_asked(struct peer *peer, uint64_t chunk) {
+static struct link *who_asked(struct peer *peer, uint64_t request) {
     for (size_t i = 0; i < ASKED; i++) {
         size_t at = (peer->asked_many + i) % ASKED;
         struct link *link = peer->asked[at].link;
-        if (!link || peer->asked[at].chunk != chunk) continue;
+        if (!link || peer->asked[at].request != request) continue;
         peer->asked[at].link = NULL;
         return link;
     }
@@ -300,9 +301,9 @@ static void lines(struct link *link, const char *text, size_t length) {
         const char *end = text + length;
         for (const char *line = text, *stop; line < end; line = stop + 1) {
             if (!(stop = memchr(line, '\n', (size_t)(end - line)))) stop = end;
-            uint64_t chunk = chunk_of(line, (size_t)(stop - line));
-            size_t session = chunk ? 0 : session_of(line, (size_t)(stop - line));
-            if (chunk) note_asked(peer, chunk, link);
+            uint64_t request = request_of(line, (size_t)(stop - line));
+            size_t session = request ? 0 : session_of(line, (size_t)(stop - line));
+            if (request) note_asked(peer, request, link);
             if (session) peer->by_session[session] = link;
         }
     }
@@ -390,13 +391,13 @@ bool engine_is_behind(struct queue *queue, double time) {
     return queue->told > bound / 2;
 }
 
-/* An answer about chunks goes to the connection that asked, another one to that on which its session asked last; an answer of no session goes to all connections
-   of the tenant. */
+/* An answer about chunks or to a look goes to the connection that asked, another one to that on which its session asked last; an answer of no session goes to all
+   connections of the tenant. */
 void engine_carry(const char *to, size_t name, const char *body, size_t length) {
     struct peer *peer = peer_of(to, name, false);
-    uint64_t chunk = peer && peer->many && is_tenant(peer->name) ? chunk_of(body, length) : 0;
-    struct link *only = chunk ? who_asked(peer, chunk) : NULL;
-    if (!peer || !peer->many || (chunk && !only && memcmp(body, "refused ", 8))) {
+    uint64_t request = peer && peer->many && is_tenant(peer->name) ? request_of(body, length) : 0;
+    struct link *only = request ? who_asked(peer, request) : NULL;
+    if (!peer || !peer->many || (request && !only && memcmp(body, "refused ", 8))) {
         count.lost++;
         return;
     }

@@ -343,26 +343,27 @@ def answers_go_home(program, folder):
 
 
 def chunks_go_home(program, folder):
-    """Of a tenant's connections each is told what it asked of chunks, whosever they are, and no other is; what is asked of a chunk takes no session away."""
+    """Of a tenant's connections each is told what it asked of chunks, whosever they are, and what it saw, and no other is; neither takes a session away."""
     carry = fresh(program, folder)
     numbers = [b"%d" % (1 << 40 | each) for each in range(4)]
     try:
         with come(carry, "ann") as first, come(carry, "ann") as second:
-            first.sendall(b"write 1 7 0 0 aa\nget 3 %b 0 9\nkeep 1 %b ~a\nroom\nforget 3 9 5 6\n" % (numbers[0], numbers[1]))
+            first.sendall(b"write 1 7 0 0 aa\nget 3 %b 0 9\nkeep 1 %b ~a\nroom\nlook 8 0\nforget 3 9 5 6\n" % (numbers[0], numbers[1]))
             carry.gets(b"0 ann forget 3 9 5 6")
-            second.sendall(b"get 1 %b 0 9\nget 3 %b 0 9\nget 3 %b 0 9\nchunks 3 0\nforget 3 9 6 6\n" % (numbers[2], numbers[0], numbers[3]))
+            second.sendall(b"get 1 %b 0 9\nget 3 %b 0 9\nget 3 %b 0 9\nchunks 3 0\nlook 1 0\nlook 9 70\nforget 3 9 6 6\n" % (numbers[2], numbers[0], numbers[3]))
             carry.gets(b"0 ann forget 3 9 6 6")
             carry.says(b"".join(b"ann 0 %b\n" % line for line in [
                 b"done write 1 7 tag 1 2", b"got 3 %b 9 0 ~first" % numbers[0], b"refused room 1 %b 5" % numbers[1], b"room 5 7 0 0", b"forgot 3 9 5 6",
-                b"damaged 1 %b" % numbers[2], b"got 3 %b 9 0 ~second" % numbers[0], b"none 3 %b" % numbers[3], b"chunks 3 0 0 7.1 end", b"forgot 3 9 6 6", b"kept 1 9 0", b"refused bad",
+                b"damaged 1 %b" % numbers[2], b"got 3 %b 9 0 ~second" % numbers[0], b"none 3 %b" % numbers[3], b"chunks 3 0 0 7.1 end",
+                b"looked 1 0 0 0:0.0", b"looked 8 0 0 0:0.0", b"refused novolume 9 70", b"forgot 3 9 6 6", b"kept 1 9 0", b"looked 5 0 0 -", b"refused bad",
             ]))  # fmt: skip
-            told = [line.split(b" ")[0] for line in hear(first, 6)], [line.split(b" ")[0] for line in hear(second, 6)]
-            check(told == ([b"done", b"got", b"refused", b"room", b"forgot", b"refused"], [b"damaged", b"got", b"none", b"chunks", b"forgot", b"refused"]), f"they are told {told}")
+            told = [line.split(b" ")[0] for line in hear(first, 7)], [line.split(b" ")[0] for line in hear(second, 8)]
+            check(told == ([b"done", b"got", b"refused", b"room", b"forgot", b"looked", b"refused"], [b"damaged", b"got", b"none", b"chunks", b"looked", b"refused", b"forgot", b"refused"]), f"they are told {told}")
             second.close()
             wait_for(lambda: second.fileno() < 0, "")
     finally:
         check(carry.end() == 0, carry.told())
-        check("lost 1 " in carry.told(), carry.told())
+        check("lost 2 " in carry.told(), carry.told())
 
 
 def a_tenant_who_takes_his_time(program, folder):
