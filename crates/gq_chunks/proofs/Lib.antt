@@ -8,3 +8,4 @@ pub mod Apart
 pub mod Telling
 pub mod Sayings
 pub mod Searching
+pub mod Cleaned

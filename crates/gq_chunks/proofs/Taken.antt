@@ -1,19 +1,28 @@
 -- What a line makes of a machine.
-use Rattle.std.proofs.Common.{◌≡◌, ℕ, List, [], ◌++◌, true, false, Bool, None, inl, inr, refl, sym, subst, append-nil}
-use Rattle.std.specs.Prelude.{Result, Ok, Err, OnOk}
+use Rattle.std.proofs.Common.{◌≡◌, ◌≤◌, ◌<◌, ℕ, List, [], ◌∷◌, ◌++◌, length, true, false, Bool, Option, Some, None, inl, inr, refl, sym, ap, subst, ◌∙◌, append-nil, append_assoc, arith}
+use Rattle.std.specs.Prelude.{◌⊎◌, Result, Ok, Err, IfErr, OnOk}
+use Rattle.std.proofs.lemmas.Bool.{and_from}
+use Rattle.std.proofs.lemmas.List.Concat.{flat_map-append}
+use Rattle.std.proofs.lemmas.List.Folds.{list_all-append}
+use Rattle.gq_shelf.specs.Notes.{Noted}
+use Rattle.gq_journal.specs.Batches.{Line, ended_line, lines_text, is_batch_line, are_batch_lines}
+use Rattle.gq_keeper.specs.declared.fault.Fault.{Fault}
+use Rattle.gq_keeper.specs.declared.fault.Fault.TheVariants as Ends
 use Rattle.gq_desk.specs.CheckedPlan.{CheckedPlan}
 use Rattle.gq_keeper.specs.Runs.{Takes}
 use Rattle.gq_depot.specs.Seeking.{Sought, AreAsks}
 use Rattle.gq_depot.specs.declared.answer.ChunkAnswer.TheVariants.{Bad}
 use Rattle.gq_depot.specs.declared.filling.Filling.{Filling}
 use Rattle.gq_depot.specs.declared.filling.Filling.TheVariants.{End}
+use Rattle.gq_depot.specs.declared.fact.ChunkFact.{ChunkFact}
 use Rattle.gq_depot.specs.declared.request.ChunkRequest.{ChunkRequest}
 use Rattle.gq_depot.specs.declared.seeking.Ask.{Ask}
 use Rattle.gq_chunks.specs.Answers.{chunk_answer_text}
+use Rattle.gq_chunks.specs.Facts.{chunk_fact_line}
 use Rattle.gq_chunks.specs.Coming.{Coming, Asked, Nothing}
 use Rattle.gq_chunks.specs.PeerLines.{asks_text}
 use Rattle.gq_chunks.specs.Peers.{is_peer}
-use Rattle.gq_chunks.specs.Machines.{Chunks, IsSite, coming_in, MayAsk, MayAskOf, Fed, Waits, may_answer, AnswersPeer, Ticks, AddsAsks, AddsFacts, StepsBy, ChunkSteps}
+use Rattle.gq_chunks.specs.Machines.{Chunks, IsSite, coming_in, fact_lines, FactStands, MayAsk, MayAskOf, FillsDone, LeavesOut, Fed, Unfed, Waits, may_answer, AnswersPeer, Ticks, AddsAsks, AddsFacts, MovesBy, AddsMovesBy, IsShelfRefusal, StepsBy, ChunkSteps}
 
 pub on_ok : {A E P Q : Type 0} (r : Result A E) → (P → Q) → OnOk r P → OnOk r Q
 on_ok (Ok x) goes its = goes its
@@ -21,12 +30,59 @@ on_ok (Err e) goes its = tt
 
 -- ---- any step, by what the line is
 
-pub by_coming : {M : Type 0} (f : M → Chunks) (old new : M) (its : Coming) (line facts facts' told told' : List ℕ) → coming_in (f old) line ≡ its → Takes (λ (a : Chunks) (l : List ℕ) (fs : List (List ℕ)) (t : List ℕ) (b : Chunks). StepsBy its a fs t b) (f old) [] facts facts' told told' (f new) →
-    Takes (λ (a : M) (l : List ℕ) (fs : List (List ℕ)) (t : List ℕ) (b : M). ChunkSteps (f a) l fs t (f b)) old line facts facts' told told' new
-by_coming f old new its line facts facts' told told' is takes = record {
+pub text_on : (a b c : List ℕ) (one two : List Line) → b ≡ a ++ lines_text one → c ≡ b ++ lines_text two → c ≡ a ++ lines_text (one ++ two)
+text_on a b c one two first second =
+    second ∙ (ap (λ (text : List ℕ). text ++ lines_text two) first ∙ (append_assoc a (lines_text one) (lines_text two) ∙ ap (λ (text : List ℕ). a ++ text) (sym (flat_map-append ended_line one two))))
+
+pub lines_on : (one two : List Line) → are_batch_lines one ≡ true → are_batch_lines two ≡ true → are_batch_lines (one ++ two) ≡ true
+lines_on one two first second = list_all-append is_batch_line one two ∙ and_from (are_batch_lines one) (are_batch_lines two) first second
+
+-- what was moved before it, and then its own step
+pub by_coming : {M : Type 0} (f : M → Chunks) (old mid new : M) (its : Coming) (line facts facts' facts'' told told' : List ℕ) → coming_in (f old) line ≡ its → AddsMovesBy its (f old) facts facts' (f mid) →
+    Takes (λ (a : Chunks) (l : List ℕ) (fs : List (List ℕ)) (t : List ℕ) (b : Chunks). StepsBy its a fs t b) (f mid) [] facts' facts'' told told' (f new) →
+    Takes (λ (a : M) (l : List ℕ) (fs : List (List ℕ)) (t : List ℕ) (b : M). ChunkSteps (f a) l fs t (f b)) old line facts facts'' told told' new
+by_coming f old mid new its line facts facts' facts'' told told' is before takes = record {
+  lines = before.lines ++ takes.lines;
+  text = takes.text;
+  step = record {
+    mid = f mid;
+    moved = before.lines;
+    own = takes.lines;
+    moves = subst (λ (a : Coming). MovesBy a (f old) before.lines (f mid)) (sym is) before.moves;
+    step = subst (λ (a : Coming). StepsBy a (f mid) takes.lines takes.text (f new)) (sym is) takes.step;
+    facts_are = refl;
+  };
+  facts = text_on facts facts' facts'' before.lines takes.lines before.is takes.facts;
+  told = takes.told;
+  opened = lines_on before.lines takes.lines before.opened takes.opened;
+}
+
+-- so it is of any result
+pub ok_by_coming : {M A E : Type 0} (r : Result A E) (f : M → Chunks) (old mid new : M) (its : Coming) (line facts facts' facts'' told told' : List ℕ) → coming_in (f old) line ≡ its → AddsMovesBy its (f old) facts facts' (f mid) →
+    OnOk r (Takes (λ (a : Chunks) (l : List ℕ) (fs : List (List ℕ)) (t : List ℕ) (b : Chunks). StepsBy its a fs t b) (f mid) [] facts' facts'' told told' (f new)) →
+    OnOk r (Takes (λ (a : M) (l : List ℕ) (fs : List (List ℕ)) (t : List ℕ) (b : M). ChunkSteps (f a) l fs t (f b)) old line facts facts'' told told' new)
+ok_by_coming r f old mid new its line facts facts' facts'' told told' is before = on_ok r (by_coming f old mid new its line facts facts' facts'' told told' is before)
+
+-- a refusal behind some
+pub refused_on : (fault : Fault) (old mid new : Noted) → old.refused ≤ mid.refused → IsShelfRefusal fault mid new → IsShelfRefusal fault old new
+refused_on (Ends.Memory refused) old mid new le is = tt
+refused_on Ends.JournalRead old mid new le is = omega (arith, le, is)
+refused_on Ends.JournalWrite old mid new le is = omega (arith, le, is)
+refused_on Ends.Read old mid new le is = absurd is
+refused_on Ends.Write old mid new le is = absurd is
+refused_on Ends.Full old mid new le is = absurd is
+
+pub err_refused : {A : Type 0} (r : Result A Fault) (old mid new : Noted) → old.refused ≤ mid.refused → IfErr r (λ fault. IsShelfRefusal fault mid new) → IfErr r (λ fault. IsShelfRefusal fault old new)
+err_refused (Ok x) old mid new le is = tt
+err_refused (Err fault) old mid new le is = refused_on fault old mid new le is
+
+-- the same of what a line is as what it is read as
+pub as_came : (its came : Coming) → its ≡ came → (old : Chunks) (line facts facts' told told' : List ℕ) (new : Chunks) → Takes (λ (a : Chunks) (l : List ℕ) (fs : List (List ℕ)) (t : List ℕ) (b : Chunks). StepsBy its a fs t b) old line facts facts' told told' new →
+    Takes (λ (a : Chunks) (l : List ℕ) (fs : List (List ℕ)) (t : List ℕ) (b : Chunks). StepsBy came a fs t b) old line facts facts' told told' new
+as_came its came same old line facts facts' told told' new takes = record {
   lines = takes.lines;
   text = takes.text;
-  step = subst (λ (a : Coming). StepsBy a (f old) takes.lines takes.text (f new)) (sym is) takes.step;
+  step = subst (λ (z : Coming). StepsBy z old takes.lines takes.text new) same takes.step;
   facts = takes.facts;
   told = takes.told;
   opened = takes.opened;
@@ -105,3 +161,29 @@ pub tick_ends : (old mid new : Chunks) (t : ℕ) (facts facts' told : List ℕ) 
 tick_ends old mid new t facts facts' told same done =
     let its : AddsFacts old t End facts facts' new = subst (λ (z : Chunks). AddsFacts z t End facts facts' new) same done in
     record { lines = its.lines; text = []; step = (t, inr (record { fills = its.fills; asks = inl refl })); facts = its.is; told = sym (append-nil told); opened = its.opened }
+
+-- ---- a content for which there is no space
+
+pub unfed_takes : (old new : Chunks) (t : ℕ) (filling : Filling) (facts told : List ℕ) → LeavesOut old t new →
+    Takes (λ (a : Chunks) (l : List ℕ) (fs : List (List ℕ)) (t' : List ℕ) (b : Chunks). Fed a t filling fs t' b ⊎ Unfed a t fs t' b) old [] facts facts told told new
+unfed_takes old new t filling facts told left = record { lines = []; text = []; step = inr (record { left = left; facts_are = refl; told_is = refl }); facts = sym (append-nil facts); told = sym (append-nil told); opened = refl }
+
+pub fact_opened : (plan : CheckedPlan) (t : ℕ) (fact : Option ChunkFact) → FactStands plan t fact → are_batch_lines (fact_lines plan t fact) ≡ true
+fact_opened plan t None stands = refl
+fact_opened plan t (Some fact) stands = and_from (is_batch_line (chunk_fact_line plan t fact)) true stands.1 refl
+
+-- a content that was taken, or passed over
+pub given_takes : (old mid new : Chunks) (t : ℕ) (filling : Filling) (fact : Option ChunkFact) (facts facts' told told' : List ℕ) → FillsDone old t filling fact mid → t < length old.depots → new ≡ mid → facts' ≡ facts ++ lines_text (fact_lines mid.plan t fact) → FactStands mid.plan t fact → AddsAsks mid t told told' →
+    Takes (λ (a : Chunks) (l : List ℕ) (fs : List (List ℕ)) (t' : List ℕ) (b : Chunks). Fed a t filling fs t' b ⊎ Unfed a t fs t' b) old [] facts facts' told told' new
+given_takes old mid new t filling fact facts facts' told told' done within same text stands asks = record {
+  lines = fact_lines mid.plan t fact;
+  text = asks.text;
+  step = subst (λ (z : Chunks). Fed old t filling (fact_lines mid.plan t fact) asks.text z ⊎ Unfed old t (fact_lines mid.plan t fact) asks.text z) (sym same)
+      (inl (record {
+        fills = record { fact = fact; done = done; facts_are = ap (λ (p : CheckedPlan). fact_lines p t fact) done.site.plan; within = within; stands = subst (λ (p : CheckedPlan). FactStands p t fact) done.site.plan stands };
+        asks = ask_back old mid t asks.text done.site asks.asks;
+      }));
+  facts = text;
+  told = asks.is;
+  opened = fact_opened mid.plan t fact stands;
+}

@@ -1,10 +1,11 @@
 -- What a line is to a machine of chunks.
-use Rattle.std.specs.Prelude.{◌<◌, ℕ, List, [], ◌∷◌, ◌&&◌, ◌==◌, nat_lt, Option, Some, None, if◌then◌else◌, ⊤}
+use Rattle.std.specs.Prelude.{◌<◌, ℕ, Bool, true, false, List, [], ◌∷◌, ◌&&◌, ◌==◌, nat_lt, Option, Some, None, if◌then◌else◌, ⊤}
 use Rattle.gq_desk.specs.CheckedPlan.{CheckedPlan}
 use Rattle.gq_text.specs.Words.{Word, words_of, number_of}
 use Rattle.gq_text.specs.Input.{place_named}
 use Rattle.gq_wire.specs.Incoming.{is_to, is_tick}
 use Rattle.gq_depot.specs.declared.request.ChunkRequest.{ChunkRequest}
+use Rattle.gq_depot.specs.declared.request.ChunkRequest.TheVariants.{Keep}
 use Rattle.gq_chunks.specs.declared.came.Came.{Came}
 use Rattle.gq_chunks.specs.declared.came.Came.TheVariants as Line
 use Rattle.gq_chunks.specs.Peers.{is_peer}
@@ -65,3 +66,9 @@ abbrev pub IsWithin : (tenants : ℕ) → Came → Type 0
 IsWithin tenants (Line.Asked t request) = t < tenants
 IsWithin tenants (Line.Said t from line) = t < tenants
 IsWithin tenants _ = ⊤
+
+-- whether chunks may be moved before it: a tick, or a content that is to be kept
+abbrev pub moves_at : Coming → Bool
+moves_at Ticked = true
+moves_at (Asked t (Some (Keep s n bytes))) = true
+moves_at _ = false

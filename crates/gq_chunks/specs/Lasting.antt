@@ -1,8 +1,9 @@
 -- What a machine of chunks owes that lasts.
-use Rattle.std.proofs.Common.{◌≡◌, ◌≢◌, ◌<◌, ◌-◌, ℕ, List, [], ◌∷◌, ◌++◌, length, Bool, true, false, Option, Some, None, inl, inr, refl, sym, ap, subst, ◌∙◌, arith}
-use Rattle.std.specs.Prelude.{◌⊎◌, ⊤, ◌==◌, ◌≤◌, ◌&&◌, ◌||◌, nat_le, not, max, slice_get, if◌then◌else◌}
+use Rattle.std.proofs.Common.{◌≡◌, ◌≢◌, ◌<◌, ◌-◌, ℕ, List, [], ◌∷◌, ◌++◌, length, Bool, true, false, Option, Some, None, inl, inr, refl, sym, ap, subst, ◌∙◌, arith, append_assoc, append-nil}
+use Rattle.std.specs.Prelude.{◌⊎◌, ⊤, ◌==◌, ◌≤◌, ◌&&◌, ◌||◌, nat_le, not, max, slice_get, MatchBool, if◌then◌else◌}
 use Rattle.std.specs.List.{list_all}
 use Rattle.std.proofs.lemmas.Bool.{and_from, and_parts, leb-true, eqb-true, eq-eqb, true≢false}
+use Rattle.std.proofs.lemmas.List.Folds.{list_all-append}
 use Rattle.std.proofs.lemmas.Option.{same_Some, slice_get_within}
 use Rattle.gq_shelf.specs.Notes.{GoesOn}
 use Rattle.gq_shelf.specs.Places.{long_at}
@@ -30,9 +31,9 @@ use Rattle.gq_depot.proofs.Standing.{there}
 use Rattle.gq_depot.proofs.Tenants.{after_same, same_on}
 use Rattle.gq_chunks.specs.Facts.{place_verb, verb_of, own_words, chunk_fact_line, chunk_fact_of_line}
 use Rattle.gq_chunks.specs.Answers.{chunk_answer_text}
-use Rattle.gq_chunks.specs.Coming.{Coming, Asked, Said, Ticked, Nothing}
+use Rattle.gq_chunks.specs.Coming.{Coming, Asked, Said, Ticked, Nothing, moves_at}
 use Rattle.gq_chunks.specs.PeerLines.{Saying, Seeks, Found, Wants, Gives, Misses, Spoilt, peer_answer_text}
-use Rattle.gq_chunks.specs.Machines.{Chunks, IsSite, coming_in, fact_lines, FactStands, depot_reads, Took, Fills, Fed, Waits, may_answer, AnswersPeer, whole_length, SaidBy, StepsBy, ChunkSteps, reads_told, chunk_reads, Recalled, ChunkRecalls, room_of_lines, lacks_at_first, IsBare, IsBlank, ChunksAreBlank, AllFit, GoneFits, IsSound, AreSound, HasRoom, ChunksAreOf, DepotRests, ChunksRest}
+use Rattle.gq_chunks.specs.Machines.{Chunks, IsSite, coming_in, fact_lines, FactStands, depot_reads, Took, Fills, Fed, Unfed, Waits, Move, move_lines, MovesOne, MovesOn, Moves, MovesBy, may_answer, AnswersPeer, whole_length, SaidBy, StepsBy, ChunkSteps, reads_told, chunk_reads, Recalled, ChunkRecalls, room_of_lines, lacks_at_first, IsBare, IsBlank, ChunksAreBlank, AllFit, GoneFits, IsSound, AreSound, HasRoom, ChunksAreOf, DepotRests, ChunksRest}
 
 -- ---- machines that have chunks
 
@@ -81,6 +82,15 @@ went_nowhere old t = record {
   reads = λ was at. tt;
   apart = λ other is. refl;
   site = site_itself old;
+}
+
+-- no tenant's chunks did
+went_still : (old new : Chunks) → new.depots ≡ old.depots → IsSite old new → Went old 0 None new
+went_still old new same site = record {
+  leads = λ was is at_was at_is. subst (λ (x : Depot). LeadsTo was None x) (same_Some was is (sym at_was ∙ (ap (λ (xs : List Depot). slice_get xs 0) (sym same) ∙ at_is))) (leads_itself was);
+  reads = λ was at. tt;
+  apart = λ other is. ap (λ (xs : List Depot). slice_get xs other) same;
+  site = site;
 }
 
 went_took : (text : ChunkAnswer → List ℕ) (old : Chunks) (t : ℕ) (request : ChunkRequest) (facts : List Line) (told : List ℕ) (new : Chunks) (took : Took text old t request facts told new) → Went old t took.answered.fact new
@@ -153,8 +163,19 @@ filled_some old t filling facts new fills =
     let went : Went old t fills.fact new = went_filled old t filling facts new fills in
     record { tenant = t; fact = fills.fact; went = went; facts_are = fills.facts_are; stands = fills.stands; is_read = fact_read old t fills.fact fills.within went.reads; goes_on = fills.done.goes_on }
 
-pub step_went : (old : Chunks) (line : List ℕ) (facts : List Line) (told : List ℕ) (new : Chunks) → ChunkSteps old line facts told new → WentSome old facts new
-step_went old line facts told new step = by (coming_in old line) step
+unfed_some : (old : Chunks) (t : ℕ) (facts : List Line) (told : List ℕ) (new : Chunks) → Unfed old t facts told new → WentSome old facts new
+unfed_some old t facts told new unfed = record {
+  tenant = t;
+  fact = None;
+  went = record { leads = unfed.left.leads; reads = λ was at. tt; apart = unfed.left.apart; site = unfed.left.site };
+  facts_are = unfed.facts_are;
+  stands = tt;
+  is_read = tt;
+  goes_on = unfed.left.goes_on;
+}
+
+pub own_went : (its : Coming) (old : Chunks) (facts : List Line) (told : List ℕ) (new : Chunks) → StepsBy its old facts told new → WentSome old facts new
+own_went its old facts told new step = by its step
   where
     peer : (may : Bool) (t from : ℕ) (request : ChunkRequest) → AnswersPeer may old t from request facts told new → WentSome old facts new
     peer true t from request took = took_some (peer_answer_text old.plan old.node from t) old t request facts told new took
@@ -164,7 +185,8 @@ step_went old line facts told new step = by (coming_in old line) step
     said t from (Seeks p s after) its = peer (may_answer old t p) t from (ListChunks s after) its
     said t from (Wants s n) its = peer (may_answer old t 0) t from (Get s n 0 whole_length) its
     said t from (Found s after floor is_all chunks) fed = filled_some old t (Raise s floor) facts new fed.fills
-    said t from (Gives s n bytes) fed = filled_some old t (Give s n bytes) facts new fed.fills
+    said t from (Gives s n bytes) (inl fed) = filled_some old t (Give s n bytes) facts new fed.fills
+    said t from (Gives s n bytes) (inr unfed) = unfed_some old t facts told new unfed
     said t from (Misses s n) waits = stayed old facts new waits.same waits.facts_are
     said t from (Spoilt s n) waits = stayed old facts new waits.same waits.facts_are
 
@@ -178,6 +200,91 @@ step_went old line facts told new step = by (coming_in old line) step
     by (Asked t (Some request)) took = took_some (chunk_answer_text old.plan old.node t) old t request facts told new took
     by (Said t from saying) its = said t from saying its
     by Ticked its = ticked its.0 its.1
+
+-- ---- one after another
+
+-- steps of some tenants' facts, and the lines of each
+abbrev pub WentMany : Chunks → List (List Line) → Chunks → Type 0
+WentMany old [] new = new ≡ old
+WentMany old (facts ∷ parts) new = (mid : Chunks) × WentSome old facts mid × WentMany mid parts new
+
+abbrev pub joined : List (List Line) → List Line
+joined [] = []
+joined (facts ∷ parts) = facts ++ joined parts
+
+-- such is a step, and it gives the lines of all
+pub record WentAll (old : Chunks) (facts : List Line) (new : Chunks) : Type 0 where
+  pub parts : List (List Line)
+  pub went : WentMany old parts new
+  pub facts_are : facts ≡ joined parts
+
+many_on : (a b c : Chunks) (one two : List (List Line)) → WentMany a one b → WentMany b two c → WentMany a (one ++ two) c
+many_on a b c [] two same went = subst (λ (z : Chunks). WentMany z two c) same went
+many_on a b c (facts ∷ one) two (mid, some, more) went = (mid, some, many_on mid b c one two more went)
+
+joined_on : (one two : List (List Line)) → joined (one ++ two) ≡ joined one ++ joined two
+joined_on [] two = refl
+joined_on (facts ∷ one) two = ap (λ (lines : List Line). facts ++ lines) (joined_on one two) ∙ sym (append_assoc facts (joined one) (joined two))
+
+abbrev pub move_parts : CheckedPlan → List Move → List (List Line)
+move_parts plan [] = []
+move_parts plan (move ∷ moves) = fact_lines plan move.0 move.1 ∷ move_parts plan moves
+
+moves_joined : (plan : CheckedPlan) (moves : List Move) → move_lines plan moves ≡ joined (move_parts plan moves)
+moves_joined plan [] = refl
+moves_joined plan (move ∷ moves) = ap (λ (lines : List Line). fact_lines plan move.0 move.1 ++ lines) (moves_joined plan moves)
+
+moved_some : (old : Chunks) (t : ℕ) (fact : Option ChunkFact) (new : Chunks) → MovesOne old t fact new → WentSome old (fact_lines old.plan t fact) new
+moved_some old t fact new one =
+    let went : Went old t fact new = record {
+      leads = λ was is at_was at_is. (one.done.own was is at_was at_is).leads;
+      reads = λ was at_was.
+          let is : (x : Depot) × (slice_get new.depots t ≡ Some x) = across new.depots old.depots t was (sym one.done.site.tenants) at_was in
+          (one.done.own was is.0 at_was is.1).reads;
+      apart = one.done.apart;
+      site = one.done.site;
+    } in
+    record { tenant = t; fact = fact; went = went; facts_are = refl; stands = one.stands; is_read = fact_read old t fact one.within went.reads; goes_on = one.done.goes_on }
+
+pub moves_many : (old : Chunks) (moves : List Move) (new : Chunks) → MovesOn old moves new → WentMany old (move_parts old.plan moves) new
+moves_many old [] new same = same
+moves_many old (move ∷ moves) new (mid, one, more) = (mid, moved_some old move.0 move.1 mid one, subst (λ (p : CheckedPlan). WentMany mid (move_parts p moves) new) one.done.site.plan (moves_many mid moves new more))
+
+pub moves_all : (old : Chunks) (facts : List Line) (new : Chunks) → Moves old facts new → WentAll old facts new
+moves_all old facts new moves = record {
+  parts = move_parts old.plan moves.moves ++ [] ∷ [];
+  went = many_on old moves.last new (move_parts old.plan moves.moves) ([] ∷ []) (moves_many old moves.moves moves.last moves.moved) (new, synced, refl);
+  facts_are = moves.facts_are ∙ (moves_joined old.plan moves.moves ∙ (sym (append-nil (joined (move_parts old.plan moves.moves))) ∙ sym (joined_on (move_parts old.plan moves.moves) ([] ∷ []))));
+}
+  where
+    synced : WentSome moves.last [] new
+    synced = record { tenant = 0; fact = None; went = went_still moves.last new moves.depots moves.site; facts_are = refl; stands = tt; is_read = tt; goes_on = moves.goes_on }
+
+pub moves_by_all : (its : Coming) (old : Chunks) (facts : List Line) (new : Chunks) → MovesBy its old facts new → WentAll old facts new
+moves_by_all its old facts new moves = by (moves_at its) moves
+  where
+    by : (may : Bool) → MatchBool may (Moves old facts new) ((new ≡ old) × (facts ≡ [])) → WentAll old facts new
+    by true some = moves_all old facts new some
+    by false none = record { parts = []; went = none.0; facts_are = none.1 }
+
+pub step_went : (old : Chunks) (line : List ℕ) (facts : List Line) (told : List ℕ) (new : Chunks) → ChunkSteps old line facts told new → WentAll old facts new
+step_went old line facts told new step =
+    let first : WentAll old step.moved step.mid = moves_by_all (coming_in old line) old step.moved step.mid step.moves in
+    let second : WentSome step.mid step.own new = own_went (coming_in old line) step.mid step.own told new step.step in
+    record {
+      parts = first.parts ++ step.own ∷ [];
+      went = many_on old step.mid new first.parts (step.own ∷ []) first.went (new, second, refl);
+      facts_are = step.facts_are ∙ (ap (λ (lines : List Line). lines ++ step.own) first.facts_are
+          ∙ (ap (λ (lines : List Line). joined first.parts ++ lines) (sym (append-nil step.own)) ∙ sym (joined_on first.parts (step.own ∷ []))));
+    }
+
+pub many_go_on : (old : Chunks) (parts : List (List Line)) (new : Chunks) → WentMany old parts new → GoesOn old.noted new.noted
+many_go_on old [] new same = subst (λ (z : Chunks). GoesOn old.noted z.noted) (sym same) (λ written clean. clean)
+many_go_on old (facts ∷ parts) new (mid, some, more) = λ written clean. some.goes_on written (many_go_on mid parts new more written clean)
+
+pub many_site : (old : Chunks) (parts : List (List Line)) (new : Chunks) → WentMany old parts new → IsSite old new
+many_site old [] new same = subst (λ (z : Chunks). IsSite old z) (sym same) (site_itself old)
+many_site old (facts ∷ parts) new (mid, some, more) = site_on old mid new some.went.site (many_site mid parts new more)
 
 pub recall_went : (old : Chunks) (line : List ℕ) (new : Chunks) (recalled : ChunkRecalls old line new) → Went old recalled.tenant (Some recalled.fact) new
 recall_went old line new recalled = went_recalled old recalled.tenant recalled.fact new recalled.reads recalled.recalled
@@ -220,6 +327,13 @@ shape_itself a = went_shape a 0 None a (went_nowhere a 0)
 shapes : (a : Chunks) (lines : List Line) (b : Chunks) → RecallsAll ChunkRecalls a lines b → KeepsShape a b
 shapes a [] b same = subst (λ (z : Chunks). KeepsShape a z) same (shape_itself a)
 shapes a (line ∷ lines) b (next, one, more) = shape_on a next b (went_shape a one.tenant (Some one.fact) next (recall_went a line next one)) (shapes next lines b more)
+
+shape_back : (a b : Chunks) → KeepsShape a b → KeepsShape b a
+shape_back a b one = record { site = site_back a b one.site; depots = λ t was is at_was at_is. record { sessions = sym (one.depots t is was at_is at_was).sessions; allowed = sym (one.depots t is was at_is at_was).allowed } }
+
+many_shape : (old : Chunks) (parts : List (List Line)) (new : Chunks) → WentMany old parts new → KeepsShape old new
+many_shape old [] new same = subst (λ (z : Chunks). KeepsShape old z) (sym same) (shape_itself old)
+many_shape old (facts ∷ parts) new (mid, some, more) = shape_on old mid new (went_shape old some.tenant some.fact mid some.went) (many_shape mid parts new more)
 
 blank_shape : (first : ℕ → ℕ) (m blank : Chunks) → IsBlank first m blank → KeepsShape m blank
 blank_shape first m blank is = record {
@@ -294,8 +408,14 @@ lines_are_facts plan t (Some fact) stands =
 
 pub gives_facts : (old : Chunks) (line : List ℕ) (facts : List (List ℕ)) (told : List ℕ) (new : Chunks) → ChunkSteps old line facts told new → are_facts facts ≡ true
 gives_facts old line facts told new step =
-    let some : WentSome old facts new = step_went old line facts told new step in
-    ap are_facts some.facts_are ∙ lines_are_facts old.plan some.tenant some.fact some.stands
+    let all : WentAll old facts new = step_went old line facts told new step in
+    ap are_facts all.facts_are ∙ many old all.parts all.went
+  where
+    many : (old : Chunks) (parts : List (List Line)) → WentMany old parts new → are_facts (joined parts) ≡ true
+    many old [] went = refl
+    many old (lines ∷ parts) (mid, some, more) =
+        list_all-append (λ (line : Line). is_batch_line line && not (is_head line)) lines (joined parts)
+        ∙ and_from (are_facts lines) (are_facts (joined parts)) (ap are_facts some.facts_are ∙ lines_are_facts old.plan some.tenant some.fact some.stands) (many mid parts more)
 
 lines_read : (old other : Chunks) (t : ℕ) (fact : Option ChunkFact) → KeepsShape old other → FactStands old.plan t fact → FactIsRead old t fact → list_all (chunk_reads other) (fact_lines old.plan t fact) ≡ true
 lines_read old other t None shape stands reads = refl
@@ -305,8 +425,15 @@ lines_read old other t (Some fact) shape stands reads =
 
 pub gives_readable : (plan : List (List ℕ)) (old : Chunks) (line : List ℕ) (facts : List (List ℕ)) (told : List ℕ) (new other : Chunks) → ChunkSteps old line facts told new → ChunksAreBlank plan old other → list_all (chunk_reads other) facts ≡ true
 gives_readable plan old line facts told new other step blank =
-    let some : WentSome old facts new = step_went old line facts told new step in
-    ap (list_all (chunk_reads other)) some.facts_are ∙ lines_read old other some.tenant some.fact (blank_shape (room_of_lines plan) old other blank) some.stands some.is_read
+    let all : WentAll old facts new = step_went old line facts told new step in
+    ap (list_all (chunk_reads other)) all.facts_are ∙ many old all.parts all.went (blank_shape (room_of_lines plan) old other blank)
+  where
+    many : (old : Chunks) (parts : List (List Line)) → WentMany old parts new → KeepsShape old other → list_all (chunk_reads other) (joined parts) ≡ true
+    many old [] went shape = refl
+    many old (lines ∷ parts) (mid, some, more) shape =
+        list_all-append (chunk_reads other) lines (joined parts)
+        ∙ and_from (list_all (chunk_reads other) lines) (list_all (chunk_reads other) (joined parts)) (ap (list_all (chunk_reads other)) some.facts_are ∙ lines_read old other some.tenant some.fact shape some.stands some.is_read)
+        (many mid parts more (shape_on mid old other (shape_back old mid (went_shape old some.tenant some.fact mid some.went)) shape))
 
 -- ---- what a start begins with
 
@@ -323,8 +450,8 @@ blank_back first old new other shape blank = record { site = site_on old new oth
 
 pub keeps_blank : (plan : List (List ℕ)) (old : Chunks) (line : List ℕ) (facts : List (List ℕ)) (told : List ℕ) (new other : Chunks) → ChunkSteps old line facts told new → ChunksAreBlank plan new other → ChunksAreBlank plan old other
 keeps_blank plan old line facts told new other step blank =
-    let some : WentSome old facts new = step_went old line facts told new step in
-    blank_back (room_of_lines plan) old new other (went_shape old some.tenant some.fact new some.went) blank
+    let all : WentAll old facts new = step_went old line facts told new step in
+    blank_back (room_of_lines plan) old new other (many_shape old all.parts new all.went) blank
 
 -- ---- of which plan it is
 
@@ -455,8 +582,12 @@ went_of plan old t fact new went has = record {
 
 pub keeps_plan : (plan : List (List ℕ)) (old : Chunks) (line : List ℕ) (facts : List (List ℕ)) (told : List ℕ) (new : Chunks) → ChunkSteps old line facts told new → ChunksAreOf plan old → ChunksAreOf plan new
 keeps_plan plan old line facts told new step has =
-    let some : WentSome old facts new = step_went old line facts told new step in
-    went_of plan old some.tenant some.fact new some.went has
+    let all : WentAll old facts new = step_went old line facts told new step in
+    many old all.parts all.went has
+  where
+    many : (old : Chunks) (parts : List (List Line)) → WentMany old parts new → ChunksAreOf plan old → ChunksAreOf plan new
+    many old [] same has = subst (λ (z : Chunks). ChunksAreOf plan z) (sym same) has
+    many old (lines ∷ parts) (mid, some, more) has = many mid parts more (went_of plan old some.tenant some.fact mid some.went has)
 
 pub recalls_plan : (plan : List (List ℕ)) (old : Chunks) (line : List ℕ) (new : Chunks) → ChunkRecalls old line new → ChunksAreOf plan old → ChunksAreOf plan new
 recalls_plan plan old line new recalled has = went_of plan old recalled.tenant (Some recalled.fact) new (recall_went old line new recalled) has
@@ -502,9 +633,22 @@ recalled_went plan t (Some fact) before after is stands (next, one, last) =
 
 pub keeps_rest : (old : Chunks) (line : List ℕ) (facts : List (List ℕ)) (told : List ℕ) (new before after : Chunks) → ChunkSteps old line facts told new → ChunksRest old before → RecallsAll ChunkRecalls before facts after → ChunksRest new after
 keeps_rest old line facts told new before after step rests r =
-    let some : WentSome old facts new = step_went old line facts told new step in
-    let read : RecallsAll ChunkRecalls before (fact_lines old.plan some.tenant some.fact) after = subst (λ (lines : List Line). RecallsAll ChunkRecalls before lines after) some.facts_are r in
-    rests_on some.tenant some.fact old new before after some.went (recalled_went old.plan some.tenant some.fact before after rests.site.plan some.stands read) rests
+    let all : WentAll old facts new = step_went old line facts told new step in
+    many old all.parts before all.went rests (subst (λ (lines : List Line). RecallsAll ChunkRecalls before lines after) all.facts_are r)
+  where
+    -- what is recalled of two lists of lines
+    apart : (one two : List Line) (a : Chunks) → RecallsAll ChunkRecalls a (one ++ two) after → (m : Chunks) × RecallsAll ChunkRecalls a one m × RecallsAll ChunkRecalls m two after
+    apart [] two a its = (a, refl, its)
+    apart (line ∷ one) two a (next, first, more) =
+        let rest = apart one two next more in
+        (rest.0, (next, first, rest.1), rest.2)
+
+    many : (old : Chunks) (parts : List (List Line)) (before : Chunks) → WentMany old parts new → ChunksRest old before → RecallsAll ChunkRecalls before (joined parts) after → ChunksRest new after
+    many old [] before same rests r = subst (λ (z : Chunks). ChunksRest z after) (sym same) (subst (λ (z : Chunks). ChunksRest old z) r rests)
+    many old (lines ∷ parts) before (mid, some, more) rests r =
+        let its = apart lines (joined parts) before r in
+        let read : RecallsAll ChunkRecalls before (fact_lines old.plan some.tenant some.fact) its.0 = subst (λ (ls : List Line). RecallsAll ChunkRecalls before ls its.0) some.facts_are its.1 in
+        many mid parts its.0 more (rests_on some.tenant some.fact old mid before its.0 some.went (recalled_went old.plan some.tenant some.fact before its.0 rests.site.plan some.stands read) rests) its.2
 
 -- ---- a start once more
 

@@ -1,5 +1,5 @@
 -- What a machine of chunks has, and what a line makes of it. Nothing here names the shelf: only what was noted of it.
-use Rattle.std.specs.Prelude.{◌≡◌, ◌⊎◌, ◌<◌, ◌≤◌, ◌*◌, ◌%◌, ◌^◌, ◌-◌, not, nat_le, ℕ, List, [], ◌++◌, length, map, Bool, true, false, ◌&&◌, ◌==◌, nat_lt, Option, Some, None, slice_get, Ok, Err, ⊤, if◌then◌else◌}
+use Rattle.std.specs.Prelude.{◌≡◌, ◌⊎◌, ◌<◌, ◌≤◌, ◌*◌, ◌%◌, ◌^◌, ◌-◌, not, nat_le, MatchBool, ℕ, List, [], ◌∷◌, ◌++◌, length, map, Bool, true, false, ◌&&◌, ◌==◌, nat_lt, Option, Some, None, slice_get, Ok, Err, ⊤, if◌then◌else◌}
 use Rattle.std.specs.List.{sum_by}
 use Rattle.std.specs.Option.{option_to_list}
 use Rattle.gq_shelf.specs.Notes.{Noted, GoesOn}
@@ -13,7 +13,10 @@ use Rattle.gq_shelf.specs.declared.fault.ShelfFault.TheVariants as Shelf
 use Rattle.gq_replace.specs.Plans.{generation, place_of}
 use Rattle.gq_setup.specs.Setups.{Setup, SetupReading, kib_of}
 use Rattle.gq_setup.specs.Texts.{setup_of_node_text}
-use Rattle.gq_depot.specs.Depots.{Placed, Standing, standing_of, bare, IsSame, reads_fact}
+use Rattle.gq_stock.specs.Finding.{LacksSpace}
+use Rattle.gq_stock.specs.Sure.{PutsStay}
+use Rattle.gq_depot.specs.Depots.{Placed, Standing, standing_of, bare, IsSame, reads_fact, FactIsSure}
+use Rattle.gq_depot.specs.Moving.{MovesOwn, FactIsPut}
 use Rattle.gq_depot.specs.Tenants.{TakesOwn, FillsOwn, LeadsOwn, ApartFrom, DamageOf}
 use Rattle.gq_depot.specs.Seeking.{Sought, AreAsks}
 use Rattle.gq_depot.specs.declared.limits.TheConstants.{MOST_CHUNK}
@@ -27,9 +30,11 @@ use Rattle.gq_depot.specs.declared.filling.Filling.TheVariants.{Give, Raise, End
 use Rattle.gq_depot.specs.declared.request.ChunkRequest.{ChunkRequest}
 use Rattle.gq_depot.specs.declared.request.ChunkRequest.TheVariants.{Get, List as ListChunks}
 use Rattle.gq_depot.specs.declared.seeking.Ask.{Ask}
+use Rattle.gq_chunks.specs.declared.filling.Given.{Given}
+use Rattle.gq_chunks.specs.declared.filling.Given.TheVariants.{Taken, NoSpace}
 use Rattle.gq_chunks.specs.Answers.{chunk_answer_text}
 use Rattle.gq_chunks.specs.Facts.{chunk_fact_line, chunk_fact_of_line}
-use Rattle.gq_chunks.specs.Coming.{Coming, Asked, Said, Ticked, Nothing, coming_of}
+use Rattle.gq_chunks.specs.Coming.{Coming, Asked, Said, Ticked, Nothing, coming_of, moves_at}
 use Rattle.gq_chunks.specs.PeerLines.{Saying, Seeks, Found, Wants, Gives, Misses, Spoilt, asks_text, peer_answer_text}
 use Rattle.gq_chunks.specs.Peers.{is_peer}
 
@@ -143,6 +148,25 @@ pub record Waits (old : Chunks) (t : ℕ) (facts : List Line) (told : List ℕ) 
   pub facts_are : facts ≡ []
   pub asks : MayAskOf old t told
 
+-- What a peer gave is not there, since the shelf had no space for it. What the tenant has is as it was, and so have all others.
+pub record LeavesOut (old : Chunks) (t : ℕ) (new : Chunks) : Type 0 where
+  pub leads : LeadsOwn old.depots t None new.depots
+  pub space : LacksSpace old.noted new.noted
+  pub apart : ApartFrom t old.depots new.depots
+  pub goes_on : GoesOn old.noted new.noted
+  pub site : IsSite old new
+
+-- so it is, and no fact is given, and nobody is asked
+pub record Unfed (old : Chunks) (t : ℕ) (facts : List Line) (told : List ℕ) (new : Chunks) : Type 0 where
+  pub left : LeavesOut old t new
+  pub facts_are : facts ≡ []
+  pub told_is : told ≡ []
+
+-- what comes of a content that a peer gives
+abbrev pub GivenAs : Chunks → (t : ℕ) → Filling → Given → Chunks → Type 0
+GivenAs old t filling (Taken fact) new = FillsDone old t filling fact new
+GivenAs old t filling NoSpace new = LeavesOut old t new
+
 -- whether the tenant is there, and none of its chunks is lacked
 abbrev pub lacks_none : Option Depot → Bool
 lacks_none None = false
@@ -166,13 +190,66 @@ abbrev pub SaidBy : Saying → Chunks → (t from : ℕ) → List Line → List 
 SaidBy (Seeks p s after) old t from facts told new = AnswersPeer (may_answer old t p) old t from (ListChunks s after) facts told new
 SaidBy (Wants s n) old t from facts told new = AnswersPeer (may_answer old t 0) old t from (Get s n 0 whole_length) facts told new
 SaidBy (Found s after floor is_all chunks) old t from facts told new = Fed old t (Raise s floor) facts told new
-SaidBy (Gives s n bytes) old t from facts told new = Fed old t (Give s n bytes) facts told new
+SaidBy (Gives s n bytes) old t from facts told new = Fed old t (Give s n bytes) facts told new ⊎ Unfed old t facts told new
 SaidBy (Misses s n) old t from facts told new = Waits old t facts told new
 SaidBy (Spoilt s n) old t from facts told new = Waits old t facts told new
 
 -- at a tick a peer may be asked about a tenant, or a tenant's chunks were all given
 abbrev pub Ticks : Chunks → List Line → List ℕ → Chunks → Type 0
 Ticks old facts told new = (t : ℕ) × (Waits old t facts told new ⊎ Fed old t End facts told new)
+
+-- ---- chunks that are moved
+
+-- whose chunk was to be moved, by the tenant's place, and the fact of it, if there is one
+abbrev pub Move : Type 0
+Move = ℕ × Option ChunkFact
+
+abbrev pub move_lines : CheckedPlan → List Move → List Line
+move_lines plan [] = []
+move_lines plan (move ∷ moves) = fact_lines plan move.0 move.1 ++ move_lines plan moves
+
+-- it is so of the fact of each
+abbrev pub EachMove : (Option ChunkFact → Type 0) → List Move → Type 0
+EachMove P [] = ⊤
+EachMove P (move ∷ moves) = P move.1 × EachMove P moves
+
+-- A chunk of the tenant at this place was to be moved, and this came of it. It hangs on this tenant's chunks alone, and all others stay.
+pub record MoveDone (old : Chunks) (t : ℕ) (fact : Option ChunkFact) (new : Chunks) : Type 0 where
+  pub session : ℕ
+  pub number : ℕ
+  pub end : ℕ
+  pub own : MovesOwn new.noted end old.depots t session number fact new.depots
+  pub apart : ApartFrom t old.depots new.depots
+  pub goes_on : GoesOn old.noted new.noted
+  pub site : IsSite old new
+  pub put : FactIsPut fact new.noted
+  pub puts_stay : PutsStay old.noted new.noted
+
+-- so it was, and the line of the fact says it
+pub record MovesOne (old : Chunks) (t : ℕ) (fact : Option ChunkFact) (new : Chunks) : Type 0 where
+  pub done : MoveDone old t fact new
+  pub within : t < length old.depots
+  pub stands : FactStands old.plan t fact
+
+-- one after another
+abbrev pub MovesOn : Chunks → List Move → Chunks → Type 0
+MovesOn old [] new = new ≡ old
+MovesOn old (move ∷ moves) new = (mid : Chunks) × MovesOne old move.0 move.1 mid × MovesOn mid moves new
+
+-- Chunks were moved, of any tenants, and the shelf made sure of all that the facts name.
+pub record Moves (old : Chunks) (facts : List Line) (new : Chunks) : Type 0 where
+  pub moves : List Move
+  pub last : Chunks
+  pub moved : MovesOn old moves last
+  pub depots : new.depots ≡ last.depots
+  pub site : IsSite last new
+  pub goes_on : GoesOn last.noted new.noted
+  pub sure : EachMove (λ fact. FactIsSure fact new.noted) moves
+  pub facts_are : facts ≡ move_lines old.plan moves
+
+-- Only a tick and a content that is to be kept have chunks moved.
+abbrev pub MovesBy : Coming → Chunks → List Line → Chunks → Type 0
+MovesBy its old facts new = MatchBool (moves_at its) (Moves old facts new) ((new ≡ old) × (facts ≡ []))
 
 -- ---- any line
 
@@ -184,8 +261,14 @@ StepsBy (Asked t (Some request)) old facts told new = Took (chunk_answer_text ol
 StepsBy (Said t from saying) old facts told new = SaidBy saying old t from facts told new
 StepsBy Ticked old facts told new = Ticks old facts told new
 
-abbrev pub ChunkSteps : Chunks → List ℕ → List (List ℕ) → List ℕ → Chunks → Type 0
-ChunkSteps old line facts told new = StepsBy (coming_in old line) old facts told new
+-- Chunks may be moved before. Nothing that is told changes by that (`gq_depot::laws::moves_tell_same`).
+pub record ChunkSteps (old : Chunks) (line : List ℕ) (facts : List (List ℕ)) (told : List ℕ) (new : Chunks) : Type 0 where
+  pub mid : Chunks
+  pub moved : List Line
+  pub own : List Line
+  pub moves : MovesBy (coming_in old line) old moved mid
+  pub step : StepsBy (coming_in old line) mid own told new
+  pub facts_are : facts ≡ moved ++ own
 
 -- what is told behind the text: nothing, or asks about the tenant
 pub record AddsAsks (m : Chunks) (t : ℕ) (before after : List ℕ) : Type 0 where
@@ -199,6 +282,31 @@ pub record AddsFacts (old : Chunks) (t : ℕ) (filling : Filling) (before after 
   pub is : after ≡ before ++ lines_text lines
   pub opened : are_batch_lines lines ≡ true
   pub fills : Fills old t filling lines new
+
+-- chunks that were moved so far, the lines of the facts behind the text, and what was put of them on the shelf
+pub record MovedSoFar (old : Chunks) (before after : List ℕ) (new : Chunks) : Type 0 where
+  pub moves : List Move
+  pub moved : MovesOn old moves new
+  pub text : after ≡ before ++ lines_text (move_lines old.plan moves)
+  pub opened : are_batch_lines (move_lines old.plan moves) ≡ true
+  pub put : EachMove (λ fact. FactIsPut fact new.noted) moves
+  pub puts_stay : PutsStay old.noted new.noted
+
+-- the facts of chunks that were moved behind the text
+pub record AddsMoves (old : Chunks) (before after : List ℕ) (new : Chunks) : Type 0 where
+  pub lines : List Line
+  pub is : after ≡ before ++ lines_text lines
+  pub opened : are_batch_lines lines ≡ true
+  pub moves : Moves old lines new
+  pub site : IsSite old new
+  pub refused : old.noted.refused ≤ new.noted.refused
+
+-- the same of what may be moved before a line
+pub record AddsMovesBy (its : Coming) (old : Chunks) (before after : List ℕ) (new : Chunks) : Type 0 where
+  pub lines : List Line
+  pub is : after ≡ before ++ lines_text lines
+  pub opened : are_batch_lines lines ≡ true
+  pub moves : MovesBy its old lines new
 
 -- ---- a line of an earlier run
 

@@ -1,11 +1,12 @@
 //! A node that lacks chunks is given them by its peers, and gives its own to one that does.
 
-ghost use Rattle.std.specs.Prelude.{◌≡◌, ◌<◌, [], true, length, IfOk, IfSome, IfErr, OnOk};
+ghost use Rattle.std.specs.Prelude.{◌≡◌, ◌⊎◌, ◌<◌, ◌++◌, [], true, length, IfOk, IfSome, IfErr, OnOk};
+ghost use Rattle.gq_journal.specs.Batches.{lines_text};
 ghost use Rattle.gq_text.specs.Canonical.{IsPlan};
 ghost use Rattle.gq_keeper.specs.Runs.{Takes};
 ghost use Rattle.gq_depot.specs.Seeking.{Sought, sought_of, AreAsks};
 ghost use Rattle.gq_chunks.specs.PeerLines.{saying_of};
-ghost use Rattle.gq_chunks.specs.Machines.{chunks, may_answer, IsShelfRefusal, AnswersPeer, AddsAsks, AddsFacts, FillsDone, Fed, Waits, SaidBy, Ticks};
+ghost use Rattle.gq_chunks.specs.Machines.{chunks, may_answer, fact_lines, FactStands, IsShelfRefusal, AnswersPeer, AddsAsks, AddsFacts, FillsDone, GivenAs, Fed, Unfed, Waits, SaidBy, Ticks};
 ghost use Rattle.gq_chunks.specs.Search.{IsGiven};
 
 use crate::machine::fault_of;
@@ -18,7 +19,16 @@ use gq_depot::{Ask, Filling, ListedChunk};
 use gq_grid::MOST_SERVERS;
 use gq_keeper::Fault;
 use gq_memory::OutOfMemory;
-use gq_shelf::Shelf;
+use gq_shelf::{Shelf, ShelfFault};
+
+/// What comes of a content that a peer gives.
+#[derive(Drop)]
+pub(crate) enum Given {
+    /// It was taken, or passed over.
+    Taken(Option<ChunkFact>),
+    /// The shelf has no space for it.
+    NoSpace,
+}
 
 impl<S: Shelf + Drop> ChunkMachine<S> {
     // Does this for the tenant.
@@ -44,6 +54,19 @@ impl<S: Shelf + Drop> ChunkMachine<S> {
         let fact = self.filled(tenant, filling)?;
         self.put_fact(tenant, &fact, facts)?;
         Ok(())
+    }
+
+    // A peer gives this for the tenant. Where the shelf has no space for it nothing changes.
+    fn given(&mut self, tenant: u8, gift: Filling) -> Result<Given, Fault>
+        requires { tenant < length self.old.depots.depots.items }
+        ensures given { IfOk result (λ given. GivenAs (chunks self.old.plan self.old.node self.old.lost self.old.depots.losses self.old.depots.depots.items (S.noted self.old.depots.shelf)) tenant gift given (chunks self.new.plan self.new.node self.new.lost self.new.depots.losses self.new.depots.depots.items (S.noted self.new.depots.shelf))) }
+        ensures refused { IfErr result (λ fault. IsShelfRefusal fault (S.noted self.old.depots.shelf) (S.noted self.new.depots.shelf)) }
+    {
+        match self.depots.fill(self.alloc, tenant as usize, gift) {
+            Ok(fact) => Ok(Given::Taken(fact)),
+            Err(ShelfFault::Full) => Ok(Given::NoSpace),
+            Err(fault) => Err(fault_of(fault)),
+        }
     }
 
     // Asks this of the peer whose turn it is, about the tenant.
@@ -195,7 +218,29 @@ impl<S: Shelf + Drop> ChunkMachine<S> {
         Ok(())
     }
 
-    // A peer gives a content.
+    // A content that a peer gave was taken, or passed over.
+    fn took_content(
+        &mut self,
+        tenant: u8,
+        session: u32,
+        number: u64,
+        fact: &Option<ChunkFact>,
+        facts: &mut Vec<u8>,
+        told: &mut Vec<u8>,
+    ) -> Result<(), OutOfMemory>
+        requires tenant { tenant < length self.old.plan.rows }
+        requires there { tenant < length self.old.depots.depots.items }
+        requires sound { IsPlan self.old.plan }
+        ensures same { (chunks self.new.plan self.new.node self.new.lost self.new.depots.losses self.new.depots.depots.items (S.noted self.new.depots.shelf)) ≡ (chunks self.old.plan self.old.node self.old.lost self.old.depots.losses self.old.depots.depots.items (S.noted self.old.depots.shelf)) }
+        ensures kept { OnOk result (facts.new.items ≡ facts.old.items ++ lines_text (fact_lines self.old.plan tenant fact.now)) }
+        ensures stands { OnOk result (FactStands self.old.plan tenant fact.now) }
+        ensures asks { OnOk result (AddsAsks (chunks self.old.plan self.old.node self.old.lost self.old.depots.losses self.old.depots.depots.items (S.noted self.old.depots.shelf)) tenant told.old.items told.new.items) }
+    {
+        self.put_fact(tenant, fact, facts)?;
+        self.settled(tenant, session, number, false, told)
+    }
+
+    // A peer gives a content. Where the shelf has no space for it, it is asked for again later.
     fn hear_content(
         &mut self,
         tenant: u8,
@@ -208,7 +253,7 @@ impl<S: Shelf + Drop> ChunkMachine<S> {
         requires tenant { tenant < length self.old.plan.rows }
         requires there { tenant < length self.old.depots.depots.items }
         requires sound { IsPlan self.old.plan }
-        ensures took { OnOk result (Takes (λ old line facts told new. Fed old tenant (Filling.Give session number bytes) facts told new) (chunks self.old.plan self.old.node self.old.lost self.old.depots.losses self.old.depots.depots.items (S.noted self.old.depots.shelf)) [] facts.old.items facts.new.items told.old.items told.new.items (chunks self.new.plan self.new.node self.new.lost self.new.depots.losses self.new.depots.depots.items (S.noted self.new.depots.shelf))) }
+        ensures took { OnOk result (Takes (λ old line facts told new. Fed old tenant (Filling.Give session number bytes) facts told new ⊎ Unfed old tenant facts told new) (chunks self.old.plan self.old.node self.old.lost self.old.depots.losses self.old.depots.depots.items (S.noted self.old.depots.shelf)) [] facts.old.items facts.new.items told.old.items told.new.items (chunks self.new.plan self.new.node self.new.lost self.new.depots.losses self.new.depots.depots.items (S.noted self.new.depots.shelf))) }
         ensures refused { IfErr result (λ fault. IsShelfRefusal fault (S.noted self.old.depots.shelf) (S.noted self.new.depots.shelf)) }
     {
         let given = Filling::Give {
@@ -216,9 +261,16 @@ impl<S: Shelf + Drop> ChunkMachine<S> {
             number,
             bytes,
         };
-        self.fill(tenant, given, facts)?;
-        self.settled(tenant, session, number, false, told)?;
-        Ok(())
+        match self.given(tenant, given)? {
+            Given::Taken(fact) => {
+                self.took_content(tenant, session, number, &fact, facts, told)?;
+                Ok(())
+            }
+            Given::NoSpace => {
+                self.search.wait_for_space();
+                Ok(())
+            }
+        }
     }
 
     // A content won't come.

@@ -5,6 +5,7 @@
 mod answering;
 mod asking;
 mod came;
+mod cleaning;
 mod filling;
 mod hearing;
 pub mod laws;

@@ -9,7 +9,8 @@ ghost use Rattle.gq_shelf.specs.Extents.{place_of};
 ghost use Rattle.gq_depot.specs.Segments.{NoneLies};
 ghost use Rattle.gq_depot.specs.declared.answer.ChunkAnswer.TheVariants.{Bad};
 ghost use Rattle.gq_chunks.specs.Answers.{chunk_answer_text};
-ghost use Rattle.gq_chunks.specs.Machines.{chunks, fact_lines, FactStands, depot_reads, IsFaultOf, IsShelfRefusal, Answers, Took, Recalled, IsNewFor};
+ghost use Rattle.gq_chunks.specs.Coming.{coming, IsWithin};
+ghost use Rattle.gq_chunks.specs.Machines.{chunks, StepsBy, fact_lines, FactStands, depot_reads, IsFaultOf, IsShelfRefusal, Answers, Took, Recalled, IsNewFor};
 
 use crate::came::{Came, read_came};
 use crate::needed::put_tenants;
@@ -17,7 +18,7 @@ use crate::new_depots::{column_losses, new_depots};
 use crate::ranges::{plan_is_sound, put_sound_fact};
 use crate::search::Search;
 use crate::{ChunkAnswer, ChunkFact, ChunkRequest, put_chunk_answer, read_chunk_fact};
-use gq_depot::{Answered, Depots, Sweep};
+use gq_depot::{Answered, Cleaner, Depots, Sweep};
 use gq_desk::Plan;
 use gq_grid::MOST_SERVERS;
 use gq_keeper::{Fault, Lasting, Machine, Unread};
@@ -39,6 +40,10 @@ pub struct ChunkMachine<S: Shelf + Drop> {
     facts: u64,
     // what it asks of its peers where it lacks chunks
     pub(crate) search: Search,
+    // how far it has come with segments of the shelf of which little is named
+    pub(crate) cleaner: Cleaner,
+    // how many bytes were to be kept since chunks were moved
+    pub(crate) kept: u64,
 }
 
 /// Why the machine ends where the shelf refuses.
@@ -79,6 +84,8 @@ impl<S: Shelf + Drop> ChunkMachine<S> {
             },
             facts: 0,
             search: Search::new(alloc),
+            cleaner: Cleaner::new(alloc),
+            kept: 0,
         })
     }
 
@@ -164,6 +171,34 @@ impl<S: Shelf + Drop> ChunkMachine<S> {
         Ok(())
     }
 
+    // What comes of what came.
+    fn take_came(
+        &mut self,
+        came: Came,
+        facts: &mut Vec<u8>,
+        told: &mut Vec<u8>,
+    ) -> Result<(), Fault>
+        requires tenant { IsWithin (length self.old.plan.rows) came }
+        requires there { IsWithin (length self.old.depots.depots.items) came }
+        requires sound { IsPlan self.old.plan }
+        ensures took { OnOk result (Takes (λ old line facts told new. StepsBy (coming came) old facts told new) (chunks self.old.plan self.old.node self.old.lost self.old.depots.losses self.old.depots.depots.items (S.noted self.old.depots.shelf)) [] facts.old.items facts.new.items told.old.items told.new.items (chunks self.new.plan self.new.node self.new.lost self.new.depots.losses self.new.depots.depots.items (S.noted self.new.depots.shelf))) }
+        ensures refused { IfErr result (λ fault. IsShelfRefusal fault (S.noted self.old.depots.shelf) (S.noted self.new.depots.shelf)) }
+    {
+        match came {
+            Came::Nothing => Ok(()),
+            Came::Tick => self.tick(facts, told),
+            Came::Said { tenant, from, line } => self.hear(tenant, from, line, facts, told),
+            Came::Asked {
+                tenant,
+                request: Some(request),
+            } => self.request(tenant, request, facts, told),
+            Came::Asked {
+                tenant,
+                request: None,
+            } => Ok(self.put_bad(tenant, told)?),
+        }
+    }
+
     // A line of the tenant's has no form.
     fn put_bad(&self, tenant: u8, told: &mut Vec<u8>) -> Result<(), OutOfMemory>
         requires { tenant < length self.now.plan.rows }
@@ -214,19 +249,10 @@ impl<S: Shelf + Drop> Machine for ChunkMachine<S> {
     {
         plan_is_sound(&self.plan);
         let tenants = self.depots.depots.as_slice().len();
-        match read_came(self.alloc, &self.plan, self.node, &self.lost, tenants, line)? {
-            Came::Nothing => Ok(()),
-            Came::Tick => self.tick(facts, told),
-            Came::Said { tenant, from, line } => self.hear(tenant, from, line, facts, told),
-            Came::Asked {
-                tenant,
-                request: Some(request),
-            } => self.request(tenant, request, facts, told),
-            Came::Asked {
-                tenant,
-                request: None,
-            } => Ok(self.put_bad(tenant, told)?),
-        }
+        let came = read_came(self.alloc, &self.plan, self.node, &self.lost, tenants, line)?;
+        self.clean_before(&came, facts)?;
+        plan_is_sound(&self.plan);
+        self.take_came(came, facts, told)
     }
 }
 

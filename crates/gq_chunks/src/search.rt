@@ -15,7 +15,7 @@ const MOST_IN_VAIN: u32 = 2;
 // So many ticks are passed over behind one at which something was asked, and behind one before which something came.
 const WAIT: u32 = 1;
 
-// So many ticks later a content that was spoilt at all peers is asked for once more.
+// So many ticks later a content that was spoilt at all peers, or for which there was no space, is asked for once more.
 const PAUSE: u32 = 16;
 
 /// How far a node that lacks chunks has come. A start begins it anew, and passes over what is there.
@@ -241,6 +241,16 @@ impl Search {
         self.came = true;
         self.contents = self.contents.saturating_add(1);
         self.ask_more(alloc, sessions)
+    }
+
+    /// A content came for which there is no space: it is left, and nothing is asked for some ticks.
+    pub(crate) fn wait_for_space(&mut self)
+        ensures seeking { self.new.seeking ≡ self.old.seeking }
+        ensures spoilt { self.new.is_spoilt ≡ self.old.is_spoilt }
+        ensures tenant { self.new.tenant ≡ self.old.tenant }
+    {
+        self.came = false;
+        self.pause = PAUSE;
     }
 
     // The next peer of the column is asked. Where each was asked for the tenant, the next tenant's chunks are sought.

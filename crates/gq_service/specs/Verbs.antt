@@ -3,7 +3,8 @@ use Rattle.std.proofs.Common.{◌≡◌, ◌∙◌, ℕ, List, [], ◌∷◌, su
 use Rattle.std.specs.Prelude.{codes, All, option_map}
 use Rattle.std.specs.Str.{bytes_eq}
 use Rattle.std.specs.List.{list_all}
-use Rattle.std.proofs.lemmas.Bool.{cases_Bool}
+use Rattle.std.proofs.lemmas.Bool.{and_from, cases_Bool}
+use Rattle.std.proofs.lemmas.List.Folds.{list_all-append}
 use Rattle.std.proofs.lemmas.Slice.Eq.{bytes_eq-Decides}
 use Rattle.gq_text.specs.Words.{Word, words_of}
 use Rattle.gq_text.specs.Input.{◌>>=◌, place_named}
@@ -23,7 +24,7 @@ use Rattle.gq_machine.specs.declared.machine.NodeMachine.{NodeMachine}
 use Rattle.gq_machine.specs.Machines.{tables_of, MachineSteps, machine_reads}
 use Rattle.gq_pair.specs.Pairs.{readable_by}
 use Rattle.gq_chunks.specs.Facts.{own_fact_by as chunk_fact_by, chunk_fact_line, chunk_fact_of_line, chunk_fact_of_words}
-use Rattle.gq_chunks.specs.Lasting.{WentSome, step_went}
+use Rattle.gq_chunks.specs.Lasting.{WentMany, WentAll, joined, step_went}
 use Rattle.gq_chunks.specs.Machines.{Chunks, ChunkSteps, chunk_reads, reads_told, FactStands, fact_lines as chunk_lines}
 use Rattle.gq_chunks.specs.Takers.{is_fact_verb, words_tell_chunk, tells_chunk}
 use Rattle.gq_depot.specs.declared.fact.ChunkFact.{ChunkFact}
@@ -127,5 +128,11 @@ all_told plan t (Some fact) stands = rw (chunk_said plan (chunk_fact_line plan t
 
 pub second_facts : (old : Chunks) (line : List ℕ) (facts : List (List ℕ)) (told : List ℕ) (new : Chunks) → ChunkSteps old line facts told new → list_all tells_chunk facts ≡ true
 second_facts old line facts told new step =
-    let some : WentSome old facts new = step_went old line facts told new step in
-    subst (λ (z : List Line). list_all tells_chunk z ≡ true) (sym some.facts_are) (all_told old.plan some.tenant some.fact some.stands)
+    let all : WentAll old facts new = step_went old line facts told new step in
+    subst (λ (z : List Line). list_all tells_chunk z ≡ true) (sym all.facts_are) (many old all.parts all.went)
+  where
+    many : (old : Chunks) (parts : List (List Line)) → WentMany old parts new → list_all tells_chunk (joined parts) ≡ true
+    many old [] went = refl
+    many old (lines ∷ parts) (mid, some, more) =
+        list_all-append tells_chunk lines (joined parts)
+        ∙ and_from (list_all tells_chunk lines) (list_all tells_chunk (joined parts)) (subst (λ (z : List Line). list_all tells_chunk z ≡ true) (sym some.facts_are) (all_told old.plan some.tenant some.fact some.stands)) (many mid parts more)

@@ -1,22 +1,26 @@
--- What the line is is what was read of it.
-use Rattle.std.proofs.Common.{◌∙◌, ℕ, List, length, Option, None, sym, ap, refl}
+-- What the line is is what was read of it, and chunks were moved before.
+use Rattle.std.proofs.Common.{◌≡◌, ◌∙◌, ℕ, List, length, sym, ap, subst}
+use Rattle.gq_desk.specs.CheckedPlan.{CheckedPlan}
 use Rattle.gq_depot.specs.declared.depot.Depot.{Depot}
-use Rattle.gq_depot.specs.declared.request.ChunkRequest.{ChunkRequest}
-use Rattle.gq_chunks.specs.Coming.{Asked, Nothing, coming, coming_of}
+use Rattle.gq_chunks.specs.Coming.{coming, coming_of, IsWithin}
 use Rattle.gq_chunks.specs.Machines.{chunks}
-use Rattle.gq_chunks.proofs.Taken.{by_coming, passed_over, told_bad}
+use Rattle.gq_chunks.proofs.Taken.{ok_by_coming, err_refused}
 use Rattle.gq_chunks.proofs.machine.ChunkMachineMachine.take.Goals as goal
 
-pub returns-in-Nothing-clause-takes : goal.returns-in-Nothing-clause-takes
-returns-in-Nothing-clause-takes g c =
-    let m = c.args.self.now in
-    by_coming (λ m. chunks m.plan m.node m.lost m.depots.losses m.depots.depots.items (g.S.Shelf.noted m.depots.shelf)) m _ Nothing c.args.line.now c.args.facts.now.items c.args.facts.now.items c.args.told.now.items c.args.told.now.items
-    (sym (ap (λ (n : ℕ). coming_of m.plan m.node m.lost n c.args.line.now) (ap (λ (depots : List Depot). length depots) c.as_slice-tenants.ensures.value)) ∙ (sym c.in_ok-read_came.ensures.came ∙ ap coming c.in-Nothing.is))
-    (passed_over (chunks m.plan m.node m.lost m.depots.losses m.depots.depots.items (g.S.Shelf.noted m.depots.shelf)) (chunks m.plan m.node m.lost m.depots.losses m.depots.depots.items (g.S.Shelf.noted m.depots.shelf)) c.args.facts.now.items c.args.told.now.items refl)
+pub take_came-requires-clause-tenant : goal.take_came-requires-clause-tenant
+take_came-requires-clause-tenant g c = subst (λ (plan : CheckedPlan). IsWithin (length plan.rows) c.in_ok-came.came) (sym c.in_ok-clean_before.ensures.plan) c.in_ok-came.ensures.tenant
 
-pub returns-in_ok-put_bad-in-Asked-default-None-clause-takes : goal.returns-in_ok-put_bad-in-Asked-default-None-clause-takes
-returns-in_ok-put_bad-in-Asked-default-None-clause-takes g c =
+pub take_came-requires-clause-there : goal.take_came-requires-clause-there
+take_came-requires-clause-there g c =
+    subst (λ (tenants : ℕ). IsWithin tenants c.in_ok-came.came) (ap (λ (depots : List Depot). length depots) c.as_slice-tenants.ensures.value ∙ sym c.in_ok-clean_before.ensures.tenants) c.in_ok-came.ensures.there
+
+pub returns-clause-takes : goal.returns-clause-takes
+returns-clause-takes g c =
     let m = c.args.self.now in
-    by_coming (λ m. chunks m.plan m.node m.lost m.depots.losses m.depots.depots.items (g.S.Shelf.noted m.depots.shelf)) m _ (Asked c.in-Asked-default-None.tenant None) c.args.line.now c.args.facts.now.items c.args.facts.now.items c.args.told.now.items c.put_bad.new.told.items
-    (sym (ap (λ (n : ℕ). coming_of m.plan m.node m.lost n c.args.line.now) (ap (λ (depots : List Depot). length depots) c.as_slice-tenants.ensures.value)) ∙ (sym c.in_ok-read_came.ensures.came ∙ (ap coming c.in-Asked-default-None.is ∙ ap (λ (r : Option ChunkRequest). Asked c.in-Asked-default-None.tenant r) c.in-Asked-default-None.request-is)))
-    (told_bad (chunks m.plan m.node m.lost m.depots.losses m.depots.depots.items (g.S.Shelf.noted m.depots.shelf)) (chunks m.plan m.node m.lost m.depots.losses m.depots.depots.items (g.S.Shelf.noted m.depots.shelf)) c.in-Asked-default-None.tenant c.args.facts.now.items c.args.told.now.items c.put_bad.new.told.items refl c.in_ok-put_bad-in-Asked-default-None.ensures)
+    let n = c.clean_before.new.self in
+    ok_by_coming c.take_came.result (λ m. chunks m.plan m.node m.lost m.depots.losses m.depots.depots.items (g.S.Shelf.noted m.depots.shelf)) m n c.take_came.new.self (coming c.in_ok-came.came) c.args.line.now c.args.facts.now.items c.clean_before.new.facts.items c.take_came.new.facts.items c.args.told.now.items c.take_came.new.told.items
+    (sym (ap (λ (n : ℕ). coming_of m.plan m.node m.lost n c.args.line.now) (ap (λ (depots : List Depot). length depots) c.as_slice-tenants.ensures.value)) ∙ sym c.in_ok-came.ensures.came)
+    c.in_ok-clean_before.ensures.moves c.take_came.ensures.took
+
+pub returns-clause-refused : goal.returns-clause-refused
+returns-clause-refused g c = err_refused c.take_came.result (g.S.Shelf.noted c.args.self.now.depots.shelf) (g.S.Shelf.noted c.clean_before.new.self.depots.shelf) (g.S.Shelf.noted c.take_came.new.self.depots.shelf) c.in_ok-clean_before.ensures.rises c.take_came.ensures.refused

@@ -1,0 +1,42 @@
+use Rattle.std.proofs.Common.{◌≡◌, ℕ, length, ap, ◌∙◌, arith}
+use Rattle.gq_chunks.specs.Coming.{coming}
+use Rattle.gq_chunks.specs.Machines.{Chunks, chunks}
+use Rattle.gq_chunks.proofs.Cleaned.{moves_none, moves_from}
+use Rattle.gq_chunks.proofs.Taken.{refused_on}
+use Rattle.gq_chunks.proofs.machine.ChunkMachine.clean_before.Goals as goal
+
+pub returns-in_default-clause-plan : goal.returns-in_default-clause-plan
+returns-in_default-clause-plan g c = ap (λ (z : Chunks). z.plan) c.due.ensures.same
+
+pub returns-in_default-clause-tenants : goal.returns-in_default-clause-tenants
+returns-in_default-clause-tenants g c = ap (λ (z : Chunks). length z.depots) c.due.ensures.same
+
+pub returns-in_default-clause-rises : goal.returns-in_default-clause-rises
+returns-in_default-clause-rises g c = let same = ap (λ (z : Chunks). z.noted.refused) c.due.ensures.same in omega (arith, same)
+
+pub returns-in_default-clause-moves : goal.returns-in_default-clause-moves
+returns-in_default-clause-moves g c =
+    let m = c.args.self.now in
+    let n = c.due.new.self in
+    moves_none (coming c.args.came.now) (chunks m.plan m.node m.lost m.depots.losses m.depots.depots.items (g.S.Shelf.noted m.depots.shelf)) (chunks n.plan n.node n.lost n.depots.losses n.depots.depots.items (g.S.Shelf.noted n.depots.shelf)) c.args.facts.now.items c.due.ensures.same
+
+pub returns-in-Ok-clause-plan : goal.returns-in-Ok-clause-plan
+returns-in-Ok-clause-plan g c = c.in-Ok.ensures.moves.site.plan ∙ ap (λ (z : Chunks). z.plan) c.due.ensures.same
+
+pub returns-in-Ok-clause-tenants : goal.returns-in-Ok-clause-tenants
+returns-in-Ok-clause-tenants g c = c.in-Ok.ensures.moves.site.tenants ∙ ap (λ (z : Chunks). length z.depots) c.due.ensures.same
+
+pub returns-in-Ok-clause-rises : goal.returns-in-Ok-clause-rises
+returns-in-Ok-clause-rises g c = let same = ap (λ (z : Chunks). z.noted.refused) c.due.ensures.same in omega (arith, same, c.in-Ok.ensures.moves.refused)
+
+pub returns-in-Ok-clause-moves : goal.returns-in-Ok-clause-moves
+returns-in-Ok-clause-moves g c =
+    let m = c.args.self.now in
+    let n = c.due.new.self in
+    let k = c.clean.new.self in
+    moves_from (coming c.args.came.now) (chunks m.plan m.node m.lost m.depots.losses m.depots.depots.items (g.S.Shelf.noted m.depots.shelf)) (chunks n.plan n.node n.lost n.depots.losses n.depots.depots.items (g.S.Shelf.noted n.depots.shelf)) (chunks k.plan k.node k.lost k.depots.losses k.depots.depots.items (g.S.Shelf.noted k.depots.shelf)) c.args.facts.now.items c.clean.new.facts.items c.due.ensures.same c.in-Some.ensures.may c.in-Ok.ensures.moves
+
+pub returns-in-Err-clause-refused : goal.returns-in-Err-clause-refused
+returns-in-Err-clause-refused g c =
+    let same : (g.S.Shelf.noted c.due.new.self.depots.shelf).refused ≡ (g.S.Shelf.noted c.args.self.now.depots.shelf).refused = ap (λ (z : Chunks). z.noted.refused) c.due.ensures.same in
+    refused_on c.in-Err.fault (g.S.Shelf.noted c.args.self.now.depots.shelf) (g.S.Shelf.noted c.due.new.self.depots.shelf) (g.S.Shelf.noted c.clean.new.self.depots.shelf) (omega (arith, same)) c.in-Err.ensures.refused
