@@ -11,7 +11,7 @@ HERE = os.path.dirname(os.path.abspath(__file__))
 sys.path.insert(0, os.path.join(HERE, "..", "..", "clients", "python"))
 from gridfs_client import PlanTold
 from gridfs_client.carriers import Carrier
-from gridfs_client.chunk_lines import CHUNK_CHARGE, content_in, content_word
+from gridfs_client.chunk_lines import CHUNK_CHARGE, content_in, escaped
 from gridfs_client.grid import Shape
 
 MOST, MOST_LISTED, PLACES = 1 << 20, 1000, 64
@@ -65,7 +65,7 @@ class Server:
         if key not in self.chunks or self.lacks:
             return (b"lacks %d %d" if self.lacks else b"none %d %d") % key
         it = self.chunks[key]
-        return b"got %d %d %d %d %b" % (*key, len(it), first, content_word(it[first : first + length]))
+        return b"got %d %d %d %d ~%b" % (*key, len(it), first, escaped(it[first : first + length]))
 
     def forget(self, session, floor, words):
         first, last = map(int, words)

@@ -1,6 +1,9 @@
 """A client's chunks over nodes in this process, whose lines are lost, repeated and late."""
 
+import os
 import random
+import subprocess
+import sys
 import unittest
 from collections import Counter
 
@@ -8,7 +11,7 @@ from servers import MOST, Net, Server, Servers
 
 from gridfs_client import Damaged, NoRoom, Pace, Unanswered
 from gridfs_client import chunks as module
-from gridfs_client.chunk_lines import content_in, content_word, parse_chunk
+from gridfs_client.chunk_lines import content_in, escaped, parse_chunk
 from gridfs_client.chunks import Chunks, Wanted
 from gridfs_client.runs import Run, runs_of
 
@@ -340,7 +343,7 @@ class Asked(unittest.TestCase):
     def test_contents_as_words(self):
         draw = random.Random(2)
         for it in (b"", b"\\", b"\\\\n \n\\040", b" \\s=~", draw.randbytes(100_000)):
-            self.assertEqual(content_in(content_word(it)), it)
+            self.assertEqual(content_in(b"~" + escaped(it)), it)
             self.assertEqual(content_in(b"=" + it.replace(b"\\", b"\\b").replace(b"\n", b"\\n").replace(b" ", b"\\s")), it)
         for body in (b"got 1 2 3", b"kept 1 2", b"kept 1 2 x", b"chunks 1", b"chunks 1 0 0 5", b"room 1 2 3", b"refused room 1 2", b"refused full 1", b"refused full 1 2 3", b"refused nofile 1 2 3 4", b"done", b"none 1"):
             self.assertIsNone(parse_chunk(0, body), body)
@@ -350,6 +353,26 @@ class Asked(unittest.TestCase):
             self.assertEqual((told.key, told.numbers, told.content), ((16, 18446744073709551615), (1048576, 1048575), content))
         for body in (b"got 1 2 3 4", b"got 1 2 3 4 ", b"got 1 2 3 4 x", b"got 1 2 3 x ~a", b"got 1 2 3 4 ~a b", b"got 1 2 3 4  ~a", b"got 1 2 3 ~a"):
             self.assertIsNone(parse_chunk(0, body), body)
+
+
+MEMORY = """
+import resource
+from gridfs_client.chunk_lines import keep
+from gridfs_client.memory import keep_for_chunks
+keep_for_chunks()
+def pages(count):
+    for _ in range(count):
+        keep(1, 1, bytes(1 << 20))
+    return resource.getrusage(resource.RUSAGE_SELF).ru_minflt
+print(-pages(4) + pages(40))
+"""
+
+
+class Memory(unittest.TestCase):
+    def test_a_chunk_has_the_pages_of_the_one_before(self):
+        words = {**os.environ, "PYTHONPATH": os.path.dirname(os.path.dirname(module.__file__))}
+        told = subprocess.run([sys.executable, "-B", "-c", MEMORY], env=words, capture_output=True, check=True).stdout
+        self.assertLess(int(told), 1_000)  # (of a MiB each 256, and as many of what is made of it)
 
 
 if __name__ == "__main__":

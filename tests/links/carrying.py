@@ -384,6 +384,7 @@ def a_tenant_who_takes_his_time(program, folder):
             bob.sendall(b"get 1 3 0 9\n")
             carry.gets(b"0 bob get 1 3 0 9")
             carry.gets(b"0 ann get 1 %d 0 9" % number, seconds=4 * SOON)
+            check(not gone(ann), "it is given once the connection was ended, and no sooner")
     finally:
         check(carry.end() == 0, carry.told())
         check(" slow 0 " in carry.told(), carry.told())

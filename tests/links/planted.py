@@ -19,7 +19,7 @@ FAULTS = {
     "a part of a line is given": ("lines_are_whole", "links.c", "    if (stream->paused) paused--;", "    if (link->held && link->peer) lines(link, link->part, link->held);\n    if (stream->paused) paused--;", "links.c", "/* The end of a link */", "static void lines(struct link *link, const char *text, size_t length);"),
     "a line that is too long is given": ("lines_are_whole", "node.c", "strlen(queue->head) + body > longest", "false"),
     "what waits within TLS is forgotten": ("lines_are_whole", "links.c", "if (stream->more && !link->is_later)", "if (false)"),
-    "an answer goes to all connections": ("answers_go_home", "links.c", "struct link *only = session ? peer->by_session[session] : NULL;", "struct link *only = NULL;\n    (void)session;"),
+    "an answer goes to all connections": ("answers_go_home", "links.c", "    if (session) only = peer->by_session[session];\n", "    (void)session;\n"),
     "an answer about a chunk goes to whom its session asked last": ("chunks_go_home", "links.c", "struct link *only = request ? who_asked(peer, request) : NULL;", "struct link *only = NULL;\n    (void)who_asked;", "links.c", "(request && !only && memcmp(body, \"refused \", 8))", "false"),
     "who asks for a chunk takes its session's answers": ("chunks_go_home", "links.c", "size_t session = request ? 0 : session_of(line,", "size_t session = session_of(line,"),
     "two who ask for one chunk are one": ("chunks_go_home", "links.c", "        peer->asked[at].link = NULL;\n        return link;", "        return link;"),

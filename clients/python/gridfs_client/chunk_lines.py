@@ -25,9 +25,9 @@ class ChunkTold:
     is_end: bool = False  # of a list that tells all
 
 
-def content_word(content: bytes) -> bytes:
-    """A content as a word: the bytes themselves, of which three are written as Python writes them."""
-    return b"~" + content.replace(b"\\", b"\\\\").replace(b"\n", b"\\n").replace(b" ", b"\\040")
+def escaped(content: bytes) -> bytes:
+    """A content as it stands in a word, behind `~`: the bytes themselves, of which three are written as Python writes them."""
+    return content.replace(b"\\", b"\\\\").replace(b"\n", b"\\n").replace(b" ", b"\\040")
 
 
 def content_in(line: bytes, at: int = 0) -> bytes:
@@ -44,7 +44,7 @@ def content_in(line: bytes, at: int = 0) -> bytes:
 
 
 def keep(session: int, number: int, content: bytes) -> bytes:
-    return b"keep %d %d %b" % (session, number, content_word(content))
+    return b"keep %d %d ~%b" % (session, number, escaped(content))
 
 
 def parse_list(node: int, words: list[bytes]) -> ChunkTold:

@@ -23,6 +23,7 @@ from .fleet_map import read_map
 from .grid import Nodes, listed, told_shape
 from .layout import BLOCK, layout_of
 from .local import INPUT, complain, content_of, cut, go_to, json_of, out, out_lines, rewindable, to_target
+from .memory import keep_for_chunks
 from .mirror import GRID, Removal, ToFolder, ToGrid, prefix_of, shown
 from .names import Entry, NamedFiles, place_to_cut
 from .open_grids import OpenGrids, one_by_one
@@ -498,6 +499,8 @@ def status_of_grid(grids: OpenGrids, grid: str) -> tuple[dict[str, Any], list[st
 
 def run(words: list[str]) -> None:
     args = parser().parse_args(words)
+    if args.call in (put, get, mirror, renew):
+        keep_for_chunks()
     settings = Settings.gather({key.replace("_", "-"): value for key, value in vars(args).items() if isinstance(value, str)}, os.environ)
     if "map" in settings.values:
         run_over_grids(args, settings)

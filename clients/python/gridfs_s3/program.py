@@ -11,6 +11,8 @@ from collections.abc import Sequence
 from pathlib import Path
 from typing import TYPE_CHECKING
 
+from gridfs_client.memory import keep_for_chunks
+
 from . import config
 from .several import run_all
 
@@ -131,6 +133,7 @@ def main(words: Sequence[str] | None = None) -> None:
         parser.error("--keys is wanted, or --several")
     if missing := config.missing():
         raise SystemExit(f"gridfs-s3: not there: {' '.join(missing)} (as root on Debian: apt-get install {' '.join(missing)})")
+    keep_for_chunks()
     if asked.several:
         run_all(asked.several, lambda each: asyncio.run(serve(each)))
     else:
