@@ -260,10 +260,14 @@ fn a_moved_chunk_is_told_as_before(rt: HostRuntime) -> Result<(), Fail> {
     let alloc = rt.alloc();
     let mut depots = two_depots(alloc)?;
     let request = keep(&rt, alloc, 7, "moved");
+    assert!(&rt; depots.depots.len() == 2);
     assert!(&rt; matches!(depots.answer(alloc, 0, request), Ok(_)));
+    assert!(&rt; depots.depots.len() == 2);
     assert!(&rt; matches!(depots.shelve(0, 1, 8), Ok(None)));
+    assert!(&rt; depots.depots.len() == 2);
     assert!(&rt; matches!(depots.shelve(0, 9, 7), Ok(None)));
     for _ in 0..2 {
+        assert!(&rt; depots.depots.len() == 2);
         assert!(&rt;
             matches!(
                 depots.shelve(0, 1, 7),
@@ -276,6 +280,7 @@ fn a_moved_chunk_is_told_as_before(rt: HostRuntime) -> Result<(), Fail> {
             )
         );
         assert!(&rt; matches!(depots.make_sure(), Ok(())));
+        assert!(&rt; depots.depots.len() == 2);
         let request = ChunkRequest::Get {
             session: 1,
             number: 7,
