@@ -880,9 +880,9 @@ def metrics_are_true(program, folder):
                 ann.sendall(b"write 1 1 0 0 " + LONG + b"\n")
             told = carry.tells(path, lambda told: told.of("tenant_lines_total", 'tenant="ann"') == 40, "long lines are not told")
             check(told.of("tenant_over_rate_seconds_total", 'tenant="ann"') < 1, f"long lines cost as much as short ones: {told}")
-            for _ in range(30):
-                ann.sendall((b"write 1 1 0 0 " + LONG[:4_000] + b"\n") * 60)
-            told = carry.tells(path, lambda told: told.of("tenant_lines_total", 'tenant="ann"') == 1_840, "a flood is not told")
+            for _ in range(120):
+                ann.sendall(b"write 1 1 0 0 " + LONG + b"\n")
+            told = carry.tells(path, lambda told: told.of("tenant_lines_total", 'tenant="ann"') == 160, "a flood is not told")
             told = carry.tells(path, lambda told: told.of("tenant_over_rate_seconds_total", 'tenant="ann"') > 1, "that ann had to wait is not told")
             ticks = told.of("node_ticks_total")
             carry.tells(path, lambda told: told.of("node_ticks_total") > ticks, "ticks are not told")

@@ -53,7 +53,7 @@ FAULTS = {
     "other ports are taken for one's own": ("hosts_amid_a_write", "links.c", "memcmp(before, own_ports, sizeof before)) say", "false) say"),
     "ports are compared with what was on the stack": ("its_own_ports", "links.c", "ports[2][6] = {{0}};", "ports[2][6];"),
     "a lost link is told to be up": ("metrics_are_true", "links.c", "peer && peer->many)", "peer != NULL)"),
-    "a node that has ended is told to be ready": ("metrics_are_true", "node.c", "it->fd = -1, node_ready = false;", "it->fd = -1;"),
+    "a node that has ended is told to be ready": ("metrics_are_true", "node.c", "it->fd = -1, node_ready = false, greet_due = 0;", "it->fd = -1, greet_due = 0;"),
     "long lines cost all their bytes": ("metrics_are_true", "node.c", "bytes > LONGEST ? LONGEST + (bytes - LONGEST) / PART : bytes;", "bytes;"),
     "waits of a tenant are not counted": ("metrics_are_true", "node.c", "queue->tally->over_rate += queue->paid_until - over;", "(void)over;"),
     "a node greets before it is ready": ("forms_are_told", "node.c", "static double greet_due; ", "static double greet_due = 1; "),
