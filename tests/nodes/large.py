@@ -94,7 +94,8 @@ class LargeStorm(Storm):
             life.wrote.clear()
 
     def see_tag(self, *words):
-        super().see_tag(*words[:-1], words[-1] if len(words[-1]) < 200 else hashlib.sha256(words[-1]).digest())
+        """(Of a large content what histories have in its place.)"""
+        super().see_tag(*words[:-1], self.by_name[words[0]][0].content(words[-1]))
 
 
 class Alone:

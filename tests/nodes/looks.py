@@ -80,7 +80,7 @@ class Looks:
             if content is None:
                 continue
             content = content.replace(b"-", b"")
-            if len(content) != 2 * int(length):
+            if len(content) != 2 * int(self.storm.by_name[name][0].length(length)):
                 raise Wrong(f"{self.name} looks and is told {copy!r}, whose content is {content[:200]!r}")
-            self.note(file, "ok", '"%s"' % self.storm.by_name[name][0].content(content).decode())
+            self.note(file, "ok", '"%s"' % content.decode())
             self.storm.looked += 1
