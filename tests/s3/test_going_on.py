@@ -20,6 +20,7 @@ from gridfs_client.ends import parse_end
 from gridfs_client.fleet_map import read_map
 from gridfs_client.layout import Layout, Volume
 from gridfs_client.sessions import Session
+from gridfs_s3.notes import Begun, Notes
 from gridfs_s3.sessions import SURE_FOR
 from gridfs_s3.store import Store
 
@@ -105,7 +106,7 @@ class GoingOn(unittest.TestCase):
             s3 = it.client()
             self.assertEqual(listed(s3), wanted)
             told = endpoint.counts(self.room)
-            self.assertEqual((looks_in(told), told.get("write")), (2 + SESSIONS, None), told)  # (for the index' word, the bucket, and each session)
+            self.assertEqual((looks_in(told), told.get("write")), (2, None), told)  # (for the index' word, and the bucket)
             s3.put_object(Bucket="bucket", Key="new", Body=b"12345")
             s3.delete_object(Bucket="bucket", Key="003")
             wanted = {key: size for key, size in wanted.items() if key != "003"} | {"new": 5}
@@ -207,6 +208,91 @@ class Lent(unittest.TestCase):
         return found
 
 
+class Killed(unittest.TestCase):
+    """A gateway that is killed once it has settled all pages: what was under way is settled anew, and no more, unless somebody had a session since."""
+
+    pages = Lent.pages
+
+    def setUp(self):
+        self.rooms = contextlib.ExitStack()
+        self.addCleanup(self.rooms.close)
+        self.room = self.rooms.enter_context(endpoint.stand_in(*self.plan(self.rooms.enter_context(tempfile.TemporaryDirectory()))))
+        self.it = self.rooms.enter_context(contextlib.closing(Ending(self.room, f"{self.room}/index")))
+        s3, self.wanted = self.it.client(), {}
+        s3.create_bucket(Bucket="bucket")
+        for number in range(COUNT):
+            s3.put_object(Bucket="bucket", Key=f"{number:03}", Body=b"x" * number)
+            self.wanted[f"{number:03}"] = number
+        self.assertGreater(self.writes(), self.pages)
+
+    def plan(self, folder):
+        with open(f"{folder}/plan", "w", encoding="ascii") as out:
+            out.write(Lent.plan)
+        return f"{folder}/plan", f"{folder}/grid"
+
+    def writes(self):
+        return Lent.writes(None, self.room)
+
+    def kill_amid_puts(self):
+        """Keys whose puts may have been done."""
+        s3, tried = [self.it.client() for _ in range(4)], []
+
+        def put(number):
+            for turn in range(50):
+                tried.append(f"late {number}-{turn}")
+                try:
+                    s3[number].put_object(Bucket="bucket", Key=tried[-1], Body=b"late")
+                except Exception:
+                    return
+
+        threads = [threading.Thread(target=put, args=(number,)) for number in range(4)]
+        for thread in threads:
+            thread.start()
+        time.sleep(0.5)
+        self.it.kill()
+        for thread in threads:
+            thread.join()
+        return tried
+
+    def test_amid_puts(self):
+        for _ in range(2):
+            tried = self.kill_amid_puts()
+            endpoint.counts(self.room)
+            self.it.start()
+            told = listed(self.it.client())
+            self.assertLessEqual(endpoint.counts(self.room).get("write", 0), 4 * SESSIONS)
+            self.assertEqual({key: size for key, size in told.items() if key not in tried}, self.wanted)
+            self.assertLessEqual(self.writes(), 6 * SESSIONS)
+            s3 = self.it.client()
+            self.assertEqual(listed(s3), told)
+            for key in tried:
+                self.assertEqual(key in told, there(s3, key), key)
+            self.wanted = told
+
+    def test_who_had_a_session_since(self):
+        """It may have left something under way into any page of its session."""
+        self.it.kill()
+        words = [sys.executable, "-B", "-c", HAS_ONE, f"{self.room}/carol.ini", f"{self.room}/other"]
+        with subprocess.Popen(words, env={**os.environ, "PYTHONPATH": code_of_s3.CLIENT}, stdin=subprocess.PIPE, stdout=subprocess.PIPE) as process:
+            self.assertEqual(process.stdout.readline(), b"it has one\n")
+            process.kill()
+        endpoint.counts(self.room)
+        self.it.start()
+        self.assertEqual(listed(self.it.client()), self.wanted)
+        self.assertGreaterEqual(self.writes(), 2 * self.pages)
+        self.assertEqual(listed(self.it.client()), self.wanted)
+
+
+def there(s3, key):
+    from botocore.exceptions import ClientError
+
+    try:
+        s3.head_object(Bucket="bucket", Key=key)
+        return True
+    except ClientError:
+        return False
+
+
 class SeveralGrids(unittest.TestCase):
     def test_listings_between_moves(self):
         """Listings ask nobody once all pages are settled, and are right while slices move, and after that."""
@@ -263,6 +349,11 @@ class HowFar(unittest.TestCase):
     """What a session's last number has to be."""
 
     def gone_on(self, said, last, home=2):
+        store = self.store(last, home)
+        store.go_on(parse_end(f"{said}\n"))
+        return store.writer.carried
+
+    def store(self, last, home=2):
         class Began(Session):
             def __init__(self):
                 self.home, self.last, self.number = home, None, 1
@@ -276,14 +367,35 @@ class HowFar(unittest.TestCase):
         store.layout = types.SimpleNamespace(pages=3, page_at=Layout(2, (Volume(4, 1), Volume(4, 1), Volume(4, 1), Volume(4, 1), Volume(4, 2))).page_at)
         store.writer = types.SimpleNamespace(carried={})
         store.shared = types.SimpleNamespace(index=types.SimpleNamespace(tag=lambda page, _: Tag(page + 5, 1)))
-        store.go_on(parse_end(f"{said}\n"))
-        return store.writer.carried
+        return store
+
+    def test_notes(self):
+        """What is noted of a session, and is believed where its home tells that number, or the one before."""
+        with tempfile.TemporaryDirectory() as folder:
+            one = Notes(f"{folder}/notes")
+            every = {1: Begun(2, 7, (4, 5), True), 16: Begun(66, 1 << 31, None, False)}
+            self.assertEqual([one.read(number) for number in range(1, 17)], [None] * 16)
+            for number, begun in every.items():
+                one.write(number, begun)
+            later = Notes(f"{folder}/notes")
+            self.assertEqual({number: begun for number in range(1, 17) if (begun := later.read(number))}, every)
+            later.memory[64 + 8] ^= 1  # (a part of a record)
+            self.assertEqual([one.read(1), one.read(16)], [None, every[16]])
+            with self.assertRaises(OSError):
+                Notes(f"{folder}/nowhere/notes")
+        told = [(home, last) for home in (2, 66) for last in range(5, 11) if every[1].is_last(home, last)]
+        self.assertEqual(told, [(2, 7), (2, 8)])
 
     def test_it(self):
         carried = {0: Tag(5, 1), 1: Tag(6, 1), 2: Tag(7, 1)}
         self.assertEqual(self.gone_on("2 7", 8), carried)
         for said, last, home in (("2 7", 7, 2), ("2 7", 9, 2), ("2 7", 8, 66), ("2 0", 8, 2)):
             self.assertEqual(self.gone_on(said, last, home), {})
+        # Where the gateway was killed, the page or journal that was under way is.
+        for place, left in (((0, 2), {1, 2}), ((2, 0), {0, 1, 2}), ((3, 3), {0, 1}), ((4, 0), {0, 1, 2}), (None, {0, 1, 2})):
+            store = self.store(8)
+            store.go_on_after(Begun(2, 7, place, True))
+            self.assertEqual(store.writer.carried.keys(), left, place)
         # Pages that were written meanwhile, or their journals, are settled anew; slots and tables are none.
         for places, left in (("0.2", {1, 2}), ("2.2 0.0", {1, 2}), ("1.1 3.3", {0}), ("4.0 0.1", {0, 1, 2})):
             self.assertEqual(self.gone_on(f"2 7 {places}", 8).keys(), left, places)

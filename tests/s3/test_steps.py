@@ -72,6 +72,19 @@ def uploads(objects):
     return [held for held in objects.all() if held.name.startswith(".s3/up/")]
 
 
+class NotSettled(unittest.TestCase):
+    def test_what_a_look_does_not_settle(self):
+        """It is read, whatever the index has."""
+        memory = fresh()
+        one, two = client(memory, 1), client(memory, 2)
+        for content in (b"old", b"new", b"later"):
+            put(one, NAME, content)
+            two.session.look = lambda volume, wanted=None: (None,) * memory.layout.volumes[volume].files
+            self.assertEqual(content_of(two, NAME), content)
+            two.look_at(range(two.layout.pages_volumes))
+            self.assertEqual(two.shared.index.tag(0, 1), memory.read(two.layout.page(1, 0)).tag)
+
+
 class Steps(unittest.TestCase):
     def judge(self, memory, old, new, name=NAME):
         """Looks by new clients of both sessions at what a dead client left. What the session's own one has seen, or changed, stays."""

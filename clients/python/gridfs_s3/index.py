@@ -156,7 +156,7 @@ class Index:
     """Each call may come from any thread. Without a path the file is nobody else's, and goes with the process; else a later process goes on with it."""
 
     def __init__(self, path: str | None = None, grid: str = ""):
-        self.grid, self.guard = grid, threading.RLock()
+        self.path, self.grid, self.guard = path, grid, threading.RLock()
         self.tags: dict[tuple[int, int], Tag] = {}
         self.recent: OrderedDict[tuple[int, int], tuple[Known, int]] = OrderedDict()
         self.recent_bytes, self.changes, self.committed = 0, 0, time.monotonic()

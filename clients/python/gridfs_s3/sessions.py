@@ -30,6 +30,7 @@ from gridfs_client.ways import Ground, slice_of
 from .claims import Claims
 from .errors import error_of, tell
 from .index import Index
+from .notes import Begun, Notes
 from .shared import Shared, Turns
 from .store import Store
 from .trips import Trip
@@ -60,6 +61,7 @@ class Pool:
         self.begun: dict[int, asyncio.Task[None]] = {}  # pages on which something is changed, each with what settles it before
         self.carrier: Carrier | None = None
         self.layout: Layout  # once it is opened
+        self.notes: Notes | None = None  # of how far sessions come, where a later gateway may go on
         self.sessions = 0  # of the tenant, once it is opened
         self.fault: ClientError | None = None  # why it was not opened at first
         self.gathering = gathering
@@ -112,6 +114,7 @@ class Pool:
             lock.close()
             return None
         session = Turn(carrier, number, home, self.settings.pace())
+        session.notes = self.notes
         worker = known or Worker(session, lock)
         worker.session = session
         self.renew(worker)
@@ -139,7 +142,8 @@ class Pool:
         index = self.shared.index
         if not index.is_kept:
             return
-        await asyncio.gather(*(self.go_on_by(worker) for worker in self.workers.values()))  # (first: asking for the word takes numbers)
+        before = self.read_notes()
+        found = await asyncio.gather(*(self.go_on_by(worker, before.get(worker.number)) for worker in list(self.workers.values())))  # (first: asking for the word takes numbers)
         try:
             word = await self.run(await self.lease(), self.word_of_grid, is_soon=True) if self.is_open else ""
         except ClientError:
@@ -150,6 +154,12 @@ class Pool:
                 self.renew(worker)
             if word:
                 index.say("grid", word)
+        elif killed := [pair for pair in found if pair]:
+            with suppress(ClientError):
+                await self.look_at_all()
+                for worker, begun in killed:
+                    if not worker.is_silent and not worker.is_lent:
+                        worker.store.go_on_after(begun)
 
     def word_of_grid(self, store: Store) -> str:
         """What the index of this grid says of it: a random word under a name. (What the index has is not asked: perhaps it is another grid's.)"""
@@ -160,10 +170,29 @@ class Pool:
             files.put(WORD_OF_GRID, secrets.token_hex(16).encode())
             return files.get(WORD_OF_GRID)[0].decode()
 
-    async def go_on_by(self, worker: Worker) -> None:
-        if end := parse_end(self.shared.index.about(f"session {worker.number}")):
-            with suppress(ClientError):
-                await self.run(await self.lease(worker.number), partial(Store.go_on, end=end), is_soon=True)
+    def read_notes(self) -> dict[int, Begun]:
+        """How far each session came by the gateway before; from now on it is noted how far it comes by this one."""
+        try:
+            self.notes = Notes(f"{self.shared.index.path}.sessions")
+        except OSError as fault:
+            tell(f"{fault.filename}: {fault.strerror}: a gateway that goes on after a kill settles all pages")
+            return {}
+        found = ((number, self.notes.read(number)) for number in self.workers)
+        told = {number: begun for number, begun in found if begun}
+        for worker in self.workers.values():
+            worker.session.notes = self.notes
+        return told
+
+    async def go_on_by(self, worker: Worker, begun: Begun | None) -> tuple[Worker, Begun] | None:
+        """Begins with a session, as it ended; where its gateway was killed, how far it had come, if nobody had it since and all its pages were settled."""
+        end = parse_end(self.shared.index.about(f"session {worker.number}"))
+        if end is None and begun is None:
+            return None
+        with suppress(ClientError):
+            await self.run(await self.lease(worker.number), partial(Store.go_on, end=end), is_soon=True)
+            if begun and begun.is_settled and worker.session.last and begun.is_last(worker.session.home, worker.session.last) and not worker.store.goes_on:
+                return worker, begun
+        return None
 
     def note_end(self) -> None:
         """Writes down how far each session came, for a later gateway. Called once nothing is under way."""
@@ -206,6 +235,7 @@ class Pool:
     def renew(self, worker: Worker) -> None:
         """Forgets all that the worker knows of files; its pages are settled anew, by and by."""
         worker.store = Store(worker.session, self.layout, self.shared, self.ground)
+        worker.session.has_settled = worker.store.writer.has_settled_all
         if self.has_begun:
             self.loop.call_soon_threadsafe(lambda: self.spawn(self.tidy_session(worker.number)))
 
@@ -243,7 +273,8 @@ class Pool:
 
     async def has_session(self, number: int) -> bool:
         try:
-            await self.run(await self.lease(number), lambda store: store.session.list(0), is_soon=True)
+            worker = await self.lease(number)
+            await self.run(worker, lambda store: worker.session.expect_own(), is_soon=True)
             return True
         except ClientError:
             return False

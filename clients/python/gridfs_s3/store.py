@@ -27,6 +27,7 @@ from gridfs_client.writers import Writer
 
 from .checksums import Checksum
 from .errors import S3Error
+from .notes import Begun
 from .part_lists import Uploaded, for_object, uploaded
 from .places import Part, Values, number_of, of_words, parts_of, to_words, upload_name
 from .reading import Reader
@@ -316,9 +317,14 @@ class Store(Reader):
         assert isinstance(self.session, Session)
         return End(self.session.home, self.session.last) if self.writer.has_settled_all() and self.session.last is not None else None
 
-    def go_on(self, end: End) -> None:
+    def go_on(self, end: End | None) -> None:
         """Goes on as it came to an end in an earlier gateway, where nobody had the session since."""
         self.has_back({page: self.shared.index.tag(page, self.me) for page in range(self.layout.pages)}, end)
+
+    def go_on_after(self, begun: Begun) -> None:
+        """The same where the gateway was killed, and the index has all pages as they are now: what was under way was one operation."""
+        page = self.layout.page_at(*begun.place) if begun.place else None
+        self.writer.carried = {each: self.shared.index.tag(each, self.me) for each in range(self.layout.pages) if each != page}
 
     def has_back(self, carried: dict[int, Tag], end: End | None) -> None:
         """Begins with a session whose pages were as they were carried, but for those that the note tells of; where that is not to be believed, with none."""

@@ -1,7 +1,7 @@
 """A session of the gateway, and who works by it."""
 
 import asyncio
-from collections.abc import AsyncIterator
+from collections.abc import AsyncIterator, Callable
 from contextlib import asynccontextmanager
 from contextvars import ContextVar
 from dataclasses import replace
@@ -12,6 +12,7 @@ from gridfs_client.errors import ClientError
 from gridfs_client.opening import SOON
 from gridfs_client.sessions import Pace, Session
 
+from .notes import Begun, Notes
 from .store import Store
 
 
@@ -24,6 +25,8 @@ class Turn(Session):
 
     has_written, has_failed = False, False
     full: Pace | None = None
+    notes: Notes | None = None  # where it is noted how far it came, and whether all its pages are settled
+    has_settled: Callable[[], bool] = staticmethod(lambda: False)
 
     def begin(self, is_soon: bool) -> None:
         self.full, self.has_written, self.has_failed = self.pace, False, False
@@ -44,6 +47,10 @@ class Turn(Session):
             raise
         self.end()
         return told
+
+    def begins(self, kind: str, number: int, place: tuple[int, ...]) -> None:
+        if self.notes:
+            self.notes.write(self.number, Begun(self.home, number, (place[0], place[1]) if kind == "write" else None, self.has_settled()))
 
 
 class Crowded(Exception):
