@@ -23,6 +23,7 @@ FAULTS = {
     "an answer about a chunk goes to whom its session asked last": ("chunks_go_home", "links.c", "struct link *only = chunk ? who_asked(peer, chunk) : NULL;", "struct link *only = NULL;\n    (void)who_asked;", "links.c", "(chunk && !only && memcmp(body, \"refused \", 8))", "false"),
     "who asks for a chunk takes its session's answers": ("chunks_go_home", "links.c", "size_t session = chunk ? 0 : session_of(line,", "size_t session = session_of(line,"),
     "two who ask for one chunk are one": ("chunks_go_home", "links.c", "        peer->asked[at].link = NULL;\n        return link;", "        return link;"),
+    "who asked for room last waits for who was not told": ("chunks_go_home", "links.c", "of_room = chunk && length > 5 && !memcmp(body, \"room \", 5);", "of_room = false;"),
     "a run that is forgotten is known by its floor": ("chunks_go_home", "links.c", "{\"forget\", 1, 3}", "{\"forget\", 1, 2}"),
     "lines are given however much waits for their tenant": ("a_tenant_who_takes_his_time", "links.c", "return queue->told > bound / 2;", "return false;"),
     "one who takes nothing holds up his tenant": ("a_tenant_who_takes_his_time", "links.c", "if (stream->since + STUCK > time) queue->told", "queue->told"),
