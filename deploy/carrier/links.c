@@ -295,6 +295,14 @@ static struct link *who_asked(struct peer *peer, uint64_t request) {
     return NULL;
 }
 
+/* Whether it was asked by this connection: so often as it was. */
+static bool has_asked(struct peer *peer, uint64_t request, const struct link *link) {
+    bool found = false;
+    for (size_t i = 0; i < ASKED; i++)
+        if (peer->asked[i].link == link && peer->asked[i].request == request) peer->asked[i].link = NULL, found = true;
+    return found;
+}
+
 static void lines(struct link *link, const char *text, size_t length) {
     struct peer *peer = link->peer;
     if (is_tenant(peer->name)) {
@@ -391,20 +399,22 @@ bool engine_is_behind(struct queue *queue, double time) {
     return queue->told > bound / 2;
 }
 
-/* An answer about chunks or to a look goes to the connection that asked, another one to that on which its session asked last; an answer of no session goes to all
-   connections of the tenant. */
+/* An answer about chunks or to a look goes to the connection that asked, and one about room to all that did; another one to that on which its session asked last; an
+   answer of no session goes to all connections of the tenant. */
 void engine_carry(const char *to, size_t name, const char *body, size_t length) {
     struct peer *peer = peer_of(to, name, false);
     uint64_t request = peer && peer->many && is_tenant(peer->name) ? request_of(body, length) : 0;
-    struct link *only = request ? who_asked(peer, request) : NULL;
-    if (!peer || !peer->many || (request && !only && memcmp(body, "refused ", 8))) {
+    bool went = false, of_room = request && length > 5 && !memcmp(body, "room ", 5);
+    struct link *only = request && !of_room ? who_asked(peer, request) : NULL;
+    if (!peer || !peer->many || (request && !of_room && !only && memcmp(body, "refused ", 8))) {
         count.lost++;
         return;
     }
-    size_t session = is_tenant(peer->name) && !only ? session_of(body, length) : 0;
+    size_t session = is_tenant(peer->name) && !only && !of_room ? session_of(body, length) : 0;
     if (session) only = peer->by_session[session];
-    bool went = false;
     if (only) went = put(only, body, length);
+    else if (of_room)
+        for (size_t i = peer->many; i--;) went = (has_asked(peer, request, peer->of[i]) && put(peer->of[i], body, length)) || went;
     else
         for (size_t i = peer->many; i--;) went = put(peer->of[i], body, length) || went;
     if (went) count.out++;

@@ -359,8 +359,12 @@ def chunks_go_home(program, folder):
             ]))  # fmt: skip
             told = [line.split(b" ")[0] for line in hear(first, 7)], [line.split(b" ")[0] for line in hear(second, 8)]
             check(told == ([b"done", b"got", b"refused", b"room", b"forgot", b"looked", b"refused"], [b"damaged", b"got", b"none", b"chunks", b"looked", b"refused", b"forgot", b"refused"]), f"they are told {told}")
-            second.close()
-            wait_for(lambda: second.fileno() < 0, "")
+            first.sendall(b"room\nroom\n"), second.sendall(b"room\nread 2 1 0 0\n")
+            carry.gets(b"0 ann read 2 1 0 0")
+            wait_for(lambda: carry.lines().count(b"0 ann room") == 4, "lines are wanting")
+            carry.says(b"ann 0 room 1 7 0 0\nann 0 room 2 7 0 0\nann 0 refused bad\n")
+            told = hear(first, 2), hear(second, 2)
+            check(told == ([b"room 1 7 0 0", b"refused bad"],) * 2, f"of room they are told {told}")
     finally:
         check(carry.end() == 0, carry.told())
         check("lost 2 " in carry.told(), carry.told())
