@@ -254,52 +254,52 @@ fn segments_of_chunks_are_known(rt: HostRuntime) -> Result<(), Fail> {
     Ok(())
 }
 
+// Moves the chunk, and looks for it.
+fn moves(rt: &impl Abort, alloc: Global, depots: &mut Depots<MemoryShelf>) {
+    assert!(rt; !depots.depots.is_empty());
+    assert!(rt;
+        matches!(
+            depots.shelve(0, 1, 7),
+            Ok(Some(ChunkFact::Put {
+                session: 1,
+                number: 7,
+                is_sure: true,
+                place: Place::Shelved(Extent { len: 5, .. }),
+            }))
+        )
+    );
+    assert!(rt; matches!(depots.make_sure(), Ok(())));
+    let request = ChunkRequest::Get {
+        session: 1,
+        number: 7,
+        from: 0,
+        length: 9,
+    };
+    let told = answered(rt, alloc, depots, 0, request);
+    assert!(rt;
+        matches!(
+            told.answer,
+            ChunkAnswer::Found {
+                found: Found::There(_),
+                ..
+            }
+        )
+    );
+}
+
 // A chunk that is moved is told as before, and its fact says where it lies.
 #[test]
 fn a_moved_chunk_is_told_as_before(rt: HostRuntime) -> Result<(), Fail> {
     let alloc = rt.alloc();
     let mut depots = two_depots(alloc)?;
     let request = keep(&rt, alloc, 7, "moved");
-    assert!(&rt; depots.depots.len() == 2);
-    assert!(&rt; matches!(depots.answer(alloc, 0, request), Ok(_)));
-    assert!(&rt; depots.depots.len() == 2);
+    let _told = answered(&rt, alloc, &mut depots, 0, request);
+    assert!(&rt; !depots.depots.is_empty());
     assert!(&rt; matches!(depots.shelve(0, 1, 8), Ok(None)));
-    assert!(&rt; depots.depots.len() == 2);
+    assert!(&rt; !depots.depots.is_empty());
     assert!(&rt; matches!(depots.shelve(0, 9, 7), Ok(None)));
-    for _ in 0..2 {
-        assert!(&rt; depots.depots.len() == 2);
-        assert!(&rt;
-            matches!(
-                depots.shelve(0, 1, 7),
-                Ok(Some(ChunkFact::Put {
-                    session: 1,
-                    number: 7,
-                    is_sure: true,
-                    place: Place::Shelved(Extent { len: 5, .. }),
-                }))
-            )
-        );
-        assert!(&rt; matches!(depots.make_sure(), Ok(())));
-        assert!(&rt; depots.depots.len() == 2);
-        let request = ChunkRequest::Get {
-            session: 1,
-            number: 7,
-            from: 0,
-            length: 9,
-        };
-        assert!(&rt;
-            matches!(
-                depots.answer(alloc, 0, request),
-                Ok(Answered {
-                    answer: ChunkAnswer::Found {
-                        found: Found::There(_),
-                        ..
-                    },
-                    ..
-                })
-            )
-        );
-    }
+    moves(&rt, alloc, &mut depots);
+    moves(&rt, alloc, &mut depots);
     // a shelf in memory has one segment, which is the last: nothing is to be moved
     let mut cleaner = Cleaner::new(alloc);
     for _ in 0..9 {
