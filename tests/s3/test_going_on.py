@@ -233,15 +233,16 @@ class Killed(unittest.TestCase):
     def writes(self):
         return Lent.writes(None, self.room)
 
-    def kill_amid_puts(self):
-        """Keys whose puts may have been done."""
+    def kill_amid_puts(self, turn):
+        """Keys whose puts may have been done: others in each turn."""
         s3, tried = [self.it.client() for _ in range(4)], []
 
         def put(number):
-            for turn in range(50):
-                tried.append(f"late {number}-{turn}")
+            for each in range(50):
+                key = f"late {turn}-{number}-{each}"
+                tried.append(key)
                 try:
-                    s3[number].put_object(Bucket="bucket", Key=tried[-1], Body=b"late")
+                    s3[number].put_object(Bucket="bucket", Key=key, Body=b"late")
                 except Exception:
                     return
 
@@ -255,8 +256,8 @@ class Killed(unittest.TestCase):
         return tried
 
     def test_amid_puts(self):
-        for _ in range(2):
-            tried = self.kill_amid_puts()
+        for turn in range(2):
+            tried = self.kill_amid_puts(turn)
             endpoint.counts(self.room)
             self.it.start()
             told = listed(self.it.client())
