@@ -1,5 +1,6 @@
 """Names whose contents are in chunks, step by step: what a client leaves that dies at each of its steps, and what another one sees."""
 
+import hashlib
 import io
 import itertools
 import os
@@ -63,6 +64,7 @@ class Names(unittest.TestCase):
             entry = files.put("name", content)
             told = content if isinstance(content, bytes) else content.getvalue()
             self.assertEqual(self.world.client(2).get("name"), (told, entry))
+            self.assertEqual(entry.sha256, hashlib.sha256(told).hexdigest())
             self.assertEqual(entry.pieces, 0 if len(told) <= 64 else -(-len(told) // SHORT))
             files.close()
             self.assertEqual(self.world.kept(), self.world.named())

@@ -167,9 +167,9 @@ def a_link_that_breaks_amid_a_send(_, folder):
             node = come()
             while not client.would_lose(0, READ):
                 client.send(0, b"x" * READ)
-            waits = len(client.links[0].waits)
+            waits = client.links[0].waiting
             client.send(0, b"x" * READ)
-            check(MOST_WAITS - READ < waits == len(client.links[0].waits) <= MOST_WAITS, f"{waits} bytes wait, and then {len(client.links[0].waits)}")
+            check(MOST_WAITS - READ < waits == client.links[0].waiting <= MOST_WAITS, f"{waits} bytes wait, and then {client.links[0].waiting}")
             node.setsockopt(socket.SOL_SOCKET, socket.SO_LINGER, struct.pack("ii", 1, 0))
             node.close()
             wait_for(lambda: client.send(0, b"y") or client.links[0].socket is None, "it holds a link that was reset")

@@ -1,6 +1,5 @@
 """Contents of names in chunks, of one session: written, read, and forgotten once no line names them."""
 
-import hashlib
 from collections import deque
 from collections.abc import Callable, Collection, Generator, Iterable, Iterator
 from contextlib import closing, suppress
@@ -14,7 +13,7 @@ from .contents import InChunks, InSlots, PartList, Part, digest_in_hex, parse_pa
 from .errors import CarrierFault, Damaged, NoRoom, Unanswered
 from .runs import Place, Run, runs_of
 from .sessions import Files, Session
-from .streams import Source
+from .streams import Digest, Source
 
 MOST_LISTS = 64  # that are remembered
 MOST_LENGTH = 1 << 26  # bytes of a list
@@ -72,7 +71,7 @@ class ChunkContents:
 
     def put(self, source: Source, column: int, progress: Callable[[int, int | None], None]) -> InChunks:
         """The content in chunks, which no line names yet. NoRoom, Unanswered, and faults of the source."""
-        digest, size = hashlib.sha256(), 0
+        digest, size = Digest(), 0
         count = None if source.size is None else -(-source.size // self.most)
 
         def pieces() -> Iterator[bytes]:
@@ -135,7 +134,7 @@ class ChunkContents:
                 coming.append(cut)
                 yield from self.wanted(cut.part, cut.first, cut.end)
 
-        digest, read = hashlib.sha256(), 0
+        digest, read = Digest(), 0
         with closing(self.chunks.get(wanted())) as found:
             for piece in found:
                 if piece is None:
@@ -145,9 +144,9 @@ class ChunkContents:
                 if cut.is_whole:
                     digest.update(piece)
                 if read == cut.end - cut.first:
-                    if cut.is_whole and digest.hexdigest() != digest_in_hex(cut.part.digest):
+                    if cut.is_whole and digest.digest().hex() != digest_in_hex(cut.part.digest):
                         raise Damaged("its chunks don't hold it")
-                    digest, read = hashlib.sha256(), 0
+                    digest, read = Digest(), 0
                     coming.popleft()
                 yield piece
 
