@@ -134,7 +134,7 @@ class Grids:
         self.held("a start without a node that was lost", (status, answers[:5], told[0]), (0, wanted, LOST_AGAIN))
         self.held("reads behind it", sorted(answer.split()[-1] for answer in answers if "done read" in answer), ["6869", "aa"])
         vain = ["node 65 is lost: it is down", "node 195 is lost: it is down", "node 129 stands in the place of node 65"]
-        waits = ["node 129 gets its files once node 195 has started too", "no other node of its column has all files: what they lack is lost"]
+        waits = ["node 129 gets its files once node 195 has started too", "no other node of its column has all files and chunks: what they lack is lost"]
         self.held("a column that is lost", answers[-5:], vain + waits)
         with open(folder + ".row", "w", encoding="ascii") as out:
             out.write("grid 1 2\nblocks 4\ntenant ann 4 2 1\ngo\nann open 4 1\n")

@@ -243,7 +243,7 @@ class CarriedGrid:
         return number + PLACES
 
     def lose(self, number):
-        """Ends a node, and removes its journal."""
+        """Ends a node, and removes its journal, and its shelf."""
         self.kill_node(number)
         remove_journal(self.folder, number)
         del self.processes[number]

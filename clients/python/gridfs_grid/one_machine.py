@@ -4,6 +4,7 @@ import contextlib
 import fcntl
 import os
 import re
+import shutil
 import signal
 import subprocess
 import sys
@@ -111,10 +112,11 @@ def seconds_to_start(journal):
 
 
 def remove_journal(folder, number):
-    """As a disk does that is lost: with what was about to take the journal's place."""
+    """As a disk does that is lost: with what was about to take the journal's place, and the shelf."""
     for path in (journal_of(folder, number), journal_of(folder, number) + ".new"):
         with contextlib.suppress(FileNotFoundError):
             os.unlink(path)
+    shutil.rmtree(journal_of(folder, number) + ".shelf", ignore_errors=True)
 
 
 def keep(path, text):

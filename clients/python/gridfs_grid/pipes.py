@@ -17,6 +17,7 @@ from gridfs_grid.tenant import AGAIN, PLACES, Nodes, Session, tick_of
 from gridfs_grid.trial import show
 
 LACKS = re.compile(r"gridfs: node (\d+)(?:: has all files| of \d by \d: \d+ facts(?:, lacks (\d+) files?)?)\n")
+LACKS_CHUNKS = re.compile(r"gridfs: node (\d+): (?:has all chunks|lacks chunks of (\d+) tenants; \d+ contents came)\n")
 MORE = 95  # bytes that a line of ours may be shorter than a node's, which has the number of the operation
 SILENCE = 20  # seconds in which something has to be answered, where something is to be
 TICK = 0.2
@@ -46,6 +47,7 @@ class Grid:
         self.sessions, self.homes, self.longest = {}, {}, 0
         self.text, self.nodes, self.shape = "", Nodes([]), ""
         self.lacks = {}  # of new nodes that told it, how many files they lacked when they started; 0 where they have all
+        self.lacks_chunks = {}  # the same of tenants whose chunks they lack
         self.plans = {}  # tenants that asked what they have, each with the time at which a node is asked again
         self.ended = {}  # of nodes that ended by themselves, the status
         self.starting = "the line `start {}` starts it again"  # how a node that has ended is started
@@ -135,7 +137,8 @@ class Grid:
         except BlockingIOError:
             return
         os.write(2, told)
-        self.lacks.update((int(number), int(files or 0)) for number, files in LACKS.findall(told.decode("latin1")))
+        for lacks, form in ((self.lacks, LACKS), (self.lacks_chunks, LACKS_CHUNKS)):
+            lacks.update((int(number), int(many or 0)) for number, many in form.findall(told.decode("latin1")))
 
     def fall(self, node, status):
         self.tell_errors()
@@ -223,7 +226,7 @@ class Grid:
             self.carrier.kill(node)
 
     def lose(self, number):
-        """Ends the node, if it is up, and removes its journal."""
+        """Ends the node, if it is up, and removes its journal, and its shelf."""
         self.kill(number)
         remove_journal(self.folder, number)
 
@@ -266,18 +269,18 @@ class Grid:
                 raise Fault(f"no node {number} may be put in the place of node {number - PLACES}: {told}")
 
     def givers(self, number):
-        """The other nodes of its column that have all files."""
+        """The other nodes of its column that have all files, and all chunks."""
         nodes, cols = self.carrier.nodes, int(self.shape.partition("x")[2])
         peers = [node for node in nodes if node.number % PLACES % cols == number % PLACES % cols and node.number != number]
-        return [node for node in peers if os.path.exists(node.journal) and not self.lacks.get(node.number)]
+        return [node for node in peers if os.path.exists(node.journal) and not self.lacks.get(node.number) and not self.lacks_chunks.get(node.number)]
 
     def wait_for_files(self, number):
-        """Waits until a new node has all files. It may have to wait for nodes that are down."""
+        """Waits until a new node has all files, and all chunks, which may take long. It may have to wait for nodes that are down."""
         node, until = self.carrier.node(number), time.monotonic() + SILENCE
-        while self.lacks.get(number):
-            if time.monotonic() > until:
-                down = "".join(f", node {it.number} is down" for it in self.carrier.nodes if not it.child)
-                raise Fault(f"node {number} lacks files after {SILENCE} seconds{down}")
+        while self.lacks.get(number) or self.lacks_chunks.get(number):
+            down = "".join(f", node {it.number} is down" for it in self.carrier.nodes if not it.child)
+            if time.monotonic() > until and (down or self.lacks.get(number)):
+                raise Fault(f"node {number} lacks {'files' if self.lacks.get(number) else 'chunks'} after {SILENCE} seconds{down}")
             if not node.child:
                 raise Fault(f"node {number} is down")
             self.turn(0.1)

@@ -28,7 +28,7 @@ FORMS = """\
     replace N                             put a new node, N + 64, in the place of node N, which was lost: all others start again, one after another
     nodes                                 tell which nodes are up
     wait                                  read no further line before all requests are answered
-    wait N                                read no further line before node N, which is new, has all files
+    wait N                                read no further line before node N, which is new, has all files and all chunks
     help, end                             tell these forms; end (as the end of the input does, once all is answered)"""
 
 
@@ -119,7 +119,7 @@ class Talk:
             if not it.child:
                 self.tell(f"node {new.number} gets its files once node {it.number} has started too, or is replaced")
         if not self.grid.givers(new.number):
-            self.tell(f"no other node of its column has all files: what they lack is lost, and node {new.number} waits for it in vain")
+            self.tell(f"no other node of its column has all files and chunks: what they lack is lost, and node {new.number} waits for it in vain")
 
     def wait(self, node):
         if node.number < PLACES:
