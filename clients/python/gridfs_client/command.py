@@ -507,15 +507,7 @@ def run(words: list[str]) -> None:
         return
     said, begun = settings.shape(), time.monotonic()
     with closing(settings.carrier()) as carrier:
-
-        def interrupt(number: int, _: object) -> None:
-            carrier.stop("interrupted")  # so that no thread goes on waiting for an answer
-            if number == signal.SIGTERM:
-                sys.exit(143)
-            raise KeyboardInterrupt
-
-        signal.signal(signal.SIGINT, interrupt)
-        signal.signal(signal.SIGTERM, interrupt)
+        stop_at_signals(carrier)
         try:
             carry_out(args, settings, carrier, begun)
         except Silent:
@@ -523,6 +515,17 @@ def run(words: list[str]) -> None:
         except Unanswered as fault:
             why = why_unanswered(carrier, said)
             raise Unanswered(f"{fault}; {why}" if why else str(fault)) from None
+
+
+def stop_at_signals(carriers: Carrier | OpenGrids) -> None:
+    def interrupt(number: int, _: object) -> None:
+        carriers.stop("interrupted")  # so that no thread goes on waiting for an answer
+        if number == signal.SIGTERM:
+            sys.exit(143)
+        raise KeyboardInterrupt
+
+    signal.signal(signal.SIGINT, interrupt)
+    signal.signal(signal.SIGTERM, interrupt)
 
 
 def run_over_grids(args: argparse.Namespace, settings: Settings) -> None:
@@ -533,15 +536,7 @@ def run_over_grids(args: argparse.Namespace, settings: Settings) -> None:
     is_shown = sys.stderr is not None and sys.stderr.isatty() and not args.quiet
     grids = OpenGrids(read_map(settings.need("map")), settings, name, Progress(sys.stderr) if is_shown else None)
     with closing(grids):
-
-        def interrupt(number: int, _: object) -> None:
-            grids.stop("interrupted")
-            if number == signal.SIGTERM:
-                sys.exit(143)
-            raise KeyboardInterrupt
-
-        signal.signal(signal.SIGINT, interrupt)
-        signal.signal(signal.SIGTERM, interrupt)
+        stop_at_signals(grids)
         args.call(OpenedFleet(grids), args)
 
 

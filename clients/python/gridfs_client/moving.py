@@ -177,13 +177,12 @@ class Mover:
         self.tell(f"{count} pages have got the signpost")
 
     def lacking(self) -> list[tuple[int, int]]:
+        return self.pages_where(lambda page: self.move.signpost not in page.signposts)
+
+    def pages_where(self, wanted: Callable[[core.Page], bool]) -> list[tuple[int, int]]:
+        """Pages of the old grid, each with its session."""
         with self.files(self.move.source) as files:
-            return [
-                (session, bucket.number)
-                for bucket, _ in files.buckets()
-                for session, known in enumerate(bucket.client.seen, 1)
-                if self.move.signpost not in known.page.signposts
-            ]
+            return [(session, bucket.number) for bucket, _ in files.buckets() for session, known in enumerate(bucket.client.seen, 1) if wanted(known.page)]
 
     def waited(self, lacking: Callable[[], list[tuple[int, int]]]) -> list[tuple[int, int]]:
         """Pages that lack something still, once those who have their sessions had some time for it."""
@@ -307,14 +306,8 @@ class Mover:
         self.tell(f"{count} lines are gone from {self.move.source}")
 
     def left(self) -> list[tuple[int, int]]:
-        """Pages of the old grid that show names of the slices."""
-        with self.files(self.move.source) as files:
-            return [
-                (session, bucket.number)
-                for bucket, _ in files.buckets()
-                for session, known in enumerate(bucket.client.seen, 1)
-                if any(self.move.has(slice_of(line.name)) for line in known.page.lines)
-            ]
+        """Those that show names of the slices."""
+        return self.pages_where(lambda page: any(self.move.has(slice_of(line.name)) for line in page.lines))
 
 
 def clear(files: NamedFiles, page: int, move: Move) -> int:
