@@ -24,6 +24,7 @@ pub mod Playing
 pub mod Chains
 pub mod WorkedTables
 pub mod WorkedSteps
+pub mod WorkedLooks
 pub mod WorkedWrites
 pub mod Happened
 pub mod Journals

@@ -51,7 +51,8 @@ pub fn all_nodes()
 {}
 
 /// A run of any length of which the law speaks: three nodes are lost at one place, one behind the other, and then a session writes as often as one
-/// likes. The plans are sound, all its lines can come, and so its file is one register; each write is done, and both servers have it.
+/// likes. The plans are sound, all its lines can come, and so its file is one register; each write is done, and both servers have it. Behind each the tenant
+/// looks at the file at both nodes, which tell that write.
 pub fn all_nodes_worked()
     ensures { AllWorked }
 {}
