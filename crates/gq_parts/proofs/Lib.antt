@@ -17,6 +17,7 @@ pub mod Resting
 pub mod Taking
 pub mod Uncounted
 pub mod AllNodes
+pub mod Looks
 pub mod Worked
 pub mod Replacing
 pub mod Writing

@@ -4,6 +4,7 @@ ghost use Rattle.gq_parts.specs.Alike.{AllDoSame, AllWriteSame};
 ghost use Rattle.gq_parts.specs.AllNodes.{AllByLaw, AllFollowLaw, AllRenewalsHappen, AllStartsHappen, AllStepsHappen};
 ghost use Rattle.gq_parts.specs.Worked.{AllWorked};
 ghost use Rattle.gq_parts.specs.Happened.{AllWorkedHappen};
+ghost use Rattle.gq_parts.specs.Looks.{AllLooksOfFleet};
 ghost use Rattle.gq_parts.specs.Laws.{AllFactsByParts, AllOthersLeftOut, AllRunsByParts, AllStartsByParts, AllTenantsApart, AllTextsByParts};
 
 /// How many hops of letters from a node to itself the line takes that made the node write them. What is left after them goes by lines, as to any
@@ -61,4 +62,10 @@ pub fn all_nodes_worked()
 /// the other is written anew before it starts again. All this is of nodes of the law.
 pub fn all_nodes_happen()
     ensures { AllWorkedHappen }
+{}
+
+/// Whatever happens to nodes: what one tells of a tenant's look at a volume is what its server has in the fleet of that run, and the node acts in it. So
+/// answers of several nodes are those of which `gq_looks::laws::answers_stand` speaks.
+pub fn looks_told()
+    ensures { AllLooksOfFleet }
 {}
