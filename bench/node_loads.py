@@ -46,11 +46,11 @@ class Load:
 
     writes = 0.5
 
-    def __init__(self, program, folder, rows, cols, **more):
-        self.folder, plan = folder, os.path.join(folder, "plan")
+    def __init__(self, program, folder, rows, cols, text=None, told=None, **more):
+        self.folder, plan, text = folder, os.path.join(folder, "plan"), text or plan_of(rows, cols)
         with open(plan, "w", encoding="ascii") as out:
-            out.write(plan_of(rows, cols))
-        told = planned(program, plan_of(rows, cols))
+            out.write(text)
+        told = told or planned(program, text)
         self.homes = told.homes
         nodes = [Node(program, number, plan, journal_of(folder, number)) for number in told.nodes]
         self.carrier = Carrier(nodes, self.hear, self.fall, TICK)
@@ -82,9 +82,12 @@ class Load:
         if self.is_on:
             self.begin(session)
 
+    def sessions(self):
+        return [(name.encode(), number) for number in range(1, 17) for name in TENANTS]
+
     def run(self, count, seconds, most=None):
         """So many sessions for so long, or for so many operations. What it took, in a Measure."""
-        sessions = [(name.encode(), number) for number in range(1, 17) for name in TENANTS][:count]
+        sessions = self.sessions()[:count]
         self.taken, self.is_on, self.done = {b"read": [], b"write": []}, True, 0
         measure = Measure(self)
         until = time.perf_counter() + seconds

@@ -28,7 +28,7 @@ use Rattle.gq_wire.specs.declared.incoming.Incoming.{Incoming}
 use Rattle.gq_wire.specs.declared.incoming.Incoming.TheVariants.{Request, Plan as AsksPlan, Look as AsksLook, Bad, Letter, ShortLetter, Joins, Joined, Speaks, Fetch, Fetched, Tick, Greet, Nothing}
 use Rattle.gq_wire.specs.Incoming.{incoming_of}
 use Rattle.gq_parts.specs.Alike.{AreAlike}
-use Rattle.gq_parts.specs.AllNodes.{first_in, GridPlans, here_in, volumes_in, plans_of, world_with, world_at, HasNode, AreSound, AllNodes, Happening, Took, Starts, Renews, StartsBy, first_of, IsStarted, TakesStep, TakesStart, TakesNewJournal, Stays, Happens, AllHappen, came_events, events_of, events_from, all_events, nodes_at, InputsCanCome, IncomingCanCome, HappeningCanCome, LinesCanCome, start_in, HasAlike, TellsAt, TellsAll, fleet_steps, cluster_steps, row_for, IsOneRegister, AllByLaw, AllFollowLaw, AllStepsHappen, AllStartsHappen, AllRenewalsHappen}
+use Rattle.gq_parts.specs.AllNodes.{first_in, GridPlans, here_in, volumes_in, plans_of, world_with, world_at, HasNode, AreSound, AllNodes, AllNew, Happening, Took, Starts, Renews, StartsBy, first_of, IsStarted, TakesStep, TakesStart, TakesNewJournal, Stays, Happens, AllHappen, came_events, events_of, events_from, all_events, nodes_at, InputsCanCome, IncomingCanCome, HappeningCanCome, LinesCanCome, start_in, HasAlike, TellsAt, TellsAll, fleet_steps, cluster_steps, row_for, IsOneRegister, AllByLaw, AllFollowLaw, AllStepsHappen, AllStartsHappen, AllRenewalsHappen}
 use Rattle.gq_parts.specs.Inputs.{inputs_with, line_inputs_with}
 use Rattle.gq_parts.specs.Recalls.{facts_said}
 use Rattle.gq_parts.specs.Resting.{IsNodeOf}
@@ -149,7 +149,7 @@ after_came g p n bytes t nodes Nothing plan = after_inputs (world_at g t) p n no
 
 -- ---- more happenings
 
-fold_more : (w : NodeWorld) (nodes : Nodes) (xs ys : List Event) → nodes_after w nodes (xs ++ ys) ≡ nodes_after w (nodes_after w nodes xs) ys
+pub fold_more : (w : NodeWorld) (nodes : Nodes) (xs ys : List Event) → nodes_after w nodes (xs ++ ys) ≡ nodes_after w (nodes_after w nodes xs) ys
 fold_more w nodes [] ys = refl
 fold_more w nodes (x ∷ xs) ys = fold_more w (after_event w nodes x) xs ys
 
@@ -174,16 +174,16 @@ more_nodes g before h t =
 
 -- what a node has, and what the law has of it for the tenant: the plan that it was started with last, that with which its journal begins and that with
 -- which it was started first, its tables, the facts in its journal and all that it ever gave, and the law's part
-record AtNode : Type 0 where
-  last : ℕ
-  first : ℕ
-  first_ever : ℕ
-  tables : Tables
-  kept : List (List ℕ)
-  local : Local
-  facts : List OwnFact
+pub record AtNode : Type 0 where
+  pub last : ℕ
+  pub first : ℕ
+  pub first_ever : ℕ
+  pub tables : Tables
+  pub kept : List (List ℕ)
+  pub local : Local
+  pub facts : List OwnFact
 
-abbrev at_node : AllNodes → Nodes → ℕ → AtNode
+abbrev pub at_node : AllNodes → Nodes → ℕ → AtNode
 at_node m nodes n = record {
   last = m.last_plan n;
   first = m.first_plan n;
@@ -195,29 +195,29 @@ at_node m nodes n = record {
 }
 
 -- the facts of the tenant in a journal
-abbrev its_facts : GridPlans → (t : ℕ) → List (List ℕ) → List OwnFact
+abbrev pub its_facts : GridPlans → (t : ℕ) → List (List ℕ) → List OwnFact
 its_facts g t kept = those_of t (facts_said g.plan kept)
 
-record IsKnown (g : GridPlans) (t n : ℕ) (x : AtNode) : Type 0 where
-  has : HasNode g x.last n
-  part : HasAlike (site_of g.plan (here_in g x.last n) t) x.tables t x.local
-  bare : IsBare x.local
-  rests : IsAtRest (site_of g.plan (here_in g x.last n) t) (start_in g t n x.first_ever x.last x.facts) x.local
-  starts : AreAlike (site_of g.plan (here_in g x.last n) t) (start_in g t n x.first x.last (its_facts g t x.kept)) (start_in g t n x.first_ever x.last x.facts)
-  there : AllThere (limits g t x.last) (its_facts g t x.kept)
-  there_ever : AllThere (limits g t x.last) x.facts
-  low : x.first ≤ x.last
-  low_ever : x.first_ever ≤ x.last
+pub record IsKnown (g : GridPlans) (t n : ℕ) (x : AtNode) : Type 0 where
+  pub has : HasNode g x.last n
+  pub part : HasAlike (site_of g.plan (here_in g x.last n) t) x.tables t x.local
+  pub bare : IsBare x.local
+  pub rests : IsAtRest (site_of g.plan (here_in g x.last n) t) (start_in g t n x.first_ever x.last x.facts) x.local
+  pub starts : AreAlike (site_of g.plan (here_in g x.last n) t) (start_in g t n x.first x.last (its_facts g t x.kept)) (start_in g t n x.first_ever x.last x.facts)
+  pub there : AllThere (limits g t x.last) (its_facts g t x.kept)
+  pub there_ever : AllThere (limits g t x.last) x.facts
+  pub low : x.first ≤ x.last
+  pub low_ever : x.first_ever ≤ x.last
 
-record AreKnown (g : GridPlans) (m : AllNodes) (t : ℕ) (nodes : Nodes) : Type 0 where
-  begun : (n : ℕ) → m.begun n ≡ nodes.begun n
-  last_plan : (n : ℕ) → m.begun n ≡ true → m.last_plan n ≡ nodes.last_plan n
-  fresh : (n : ℕ) → m.begun n ≡ false → (m.kept n ≡ []) × (nodes.facts n ≡ [])
-  known : (n : ℕ) → m.begun n ≡ true → IsKnown g t n (at_node m nodes n)
+pub record AreKnown (g : GridPlans) (m : AllNodes) (t : ℕ) (nodes : Nodes) : Type 0 where
+  pub begun : (n : ℕ) → m.begun n ≡ nodes.begun n
+  pub last_plan : (n : ℕ) → m.begun n ≡ true → m.last_plan n ≡ nodes.last_plan n
+  pub fresh : (n : ℕ) → m.begun n ≡ false → (m.kept n ≡ []) × (nodes.facts n ≡ [])
+  pub known : (n : ℕ) → m.begun n ≡ true → IsKnown g t n (at_node m nodes n)
 
-record Holds (g : GridPlans) (before : List Happening) (m : AllNodes) : Type 0 where
-  node : (n : ℕ) → m.begun n ≡ true → IsNodeOf g.plan (here_in g (m.last_plan n) n) (m.tables n)
-  are : (t : ℕ) → t < length g.plan.rows → AreKnown g m t (nodes_at g before t)
+pub record Holds (g : GridPlans) (before : List Happening) (m : AllNodes) : Type 0 where
+  pub node : (n : ℕ) → m.begun n ≡ true → IsNodeOf g.plan (here_in g (m.last_plan n) n) (m.tables n)
+  pub are : (t : ℕ) → t < length g.plan.rows → AreKnown g m t (nodes_at g before t)
 
 -- what the node of the happening has in each tenant's part, by the law
 record ItHas (g : GridPlans) (n t : ℕ) (new : AllNodes) (after : Nodes) : Type 0 where
@@ -266,9 +266,9 @@ step_are g old new n t nodes after are stay same has = record {
   ];
 }
 
-record OneHolds (g : GridPlans) (before : List Happening) (h : Happening) (new : AllNodes) : Type 0 where
-  holds : Holds g (before ++ h ∷ []) new
-  told : TellsAt g before h
+pub record OneHolds (g : GridPlans) (before : List Happening) (h : Happening) (new : AllNodes) : Type 0 where
+  pub holds : Holds g (before ++ h ∷ []) new
+  pub told : TellsAt g before h
 
 other_nodes : (g : GridPlans) (n : ℕ) (old new : AllNodes) → ((m : ℕ) → old.begun m ≡ true → IsNodeOf g.plan (here_in g (old.last_plan m) m) (old.tables m)) → ((m : ℕ) → m ≢ n → Stays m old new) →
     IsNodeOf g.plan (here_in g (new.last_plan n) n) (new.tables n) → (m : ℕ) → new.begun m ≡ true → IsNodeOf g.plan (here_in g (new.last_plan m) m) (new.tables m)
@@ -280,7 +280,7 @@ other_nodes g n old new was stay here m begun = elim (cases_eq m n) [
 ]
 
 -- the volumes of the law's part are those of the plan
-its_volumes : (g : GridPlans) (t n : ℕ) (x : AtNode) → IsKnown g t n x → x.local.volumes ≡ volumes_in g x.last t
+pub its_volumes : (g : GridPlans) (t n : ℕ) (x : AtNode) → IsKnown g t n x → x.local.volumes ≡ volumes_in g x.last t
 its_volumes g t n x known =
     let site : Site = site_of g.plan (here_in g x.last n) t in
     sym known.rests.volumes ∙ recall_volumes site x.facts (begun_local site (volumes_in g x.last t) (first_in g x.first_ever t))
@@ -293,7 +293,7 @@ record StartsAlike (g : GridPlans) (t n p first ever : ℕ) (facts all : List Ow
   low : first ≤ p
   low_ever : ever ≤ p
 
-one_holds : (g : GridPlans) (before : List Happening) (h : Happening) (old new : AllNodes) → AreSound g → Holds g before old → Happens g old h new → OneHolds g before h new
+pub one_holds : (g : GridPlans) (before : List Happening) (h : Happening) (old new : AllNodes) → AreSound g → Holds g before old → Happens g old h new → OneHolds g before h new
 one_holds g before (Took n p bytes did) old new sound holds happens = record {
   holds = record {
     node = other_nodes g n old new holds.node happens.others (subst (λ q. IsNodeOf g.plan (here_in g q n) (new.tables n)) (sym goes.still.last_plan) one.node);
@@ -556,11 +556,11 @@ one_holds g before (Starts n p) old new sound holds happens = record {
 
 -- ---- all happenings
 
-record AllHold (g : GridPlans) (before hs : List Happening) (last : AllNodes) : Type 0 where
-  holds : Holds g (before ++ hs) last
-  told : TellsAll g before hs
+pub record AllHold (g : GridPlans) (before hs : List Happening) (last : AllNodes) : Type 0 where
+  pub holds : Holds g (before ++ hs) last
+  pub told : TellsAll g before hs
 
-all_hold : (g : GridPlans) (hs before : List Happening) (first last : AllNodes) → AreSound g → Holds g before first → AllHappen g first hs last → AllHold g before hs last
+pub all_hold : (g : GridPlans) (hs before : List Happening) (first last : AllNodes) → AreSound g → Holds g before first → AllHappen g first hs last → AllHold g before hs last
 all_hold g [] before first last sound holds same = record {
   holds = subst (Holds g (before ++ [])) same (subst (λ b. Holds g b first) (sym (append-nil before)) holds);
   told = tt;
@@ -665,18 +665,20 @@ follows_law g hs t sound can = record {
   right = λ opens. one_register g t (all_events g t hs) sound (all_can g t (new_nodes (world_at g t)) hs can) opens;
 }
 
+pub none_hold : (g : GridPlans) (first : AllNodes) → AllNew first → Holds g [] first
+none_hold g first new = record {
+  node = λ n begun. absurd (let none = (new n).0 in cc);
+  are = λ t within. record {
+    begun = λ n. (new n).0;
+    last_plan = λ n begun. absurd (let none = (new n).0 in cc);
+    fresh = λ n none. ((new n).1, refl);
+    known = λ n begun. absurd (let none = (new n).0 in cc);
+  };
+}
+
 pub all_by_law : AllByLaw
 all_by_law g first last hs sound new happen =
-    let start : Holds g [] first = record {
-      node = λ n begun. absurd (let none = (new n).0 in cc);
-      are = λ t within. record {
-        begun = λ n. (new n).0;
-        last_plan = λ n begun. absurd (let none = (new n).0 in cc);
-        fresh = λ n none. ((new n).1, refl);
-        known = λ n begun. absurd (let none = (new n).0 in cc);
-      };
-    } in
-    let all : AllHold g [] hs last = all_hold g hs [] first last sound start happen in
+    let all : AllHold g [] hs last = all_hold g hs [] first last sound (none_hold g first new) happen in
     record {
       told = all.told;
       nodes = λ t within. (

@@ -1,5 +1,5 @@
 -- The worked case happens, from nodes of which none was ever started.
-use Rattle.std.proofs.Common.{◌≡◌, ◌≢◌, ◌∙◌, ℕ, zero, suc, ◌+◌, ◌<◌, ◌≤◌, ◌^◌, true, false, List, [], ◌∷◌, ◌++◌, map, refl, sym, ap, subst, arith, inl, inr, Some, None}
+use Rattle.std.proofs.Common.{◌≡◌, ◌≢◌, ◌∙◌, ℕ, zero, suc, ◌+◌, ◌<◌, ◌≤◌, ◌^◌, true, false, List, [], ◌∷◌, ◌++◌, map, refl, sym, ap, subst, arith, append-nil, inl, inr, Some, None}
 use Rattle.std.specs.Prelude.{codes, ◌==◌, nat_lt, All, ⊤}
 use Rattle.std.specs.List.{flat_map}
 use Rattle.std.specs.Option.{option_to_list}
@@ -25,20 +25,21 @@ use Rattle.gq_node.specs.Resting.{Needed, begun_local, recall_all}
 use Rattle.gq_node.specs.Tables.{Tables, fact_of}
 use Rattle.gq_wire.specs.declared.incoming.Incoming.{Incoming}
 use Rattle.gq_wire.specs.Incoming.{incoming_of}
-use Rattle.gq_wire.specs.Laws.{request_text, transfer_text}
+use Rattle.gq_wire.specs.Laws.{request_text, transfer_text, look_text}
 use Rattle.gq_parts.specs.AllNodes.{GridPlans, here_in, first_in, world_at, HasNode, AllNodes, AllNew, Happening, Took, Starts, Renews, StartsBy, first_of, TakesStep, TakesStart, TakesNewJournal, Stays, Happens, AllHappen, events_of, events_from, LinesCanCome, AreNodes, CanHappen}
 use Rattle.gq_parts.specs.Happened.{run_restarted, AllWorkedHappen}
 use Rattle.gq_parts.specs.Inputs.{inputs_of}
 use Rattle.gq_parts.specs.Resting.{IsNodeOf}
 use Rattle.gq_parts.specs.Steps.{fact_lines, StepsTo}
 use Rattle.gq_parts.specs.Within.{after_taken}
-use Rattle.gq_parts.specs.Worked.{grid_worked, Sent, Starting, Sends, file_worked, joins_text, joined_text, replaced_by, losses_worked, content, written, line_worked, write_worked, writes_worked, run_worked, end_worked, IsWorked}
+use Rattle.gq_parts.specs.Worked.{grid_worked, Sent, Starting, Sends, file_worked, joins_text, joined_text, replaced_by, losses_worked, content, written, line_worked, write_worked, looks_worked, writes_worked, run_worked, end_worked, IsWorked}
 use Rattle.gq_parts.proofs.AllNodes.{follows_law, all_by_law, all_steps_happen, all_starts_happen, all_renewals_happen}
 use Rattle.gq_parts.proofs.Journals.{Reads, AllRead, recalled_view, all_recalled_view, all_read, all_seen, kept_reads, had_reads}
 use Rattle.gq_parts.proofs.Playing.{Goes, AllGo, go_append, all_go}
 use Rattle.gq_parts.proofs.Replacing.{plans_sound, AreRead, replaced_known, replaced_read, first_tick, next_tick, last_tick}
 use Rattle.gq_parts.proofs.Renewed.{IsFit, home_facts, home_reads, home_fit, home_needs}
 use Rattle.gq_parts.proofs.Worked.{all_worked, content_bytes, known_of, write_read}
+use Rattle.gq_parts.proofs.WorkedLooks.{look_steps}
 use Rattle.gq_parts.proofs.WorkedSteps.{Steps, steps_to, IsTurn, joins_steps, joined_steps, tick_steps, fetch_steps, fetched_steps}
 use Rattle.gq_parts.proofs.WorkedTables.{file, volume, site, View, tables_of, Sees, lacked, begun_view, begun_sees, is_begun}
 use Rattle.gq_parts.proofs.WorkedWrites.{Rest, idle_view, busy_view, reserved_behind, reserved_fits, asked_steps, kept_facts, kept_steps, other_steps, done_steps}
@@ -282,7 +283,7 @@ next_fit i s low number fit =
       two = fit.two;
     }
 
-one_write : (m : AllNodes) (i : ℕ) → i + 1 < 2 ^ 32 → Ready m i → OneWrite m (i + 1) (write_worked (i + 1))
+one_write : (m : AllNodes) (i : ℕ) → i + 1 < 2 ^ 32 → Ready m i → OneWrite m (i + 1) (write_worked (i + 1) ++ looks_worked (i + 1))
 one_write m i low ready =
     let s : Rest = ready.rest in
     let r = reserved_behind i s.reserved in
@@ -294,23 +295,26 @@ one_write m i low ready =
     let last : Rest = record { copy = c; reserved = r; outcome = Some (Wrote 1 (i + 1) (written (i + 1)).tag); waited = false; two = s.two } in
     let there : List (List ℕ) = lines_of (Had file first_copy ∷ ready.kept_there) in
     let more : List OwnFact = flat_map option_to_list (kept_facts i v.copy) in
-    let read : AreRead grid_worked (write_worked (i + 1)) (known_of (i + 1)) = write_read (i + 1) low in
+    let read : AreRead grid_worked (write_worked (i + 1) ++ looks_worked (i + 1)) (known_of (i + 1)) = write_read (i + 1) low in
     let a = takes_line m 0 0 3 (idle_view i s) x ready.kept (request_text grid_worked.plan 0 0 (i + 1) (Write 1 0 0 content)) _ _ ready.home read.0.2 (asked_steps i s low ready.number ready.fit.fits) in
     let b = takes_line a.next 0 0 3 x y _ (line_worked 0 0 (i + 1) 0 (Store (written (i + 1)))) _ _ a.has read.1.0.2 (kept_steps i s.copy r s.two low) in
     let away : 193 ≢ 0 = apart 193 0 refl in
     let d = takes_line b.next 193 3 3 v w there (line_worked 193 0 (i + 1) 1 (Store (written (i + 1)))) _ _
     (has_still a.next b.next 193 3 3 v there (b.others 193 away) (has_still m a.next 193 3 3 v there (a.others 193 away) ready.other)) read.1.1.0.2 (other_steps i v low ready.given) in
     let e = takes_line d.next 0 0 3 y (idle_view (i + 1) last) _ (line_worked 0 193 (i + 1) 1 Stored) _ _ (has_still b.next d.next 0 0 3 y _ (d.others 0 (apart 0 193 refl)) b.has) read.1.1.1.0.2 (done_steps i c r s.two low) in
+    let f = takes_line e.next 0 0 3 (idle_view (i + 1) last) (idle_view (i + 1) last) _ (look_text grid_worked.plan 0 0 (i + 1) 0) _ _ e.has read.1.1.1.1.0.2 (look_steps 0 (i + 1) (idle_view (i + 1) last)) in
+    let g = takes_line f.next 193 3 3 w w _ (look_text grid_worked.plan 193 0 (i + 1) 0) _ _ (has_still e.next f.next 193 3 3 w _ (f.others 193 away) (has_still d.next e.next 193 3 3 w _ (e.others 193 away) d.has)) read.1.1.1.1.1.0.2
+    (look_steps 193 (i + 1) w) in
     record {
-      next = e.next;
-      goes = (a.next, a.goes, (b.next, b.goes, (d.next, d.goes, (e.next, e.goes, refl {a = e.next}))));
+      next = g.next;
+      goes = (a.next, a.goes, (b.next, b.goes, (d.next, d.goes, (e.next, e.goes, (f.next, f.goes, (g.next, g.goes, refl {a = g.next}))))));
       ready = record {
         rest = last;
         there = w;
         kept = _;
         kept_there = ready.kept_there ++ more;
-        home = e.has;
-        other = subst (Has e.next 193 3 3 w) (lines_more (Had file first_copy ∷ ready.kept_there) more) (has_still d.next e.next 193 3 3 w _ (e.others 193 away) d.has);
+        home = has_still f.next g.next 0 0 3 (idle_view (i + 1) last) _ (g.others 0 (apart 0 193 refl)) f.has;
+        other = subst (Has g.next 193 3 3 w) (append-nil _ ∙ lines_more (Had file first_copy ∷ ready.kept_there) more) g.has;
         number = ap (λ (x : StoredCopy). x.tag.number) (newer_is i s.copy ready.number);
         fit = next_fit i s low ready.number ready.fit;
         given = ready.given;
@@ -327,10 +331,10 @@ record Written (m : AllNodes) (before many : ℕ) : Type 0 where
 all_writes : (many before : ℕ) (m : AllNodes) → before + many < 2 ^ 32 → Ready m before → Written m before many
 all_writes zero before m low ready = let e : before ≡ before + 0 = omega arith in record { last = m; goes = refl; ready = subst (Ready m) e ready }
 all_writes (suc many) before m low ready =
-    let one : OneWrite m (before + 1) (write_worked (before + 1)) = one_write m before (omega arith) ready in
+    let one : OneWrite m (before + 1) (write_worked (before + 1) ++ looks_worked (before + 1)) = one_write m before (omega arith) ready in
     let e : before + 1 + many ≡ before + suc many = omega arith in
     let rest : Written one.next (before + 1) many = all_writes many (before + 1) one.next (omega arith) one.ready in
-    record { last = rest.last; goes = go_append grid_worked (write_worked (before + 1)) (writes_worked (before + 1) many) m one.next rest.last one.goes rest.goes; ready = subst (Ready rest.last) e rest.ready }
+    record { last = rest.last; goes = go_append grid_worked (write_worked (before + 1) ++ looks_worked (before + 1)) (writes_worked (before + 1) many) m one.next rest.last one.goes rest.goes; ready = subst (Ready rest.last) e rest.ready }
 
 -- ---- the whole
 

@@ -17,6 +17,7 @@ pub mod Resting
 pub mod Taking
 pub mod Uncounted
 pub mod AllNodes
+pub mod Looks
 pub mod Worked
 pub mod Replacing
 pub mod Writing
@@ -24,6 +25,7 @@ pub mod Playing
 pub mod Chains
 pub mod WorkedTables
 pub mod WorkedSteps
+pub mod WorkedLooks
 pub mod WorkedWrites
 pub mod Happened
 pub mod Journals

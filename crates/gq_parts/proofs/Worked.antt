@@ -1,5 +1,5 @@
 -- The worked case as a whole: all that the law of all nodes asks of its lines is so, however many writes there are.
-use Rattle.std.proofs.Common.{◌≡◌, ◌∙◌, ℕ, zero, suc, ◌+◌, ◌<◌, ◌^◌, Bool, true, false, List, [], ◌∷◌, ◌++◌, map, refl, sym, ap, subst, arith, Option, Some, None, inl, inr}
+use Rattle.std.proofs.Common.{◌≡◌, ◌∙◌, ℕ, zero, suc, ◌+◌, ◌<◌, ◌^◌, Bool, true, false, List, [], ◌∷◌, ◌++◌, map, refl, sym, ap, subst, arith, append-nil, append_assoc, Option, Some, None, inl, inr}
 use Rattle.std.specs.Prelude.{◌==◌, nat_lt, slice_index, if◌then◌else◌}
 use Rattle.std.proofs.lemmas.Bool.{cases_Bool, eqb-true, lt-ltb}
 use Rattle.std.proofs.lemmas.List.Elements.{Contains-append_left, Contains-append_right}
@@ -14,22 +14,25 @@ use Rattle.gq_model.specs.declared.events.Line.TheVariants.{Write}
 use Rattle.gq_model.specs.Told.{Began}
 use Rattle.gq_model.specs.Trace.{Own, State}
 use Rattle.gq_model.specs.Lone.{entry_of}
+use Rattle.gq_cluster.specs.Cluster.{copy_in}
 use Rattle.gq_cluster.specs.Facts.{Reserved}
 use Rattle.gq_laws.proofs.Holding.{greatest-push}
 use Rattle.gq_laws.proofs.OperationMoments.{same_file}
 use Rattle.gq_replace.specs.Fleet.{Posted}
-use Rattle.gq_node.specs.Inputs.{Input, Asked, Brought, does}
-use Rattle.gq_node.specs.Local.{Local, Resident, Doing, state_for, goes_on, serves, copy_fits}
+use Rattle.gq_node.specs.Inputs.{Input, Asked, AskedLook, Brought, does}
+use Rattle.gq_node.specs.Local.{Local, Resident, Doing, part_in, state_for, goes_on, serves, copy_fits}
 use Rattle.gq_node.specs.Nodes.{Nodes, Event, Came, posts, after_event, nodes_after}
-use Rattle.gq_wire.specs.declared.incoming.Incoming.TheVariants.{Request, Letter}
+use Rattle.gq_wire.specs.declared.incoming.Incoming.TheVariants.{Request, Look, Letter}
 use Rattle.gq_wire.proofs.LettersBack.{letters_read_back}
-use Rattle.gq_wire.proofs.RequestsBack.{requests_read_back}
-use Rattle.gq_parts.specs.AllNodes.{nodes_at, LinesCanCome}
+use Rattle.gq_wire.proofs.RequestsBack.{requests_read_back, looks_read_back}
+use Rattle.gq_wire.specs.Laws.{look_text}
+use Rattle.gq_parts.specs.AllNodes.{Happening, nodes_at, LinesCanCome}
 use Rattle.gq_parts.specs.Within.{within, hops}
-use Rattle.gq_parts.specs.Worked.{grid_worked, Sent, content, written, losses_worked, write_worked, writes_worked, run_worked, IsDone, AllWorked}
+use Rattle.gq_parts.specs.Worked.{grid_worked, Sent, Sends, content, written, happened, all_happened, losses_worked, write_worked, looks_worked, writes_worked, run_worked, tells_look, EndsWithLooks, IsDone, AllWorked}
 use Rattle.gq_parts.proofs.AllNodes.{follows_law}
 use Rattle.gq_parts.proofs.Replacing.{is_plan, plans_sound, Known, Gets, AreRead, known_events, known_after, KnownCan, AllKnownCan, lines_can, lines_after, read_append, can_append, after_append, replaced_known, first_known, new, two_lost, losses_known, losses_read, losses_can}
-use Rattle.gq_parts.proofs.Writing.{world, home_site, other_site, file, resting, home_local, other_local, ask, copy, store, stored, fits_yes, asked_step_is, storing, copy_step_is, home_stores, other_stores, noted, own_stored, done, other_stored, within_one, within_two, within_three, two, left_by, home_asked, home_brought, other_brought}
+use Rattle.gq_parts.proofs.WorkedLooks.{look_told}
+use Rattle.gq_parts.proofs.Writing.{world, home_site, other_site, file, resting, home_local, other_local, ask, copy, store, stored, fits_yes, asked_step_is, storing, copy_step_is, home_stores, other_stores, noted, own_stored, done, other_stored, within_one, within_two, within_three, two, left_by, home_asked, home_brought, other_brought, home_looked, other_looked}
 
 -- ---- the two nodes
 
@@ -148,6 +151,12 @@ there_both s i = by_other (noted_both s i) (kept_there s i)
 abbrev done_both : Idle → ℕ → Both
 done_both s i = by_home (there_both s i) (done_doing s i)
 
+abbrev looked_home : Idle → ℕ → Both
+looked_home s i = let x : Both = done_both s i in by_home x (does (AskedLook (i + 1) 0) home_site x.home)
+
+abbrev looked_both : Idle → ℕ → Both
+looked_both s i = let x : Both = looked_home s i in by_other x (does (AskedLook (i + 1) 0) other_site x.other)
+
 -- ---- that these are the doings
 
 asked_is : (s : Idle) (i : ℕ) → does (Asked (i + 1) (Write 1 0 0 content)) home_site (home_of s i) ≡ asked_doing s i
@@ -201,6 +210,8 @@ known_of op =
     ∷ Gets 0 3 (Letter 0 (message_of 0 (store op 0)))
     ∷ Gets 193 3 (Letter 0 (message_of 0 (store op 1)))
     ∷ Gets 0 3 (Letter 193 (message_of 0 (stored op 1)))
+    ∷ Gets 0 3 (Look 0 op 0)
+    ∷ Gets 193 3 (Look 0 op 0)
     ∷ []
 
 asked_goes : (s : Idle) (i : ℕ) → i + 1 < 2 ^ 32 → Stands s i → Goes (nodes_of s i) (shown (asked_both s i)) (Gets 0 3 (Request 0 (i + 1) (Write 1 0 0 content)))
@@ -288,11 +299,29 @@ done_goes s i low stands = record {
     x : Both
     x = there_both s i
 
+looked_here : (s : Idle) (i : ℕ) → Stands s i → Goes (shown (done_both s i)) (shown (looked_home s i)) (Gets 0 3 (Look 0 (i + 1) 0))
+looked_here s i stands = record {
+  can = ((stands.first, stands.stays, tt), tt);
+  leaves =
+      let x : Both = done_both s i in
+      ap (λ inputs. nodes_after world (shown x) (came 0 inputs)) (within_one home_site x.home (AskedLook (i + 1) 0) (does (AskedLook (i + 1) 0) home_site x.home) (λ site local. (refl, refl)) refl refl)
+      ∙ home_looked x.rest x.posted x.home x.other (i + 1);
+}
+
+looked_there : (s : Idle) (i : ℕ) → Stands s i → Goes (shown (looked_home s i)) (shown (looked_both s i)) (Gets 193 3 (Look 0 (i + 1) 0))
+looked_there s i stands = record {
+  can = ((stands.second, stands.stays_there, tt), tt);
+  leaves =
+      let x : Both = looked_home s i in
+      ap (λ inputs. nodes_after world (shown x) (came 193 inputs)) (within_one other_site x.other (AskedLook (i + 1) 0) (does (AskedLook (i + 1) 0) other_site x.other) (λ site local. (refl, refl)) refl refl)
+      ∙ other_looked x.rest x.posted x.home x.other (i + 1);
+}
+
 -- ---- a write
 
 abbrev next_idle : Idle → ℕ → Idle
 next_idle s i =
-    let x : Both = done_both s i in
+    let x : Both = looked_both s i in
     let r : Resident = x.home.residents 1 in
     record {
       rest = x.rest;
@@ -351,19 +380,38 @@ there_line op = Gets 193 3 (Letter 0 (message_of 0 (store op 1)))
 abbrev done_line : ℕ → Known
 done_line op = Gets 0 3 (Letter 193 (message_of 0 (stored op 1)))
 
+abbrev home_line : ℕ → Known
+home_line op = Gets 0 3 (Look 0 op 0)
+
+abbrev other_line : ℕ → Known
+other_line op = Gets 193 3 (Look 0 op 0)
+
+abbrev behind_line : ℕ → List Known → List Known
+behind_line op known = home_line op ∷ other_line op ∷ known
+
 write_can : (s : Idle) (i : ℕ) (known : List Known) → i + 1 < 2 ^ 32 → Stands s i → AllKnownCan grid_worked 0 (nodes_of (next_idle s i) (i + 1)) known → AllKnownCan grid_worked 0 (nodes_of s i) (known_of (i + 1) ++ known)
 write_can s i known low stands can =
-    goes_can (nodes_of s i) (shown (asked_both s i)) (asked_line (i + 1)) (here_line (i + 1) ∷ there_line (i + 1) ∷ done_line (i + 1) ∷ known) (asked_goes s i low stands)
-    (goes_can (shown (asked_both s i)) (shown (noted_both s i)) (here_line (i + 1)) (there_line (i + 1) ∷ done_line (i + 1) ∷ known) (noted_goes s i low stands)
-    (goes_can (shown (noted_both s i)) (shown (there_both s i)) (there_line (i + 1)) (done_line (i + 1) ∷ known) (there_goes s i low stands)
-    (goes_can (shown (there_both s i)) (shown (done_both s i)) (done_line (i + 1)) known (done_goes s i low stands) can)))
+    goes_can (nodes_of s i) (shown (asked_both s i)) (asked_line (i + 1)) (here_line (i + 1) ∷ there_line (i + 1) ∷ done_line (i + 1) ∷ behind_line (i + 1) known) (asked_goes s i low stands)
+    (goes_can (shown (asked_both s i)) (shown (noted_both s i)) (here_line (i + 1)) (there_line (i + 1) ∷ done_line (i + 1) ∷ behind_line (i + 1) known) (noted_goes s i low stands)
+    (goes_can (shown (noted_both s i)) (shown (there_both s i)) (there_line (i + 1)) (done_line (i + 1) ∷ behind_line (i + 1) known) (there_goes s i low stands)
+    (goes_can (shown (there_both s i)) (shown (done_both s i)) (done_line (i + 1)) (behind_line (i + 1) known) (done_goes s i low stands)
+    (goes_can (shown (done_both s i)) (shown (looked_home s i)) (home_line (i + 1)) (other_line (i + 1) ∷ known) (looked_here s i stands)
+    (goes_can (shown (looked_home s i)) (shown (looked_both s i)) (other_line (i + 1)) known (looked_there s i stands) can)))))
 
-write_after : (s : Idle) (i : ℕ) (known : List Known) → i + 1 < 2 ^ 32 → Stands s i → known_after grid_worked 0 (nodes_of s i) (known_of (i + 1) ++ known) ≡ known_after grid_worked 0 (nodes_of (next_idle s i) (i + 1)) known
-write_after s i known low stands =
+-- the write alone, and with the looks behind it
+done_after : (s : Idle) (i : ℕ) (known : List Known) → i + 1 < 2 ^ 32 → Stands s i →
+    known_after grid_worked 0 (nodes_of s i) (asked_line (i + 1) ∷ here_line (i + 1) ∷ there_line (i + 1) ∷ done_line (i + 1) ∷ known) ≡ known_after grid_worked 0 (shown (done_both s i)) known
+done_after s i known low stands =
     goes_after (nodes_of s i) (shown (asked_both s i)) (asked_line (i + 1)) (here_line (i + 1) ∷ there_line (i + 1) ∷ done_line (i + 1) ∷ known) (asked_goes s i low stands)
     ∙ goes_after (shown (asked_both s i)) (shown (noted_both s i)) (here_line (i + 1)) (there_line (i + 1) ∷ done_line (i + 1) ∷ known) (noted_goes s i low stands)
     ∙ goes_after (shown (noted_both s i)) (shown (there_both s i)) (there_line (i + 1)) (done_line (i + 1) ∷ known) (there_goes s i low stands)
     ∙ goes_after (shown (there_both s i)) (shown (done_both s i)) (done_line (i + 1)) known (done_goes s i low stands)
+
+write_after : (s : Idle) (i : ℕ) (known : List Known) → i + 1 < 2 ^ 32 → Stands s i → known_after grid_worked 0 (nodes_of s i) (known_of (i + 1) ++ known) ≡ known_after grid_worked 0 (nodes_of (next_idle s i) (i + 1)) known
+write_after s i known low stands =
+    done_after s i (behind_line (i + 1) known) low stands
+    ∙ goes_after (shown (done_both s i)) (shown (looked_home s i)) (home_line (i + 1)) (other_line (i + 1) ∷ known) (looked_here s i stands)
+    ∙ goes_after (shown (looked_home s i)) (shown (looked_both s i)) (other_line (i + 1)) known (looked_there s i stands)
 
 -- ---- all writes
 
@@ -403,7 +451,7 @@ content_bytes (suc (suc (suc zero))) = omega arith
 content_bytes (suc (suc (suc (suc zero)))) = omega arith
 content_bytes (suc (suc (suc (suc (suc i))))) = omega arith
 
-pub write_read : (op : ℕ) → op < 2 ^ 32 → AreRead grid_worked (write_worked op) (known_of op)
+pub write_read : (op : ℕ) → op < 2 ^ 32 → AreRead grid_worked (write_worked op ++ looks_worked op) (known_of op)
 write_read op low =
     let asked = requests_read_back grid_worked.plan 0 0 op (Write 1 0 0 content) is_plan (omega arith) (omega arith) (low, omega arith, omega arith, omega arith, (content_bytes, omega arith)) in
     let first = letters_read_back grid_worked.plan 0 0 (message_of 0 (store op 0)) is_plan
@@ -412,12 +460,14 @@ write_read op low =
     (record { tenant = omega arith; own = refl; to_fits = omega arith; from_fits = omega arith; server = refl; session = omega arith; op = low; round = omega arith; volume = omega arith; file = omega arith; body = (omega arith, omega arith, content_bytes); short = omega arith; in_round = refl }) in
     let last = letters_read_back grid_worked.plan 0 193 (message_of 0 (stored op 1)) is_plan
     (record { tenant = omega arith; own = refl; to_fits = omega arith; from_fits = omega arith; server = refl; session = omega arith; op = low; round = omega arith; volume = omega arith; file = omega arith; body = tt; short = omega arith; in_round = refl }) in
-    ((refl, refl, asked), ((refl, refl, first.2), ((refl, refl, next.2), ((refl, refl, last.2), tt))))
+    let here = looks_read_back grid_worked.plan 0 0 op 0 is_plan (omega arith) (omega arith) (omega arith) (omega arith) in
+    let there = looks_read_back grid_worked.plan 193 0 op 0 is_plan (omega arith) (omega arith) (omega arith) (omega arith) in
+    ((refl, refl, asked), ((refl, refl, first.2), ((refl, refl, next.2), ((refl, refl, last.2), ((refl, refl, here), ((refl, refl, there), tt))))))
 
 writes_read : (many before : ℕ) → before + many < 2 ^ 32 → AreRead grid_worked (writes_worked before many) (all_known before many)
 writes_read zero before low = tt
 writes_read (suc many) before low =
-    read_append grid_worked (write_worked (before + 1)) (known_of (before + 1)) (writes_worked (before + 1) many) (all_known (before + 1) many) (write_read (before + 1) (omega arith)) (writes_read many (before + 1) (omega arith))
+    read_append grid_worked (write_worked (before + 1) ++ looks_worked (before + 1)) (known_of (before + 1)) (writes_worked (before + 1) many) (all_known (before + 1) many) (write_read (before + 1) (omega arith)) (writes_read many (before + 1) (omega arith))
 
 -- ---- behind the losses
 
@@ -519,6 +569,101 @@ start_is = λ i. record three_lost { last_plan = λ m. two_named three_lost.last
     other : three_lost.local 193 ≡ other_of start
     other = λ i. record (three_lost.local 193) { volumes = volumes_are i; lacks = λ f. lacks_no_more (three_lost.local 193).lacks f has_file i }
 
+-- ---- what is told
+
+happened_more : (before : List Happening) (xs ys : List Sent) → all_happened grid_worked before (xs ++ ys) ≡ all_happened grid_worked before xs ++ all_happened grid_worked (before ++ all_happened grid_worked before xs) ys
+happened_more before [] ys = ap (λ b. all_happened grid_worked b ys) (sym (append-nil before))
+happened_more before (x ∷ xs) ys =
+    let h : Happening = happened grid_worked before x in
+    let rest : List Happening = all_happened grid_worked (before ++ h ∷ []) xs in
+    ap (λ hs. h ∷ hs) (happened_more (before ++ h ∷ []) xs ys ∙ ap (λ b. rest ++ all_happened grid_worked b ys) (append_assoc before (h ∷ []) rest))
+
+writes_more : (many before : ℕ) → writes_worked before (suc many) ≡ writes_worked before many ++ (write_worked (before + many + 1) ++ looks_worked (before + many + 1))
+writes_more zero before = let e : before ≡ before + 0 = omega arith in ap (λ n. write_worked (n + 1) ++ looks_worked (n + 1)) e
+writes_more (suc many) before =
+    let e : before + 1 + many ≡ before + suc many = omega arith in
+    ap (λ rest. write_worked (before + 1) ++ looks_worked (before + 1) ++ rest) (writes_more many (before + 1))
+    ∙ ap (λ n. write_worked (before + 1) ++ looks_worked (before + 1) ++ (writes_worked (before + 1) many ++ (write_worked (n + 1) ++ looks_worked (n + 1)))) e
+
+-- the last two lines are the looks behind the last write
+ends_so : (m : ℕ) (s : Idle) → m + 1 < 2 ^ 32 → Stands s m → known_after grid_worked 0 new (losses_known ++ all_known 0 m) ≡ nodes_of s m → AreRead grid_worked (losses_worked ++ writes_worked 0 m) (losses_known ++ all_known 0 m) →
+    EndsWithLooks (suc m)
+ends_so m s low stands is read = record { before = before; ends = run_is ∙ (λ i. before ++ one i ∷ next i ∷ []) ∙ (λ i. before ++ tells_look 0 (number i) ∷ tells_look 193 (number i) ∷ []) }
+  where
+    op : ℕ
+    op = m + 1
+
+    sent : List Sent
+    sent = losses_worked ++ writes_worked 0 m ++ write_worked op
+
+    before : List Happening
+    before = all_happened grid_worked [] sent
+
+    written_lines : List Known
+    written_lines = asked_line op ∷ here_line op ∷ there_line op ∷ done_line op ∷ []
+
+    known : List Known
+    known = losses_known ++ all_known 0 m ++ written_lines
+
+    lines : AreRead grid_worked (write_worked op ++ looks_worked op) (known_of op)
+    lines = write_read op low
+
+    all_read : AreRead grid_worked sent known
+    all_read = read_append grid_worked (losses_worked ++ writes_worked 0 m) (losses_known ++ all_known 0 m) (write_worked op) written_lines read (lines.0, (lines.1.0, (lines.1.1.0, (lines.1.1.1.0, tt))))
+
+    -- what the nodes have behind the write, and behind the first look
+    behind : known_after grid_worked 0 new known ≡ shown (done_both s m)
+    behind = after_append grid_worked 0 (losses_known ++ all_known 0 m) written_lines new ∙ ap (λ nodes. known_after grid_worked 0 nodes written_lines) is ∙ done_after s m [] low stands
+
+    at_first : nodes_at grid_worked before 0 ≡ shown (done_both s m)
+    at_first = lines_after grid_worked 0 sent known new [] all_read ∙ behind
+
+    one_look : List Sent
+    one_look = Sends 0 3 (look_text grid_worked.plan 0 0 op 0) ∷ []
+
+    h : Happening
+    h = happened grid_worked before (Sends 0 3 (look_text grid_worked.plan 0 0 op 0))
+
+    at_next : nodes_at grid_worked (before ++ h ∷ []) 0 ≡ shown (looked_home s m)
+    at_next =
+        ap (λ hs. nodes_at grid_worked hs 0) (sym (happened_more [] sent one_look))
+        ∙ lines_after grid_worked 0 (sent ++ one_look) (known ++ home_line op ∷ []) new [] (read_append grid_worked sent known one_look (home_line op ∷ []) all_read (lines.1.1.1.1.0, tt))
+        ∙ after_append grid_worked 0 known (home_line op ∷ []) new
+        ∙ ap (λ nodes. known_after grid_worked 0 nodes (home_line op ∷ [])) behind
+        ∙ goes_after (shown (done_both s m)) (shown (looked_home s m)) (home_line op) [] (looked_here s m stands)
+
+    k : Happening
+    k = happened grid_worked (before ++ h ∷ []) (Sends 193 3 (look_text grid_worked.plan 193 0 op 0))
+
+    one : h ≡ tells_look 0 op
+    one = look_told before 0 op lines.1.1.1.1.0.2 (ap (λ (nodes : Nodes). (nodes.local 0).volumes) at_first) (ap (λ (nodes : Nodes). (nodes.local 0).lacks file) at_first)
+        (ap (λ (nodes : Nodes). copy_in (part_in (nodes.local 0)) file) at_first ∙ newer m (s.copies file) stands.number)
+
+    next : k ≡ tells_look 193 op
+    next = look_told (before ++ h ∷ []) 193 op lines.1.1.1.1.1.0.2 (ap (λ (nodes : Nodes). (nodes.local 193).volumes) at_next) (ap (λ (nodes : Nodes). (nodes.local 193).lacks file) at_next)
+        (ap (λ (nodes : Nodes). copy_in (part_in (nodes.local 193)) file) at_next ∙ newer m (s.copies_there file) stands.number_there)
+
+    e : 0 + m ≡ m
+    e = omega arith
+
+    number : op ≡ suc m
+    number = omega arith
+
+    run_is : run_worked (suc m) ≡ before ++ h ∷ k ∷ []
+    run_is =
+        ap (λ w. all_happened grid_worked [] (losses_worked ++ w)) (writes_more m 0 ∙ ap (λ n. writes_worked 0 m ++ (write_worked (n + 1) ++ looks_worked (n + 1))) e)
+        ∙ ap (all_happened grid_worked []) (sym (append_assoc losses_worked (writes_worked 0 m) (write_worked op ++ looks_worked op)) ∙ sym (append_assoc (losses_worked ++ writes_worked 0 m) (write_worked op) (looks_worked op)))
+        ∙ happened_more [] sent (looks_worked op)
+
+looks_end : (many : ℕ) → many < 2 ^ 32 → 0 < many → EndsWithLooks many
+looks_end zero low some = absurd (omega arith)
+looks_end (suc m) low some =
+    let after : AreDone (nodes_of start 0) 0 m = are_done m 0 start (omega arith) start_stands in
+    let e : 0 + m ≡ m = omega arith in
+    ends_so m after.last (omega arith) (subst (Stands after.last) e after.stands)
+    (after_append grid_worked 0 losses_known (all_known 0 m) new ∙ ap (λ nodes. known_after grid_worked 0 nodes (all_known 0 m)) (lost_are ∙ start_is) ∙ after.is ∙ ap (nodes_of after.last) e)
+    (read_append grid_worked losses_worked losses_known (writes_worked 0 m) (all_known 0 m) losses_read (writes_read m 0 (omega arith)))
+
 -- ---- the whole
 
 pub all_worked : AllWorked
@@ -547,4 +692,5 @@ all_worked many low =
       done = λ some. subst (IsDone (nodes_at grid_worked (run_worked many) 0)) number
           (let last : IsLast after.last (0 + many) = after.stands.done (omega arith) in
           subst (λ nodes. IsDone nodes (0 + many)) (sym end) (record { last = refl; idle = refl; done = last.outcome; first = last.here; second = last.there }));
+      looks = looks_end many low;
     }

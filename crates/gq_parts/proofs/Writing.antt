@@ -18,7 +18,7 @@ use Rattle.gq_model.specs.Trace.{Own, State}
 use Rattle.gq_model.specs.Lone.{Step, entry_of, hear_step}
 use Rattle.gq_cluster.specs.Facts.{Reserved}
 use Rattle.gq_laws.proofs.Holding.{greatest-cons}
-use Rattle.gq_node.specs.Inputs.{Input, Asked, Brought, does}
+use Rattle.gq_node.specs.Inputs.{Input, Asked, AskedLook, Brought, does}
 use Rattle.gq_node.specs.Local.{Local, Resident, Doing, state_for, goes_on, brings, serves, with_resident, copy_fits, has_above}
 use Rattle.gq_node.specs.Nodes.{NodeWorld, Nodes, Came, site_in, posts, after_doing, after_event}
 use Rattle.gq_node.specs.Sites.{Site}
@@ -293,3 +293,12 @@ home_brought rest ps home other from m doing is = ap (after_doing world (two res
 pub other_brought : (rest : Nodes) (ps : List Posted) (home other : Local) (from : ℕ) (m : OwnMessage) (doing : Doing) → does (Brought from m) other_site other ≡ doing →
     after_event world (two rest ps home other) (Came 193 (Brought from m)) ≡ two (left_by rest (two rest ps home other) 193 doing) (ps ++ posts world (two rest ps home other) 193 doing.letters) home doing.local
 other_brought rest ps home other from m doing is = ap (after_doing world (two rest ps home other) 193) is ∙ other_doing rest ps home other doing
+
+-- a look leaves both as they are
+pub home_looked : (rest : Nodes) (ps : List Posted) (home other : Local) (mark : ℕ) → let doing : Doing = does (AskedLook mark 0) home_site home in
+    after_event world (two rest ps home other) (Came 0 (AskedLook mark 0)) ≡ two (left_by rest (two rest ps home other) 0 doing) (ps ++ posts world (two rest ps home other) 0 doing.letters) doing.local other
+home_looked rest ps home other mark = home_doing rest ps home other (does (AskedLook mark 0) home_site home)
+
+pub other_looked : (rest : Nodes) (ps : List Posted) (home other : Local) (mark : ℕ) → let doing : Doing = does (AskedLook mark 0) other_site other in
+    after_event world (two rest ps home other) (Came 193 (AskedLook mark 0)) ≡ two (left_by rest (two rest ps home other) 193 doing) (ps ++ posts world (two rest ps home other) 193 doing.letters) home doing.local
+other_looked rest ps home other mark = other_doing rest ps home other (does (AskedLook mark 0) other_site other)

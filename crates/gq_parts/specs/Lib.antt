@@ -9,3 +9,4 @@ pub mod Laws
 pub mod AllNodes
 pub mod Worked
 pub mod Happened
+pub mod Looks

@@ -1,24 +1,28 @@
 -- A worked case: a run as long as one likes, of which the law of all nodes speaks.
 --
 -- Two servers in one column, and a tenant with two sessions and one file. Node 1 is lost, then the node in its place, and then the next one: each new one
--- is told by node 0 that its plan has it, and is given the file. Then session 1, whose home is node 0, writes the file, one write after another.
+-- is told by node 0 that its plan has it, and is given the file. Then session 1, whose home is node 0, writes the file, one write after another. Behind each
+-- the tenant looks at the file at both nodes.
 use Rattle.std.specs.Prelude.{◌≡◌, ℕ, zero, suc, ◌+◌, ◌^◌, ◌<◌, List, [], ◌∷◌, ◌++◌, true, false, None, Some, codes, decimal}
 use Rattle.gq_tag.specs.declared.StoredCopy.{StoredCopy}
 use Rattle.gq_tag.specs.declared.Body.{Body}
 use Rattle.gq_tag.specs.declared.Body.TheVariants.{Store, Stored}
 use Rattle.gq_tag.specs.Tag.{OwnMessage, message_of, first_copy}
 use Rattle.gq_phase.specs.declared.Outcome.TheVariants.{Wrote}
+use Rattle.gq_phase.specs.declared.Row.{Row}
 use Rattle.gq_desk.specs.CheckedPlan.{row_at}
 use Rattle.gq_desk.specs.declared.plans.TenantRow.{TenantRow}
-use Rattle.gq_model.specs.declared.events.Line.TheVariants.{Write}
+use Rattle.gq_model.specs.declared.events.Line.TheVariants.{Write, Bad}
 use Rattle.gq_text.specs.AnswerText.{spaced}
 use Rattle.gq_cluster.specs.Cluster.{copy_in}
+use Rattle.gq_node.specs.declared.output.Answer.TheVariants.{Looked}
 use Rattle.gq_node.specs.declared.output.Transfer.TheVariants.{Wants, Brings}
 use Rattle.gq_node.specs.Local.{part_in}
 use Rattle.gq_node.specs.Nodes.{Nodes, new_nodes, AllOpen}
 use Rattle.gq_tag.specs.declared.FileId.{FileId}
 use Rattle.gq_keeper.specs.Runs.{Did}
-use Rattle.gq_wire.specs.Laws.{letter_text, request_text, transfer_text}
+use Rattle.gq_wire.specs.Laws.{letter_text, request_text, transfer_text, look_text}
+use Rattle.gq_wire.specs.Texts.{told_line}
 use Rattle.gq_parts.specs.AllNodes.{GridPlans, here_in, AreSound, Happening, Took, Starts, nodes_at, world_at, all_events, LinesCanCome, IsOneRegister}
 use Rattle.gq_parts.specs.Inputs.{line_inputs}
 use Rattle.gq_parts.specs.Steps.{fact_lines}
@@ -121,10 +125,14 @@ write_worked op =
     ∷ Sends 0 3 (line_worked 0 193 op 1 Stored)
     ∷ []
 
+-- It asks both nodes what their servers have of the volume: a column of the grid, and two rows.
+abbrev pub looks_worked : (op : ℕ) → List Sent
+looks_worked op = Sends 0 3 (look_text grid_worked.plan 0 0 op 0) ∷ Sends 193 3 (look_text grid_worked.plan 193 0 op 0) ∷ []
+
 -- so many writes, behind so many
 abbrev pub writes_worked : (before many : ℕ) → List Sent
 writes_worked before zero = []
-writes_worked before (suc many) = write_worked (before + 1) ++ writes_worked (before + 1) many
+writes_worked before (suc many) = write_worked (before + 1) ++ looks_worked (before + 1) ++ writes_worked (before + 1) many
 
 abbrev pub run_worked : (many : ℕ) → List Happening
 run_worked many = all_happened grid_worked [] (losses_worked ++ writes_worked 0 many)
@@ -143,6 +151,19 @@ pub record IsDone (nodes : Nodes) (op : ℕ) : Type 0 where
   pub first : copy_in (part_in (nodes.local 0)) (record { volume = 0; place = 0 }) ≡ written op
   pub second : copy_in (part_in (nodes.local 193)) (record { volume = 0; place = 0 }) ≡ written op
 
+-- what the node tells of the look behind the write of this number: the file has five bytes and the write's tag, and three nodes were lost; it keeps nothing
+abbrev pub tells_look : (n op : ℕ) → Happening
+tells_look n op = Took n 3 [] (record {
+  line = look_text grid_worked.plan n 0 op 0;
+  facts = [];
+  told = told_line grid_worked.plan n 0 Bad (Looked (record { mark = op; volume = 0; losses = 3; rows = Some (record { length = 5; tag = (written op).tag }) ∷ [] }));
+})
+
+-- so the run ends: both nodes tell the last write, and as many losses
+pub record EndsWithLooks (many : ℕ) : Type 0 where
+  pub before : List Happening
+  pub ends : run_worked many ≡ before ++ tells_look 0 many ∷ tells_look 193 many ∷ []
+
 -- All that the law asks of the lines is so, and so the tenant's file is one register. The lost nodes are gone, and the two others are not.
 pub record IsWorked (many : ℕ) : Type 0 where
   pub sound : AreSound grid_worked
@@ -155,6 +176,7 @@ pub record IsWorked (many : ℕ) : Type 0 where
   pub stays : (end_worked many).gone 0 ≡ false
   pub stays_there : (end_worked many).gone 193 ≡ false
   pub done : 0 < many → IsDone (end_worked many) many
+  pub looks : 0 < many → EndsWithLooks many
 
 -- however many writes there are: a session has no more than so many numbers
 abbrev pub AllWorked : Type 0

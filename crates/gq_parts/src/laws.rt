@@ -4,6 +4,7 @@ ghost use Rattle.gq_parts.specs.Alike.{AllDoSame, AllWriteSame};
 ghost use Rattle.gq_parts.specs.AllNodes.{AllByLaw, AllFollowLaw, AllRenewalsHappen, AllStartsHappen, AllStepsHappen};
 ghost use Rattle.gq_parts.specs.Worked.{AllWorked};
 ghost use Rattle.gq_parts.specs.Happened.{AllWorkedHappen};
+ghost use Rattle.gq_parts.specs.Looks.{AllLooksOfFleet};
 ghost use Rattle.gq_parts.specs.Laws.{AllFactsByParts, AllOthersLeftOut, AllRunsByParts, AllStartsByParts, AllTenantsApart, AllTextsByParts};
 
 /// How many hops of letters from a node to itself the line takes that made the node write them. What is left after them goes by lines, as to any
@@ -51,7 +52,8 @@ pub fn all_nodes()
 {}
 
 /// A run of any length of which the law speaks: three nodes are lost at one place, one behind the other, and then a session writes as often as one
-/// likes. The plans are sound, all its lines can come, and so its file is one register; each write is done, and both servers have it.
+/// likes. The plans are sound, all its lines can come, and so its file is one register; each write is done, and both servers have it. Behind each the tenant
+/// looks at the file at both nodes, which tell that write.
 pub fn all_nodes_worked()
     ensures { AllWorked }
 {}
@@ -60,4 +62,10 @@ pub fn all_nodes_worked()
 /// the other is written anew before it starts again. All this is of nodes of the law.
 pub fn all_nodes_happen()
     ensures { AllWorkedHappen }
+{}
+
+/// Whatever happens to nodes: what one tells of a tenant's look at a volume is what its server has in the fleet of that run, and the node acts in it. So
+/// answers of several nodes are those of which `gq_looks::laws::answers_stand` speaks.
+pub fn looks_told()
+    ensures { AllLooksOfFleet }
 {}
