@@ -12,7 +12,7 @@ from pathlib import Path
 PROGRAMS = ("swift-proxy-server", "swift-account-server", "swift-container-server", "swift-object-server", "swift-ring-builder", "memcached")
 KINDS, REPLICAS, PARTITIONS = ("account", "container", "object"), 3, 8  # (partitions as a power of 2)
 ACCESS, SECRET = "test:tester", "testing"
-READY = 60  # seconds
+READY = 300  # seconds, on a machine that does much else
 
 PIPELINE = "catch_errors gatekeeper healthcheck proxy-logging cache listing_formats bulk s3api tempauth copy slo dlo versioned_writes symlink proxy-logging proxy-server"
 

@@ -115,6 +115,8 @@ BUGS = {
     "a long get ends amid a part": ("test_in_chunks.py Many.test_read_some_parts_at_a_time", "reading.py", "        yield cut\n        count += cut.end - cut.first\n", "        yield Cut(cut.part, cut.first, min(cut.end, cut.first + most - count)) if most else cut\n        count += cut.end - cut.first\n"),
     "what an earlier gateway left stays": ("test_in_chunks.py Steps.test_put", "store.py", "            self.writer.sweep_chunks()\n", ""),
     "what was replaced is never forgotten": ("test_in_chunks.py Many.test_given_up", "store.py", "        self.writer.forget_gone(self.forget_after)\n", ""),
+    "a file ends while it is read": ("test_forms.py Room.test_a_file_that_is_closed_amid_a_call", "bounds.py", "        self.file = None\n", "        self.opened().close()\n"),
+    "an answer keeps its room in memory": ("test_forms.py Room.test_memory", "objects.py", "                self.spool.close()\n            self.leave_memory()\n", "                self.spool.close()\n"),
     "a client that leaves is a fault": ("test_malformed.py Malformed.test_a_client_that_leaves", "connections.py", " or isinstance(exc, (ConnectionError, RequestPayloadError)):", ":"),
 }
 

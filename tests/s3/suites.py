@@ -88,7 +88,11 @@ def minio(client, host, access, secret, room):
     failed, passed = {}, set()
     for name in cases:
         empty(client)
-        done = subprocess.run([program, name], env=words, cwd=room, capture_output=True, text=True, timeout=LONGEST)
+        try:
+            done = subprocess.run([program, name], env=words, cwd=room, capture_output=True, text=True, timeout=LONGEST)
+        except subprocess.TimeoutExpired:
+            failed[name] = f"not done in {LONGEST} seconds"
+            continue
         told = [json.loads(line) for line in done.stdout.splitlines() if line.startswith("{")]
         if [each["status"] for each in told] == ["PASS"] and not done.returncode:
             passed.add(name)

@@ -30,12 +30,14 @@ from gridfs_client.errors import Damaged
 from gridfs_client.pages import check_words
 from gridfs_s3 import checksums, markup, setting_up, signing, tags
 from gridfs_s3.bodies import Body
+from gridfs_s3.bounds import IN_MEMORY, LONG, MOST_IN_MEMORY, Spool
 from gridfs_s3.copying import range_to_copy
 from gridfs_s3.errors import S3Error
 from gridfs_s3.front import instances_of, make_keys
 from gridfs_s3.index import Few, Index
 from gridfs_s3.keys import BadKeys, Key, parse_keys, read_keys
 from gridfs_s3.listing import Cut, latest_of
+from gridfs_s3.objects import Get
 from gridfs_s3.places import KEYS, Object, Part, check_bucket, name_of, of_words, parts_of, to_words, words_of
 from gridfs_s3.requests import Asked, http_date, judge, range_of, range_wanted, seconds_of_date
 from gridfs_s3.sessions import Pool
@@ -450,6 +452,57 @@ class Bodies(Case):
         self.assertEqual(self.told(good, signed, **length), "IncompleteBody")
         wrong = b"5;chunk-signature=" + b"2" * 64 + b"\r\nhello\r\n0;chunk-signature=" + b"1" * 64 + b"\r\n\r\n"
         self.assertEqual(self.told(wrong, signed, **length), "SignatureDoesNotMatch")
+
+
+class Room(Case):
+    """What bodies and answers are in meanwhile."""
+
+    def test_a_file_that_is_closed_amid_a_call(self):
+        """Whoever reads or writes then meets no file that was opened since, as another request's."""
+        for call, use, told in (("pread", lambda spool: spool.read(0, 4), b"mine"), ("pwrite", lambda spool: spool.add(b"more"), None)):
+            spool, real, same = Spool(), getattr(os, call), list[bool]()
+            spool.add(b"mine")
+
+            def late(handle, *words, spool=spool, real=real, same=same):
+                spool.close()
+                with tempfile.TemporaryFile() as other:
+                    same.append(other.fileno() == handle)
+                    return real(handle, *words)
+
+            with mock.patch.object(os, call, late):
+                self.assertEqual(use(spool), told)
+            self.assertEqual(same, [False])
+            self.assertRaises(ValueError, use, spool)
+
+    def test_memory(self):
+        """So many answers of up to a MiB may be in memory at a time, and no longer ones. Each leaves, however it ends, and once it is in a file."""
+        gateway, under_way = types.SimpleNamespace(in_memory=0, tenant="carol"), list[int]()
+
+        async def answer(end, is_in_file):
+            get = Get(gateway, types.SimpleNamespace(), types.SimpleNamespace(name="bucket/key"))
+
+            async def look(*_):
+                under_way.append(get.most_in_memory)
+                await asyncio.sleep(0)
+                if is_in_file:
+                    with mock.patch.object(get, "begin", side_effect=end), self.assertRaises(type(end)):
+                        await get.begin_to_give(None)
+                    self.assertEqual(get.most_in_memory, IN_MEMORY)
+                raise end
+
+            gateway.look = look
+            with self.assertRaises(type(end)):
+                await get.answered()
+
+        async def answers():
+            for end in (S3Error("NoSuchKey"), asyncio.CancelledError()):
+                for is_in_file in (False, True):
+                    under_way.clear()
+                    await asyncio.gather(*(answer(end, is_in_file) for _ in range(MOST_IN_MEMORY + 2)))
+                    self.assertEqual(sorted(under_way), [IN_MEMORY] * 2 + [LONG] * MOST_IN_MEMORY)
+                    self.assertEqual(gateway.in_memory, 0)
+
+        asyncio.run(answers())
 
 
 class Sessions(Case):

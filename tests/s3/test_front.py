@@ -25,6 +25,8 @@ import botocore.auth
 import test_operations
 from urllib3 import encode_multipart_formdata
 
+SEVERAL = f"http://127.0.0.1:{endpoint.free_port()}"  # before another tenant too, whose gateway is away
+
 
 def setUpModule():
     room = Path(unittest.enterModuleContext(endpoint.stand_in()))
@@ -43,9 +45,12 @@ def setUpModule():
             if time.monotonic() > until:
                 raise endpoint.NotStarted((room / f"log.{each.name}").read_text())
             time.sleep(0.05)
-    (room / "nginx.conf").write_text(f"user root;\n{nginx_conf(room, {'carol': both}, sockets, test_operations.URL.partition('//')[2])}")
-    nginx = start(room, "nginx", [shutil.which("nginx", path="/usr/sbin:" + os.environ["PATH"]), "-e", "stderr", "-c", room / "nginx.conf"])
-    endpoint.wait(lambda: is_there(), nginx, room / "log.nginx")
+    sockets["dave"] = "/nowhere"
+    for name, url, tenants in (("nginx", test_operations.URL, {"carol": both}), ("several", SEVERAL, {"carol": both, "dave": instances_of("dave", 4, 1)})):
+        (room / name).mkdir()
+        (room / name / "nginx.conf").write_text(f"user root;\n{nginx_conf(room / name, tenants, sockets, url.partition('//')[2])}")
+        nginx = start(room, name, [shutil.which("nginx", path="/usr/sbin:" + os.environ["PATH"]), "-e", "stderr", "-c", room / name / "nginx.conf"])
+        endpoint.wait(lambda url=url: is_there(url), nginx, room / f"log.{name}")
 
 
 def start(room, name, words, more={}):
@@ -56,11 +61,13 @@ def start(room, name, words, more={}):
     return process
 
 
-def is_there():
+def is_there(url):
+    """Whether it answers as S3 does."""
     try:
-        test_operations.client().list_buckets()
-        return True
-    except Exception:
+        urllib.request.urlopen(f"{url}/?unsigned")
+    except urllib.error.HTTPError as fault:
+        return fault.code == 403
+    except OSError:
         return False
 
 
@@ -122,6 +129,29 @@ class Front(test_operations.Case):
             with urllib.request.urlopen(urllib.request.Request(form["url"] + query, content, {"Content-Type": kind})) as told:
                 self.assertEqual((told.status, told.headers["Location"]), (204, f"{test_operations.URL}/{self.bucket}/posted"))
             self.assertEqual(self.get("posted")["Body"].read(), b"x" * 100_000)
+
+    def test_before_several_tenants(self):
+        """Each request goes to the tenant whose key it names, by whatever signature; one that names none is told so."""
+        form, kind = encode_multipart_formdata([("key", "a"), ("file", ("name", b"x"))])
+        leave = {"Origin": "https://shop.example", "Access-Control-Request-Method": "PUT"}
+        with mock.patch.object(test_operations, "URL", SEVERAL):
+            self.assertEqual(self.ask("GET", f"/{self.bucket}")[0], 200)
+            self.assertEqual(self.ask("GET", f"/{self.bucket}", access="carol.reader")[0], 200)
+            for code, status, method, path, headers, body in [
+                ("InvalidRequest", 400, "GET", "/", {"Authorization": "AWS carol:abc"}, b""),
+                ("InvalidRequest", 400, "GET", "/", {"Authorization": "AWS carol.reader:abc"}, b""),
+                ("InvalidRequest", 400, "GET", f"/{self.bucket}/a?AWSAccessKeyId=carol&Expires=1&Signature=abc", {}, b""),
+                ("InvalidRequest", 400, "GET", f"/{self.bucket}/a?Expires=1&Signature=abc&AWSAccessKeyId=carol", {}, b""),
+                ("ServiceUnavailable", 503, "GET", "/", {"Authorization": "AWS dave:abc"}, b""),
+                ("ServiceUnavailable", 503, "GET", "/?AWSAccessKeyId=dave&Expires=1&Signature=abc", {}, b""),
+                ("AccessDenied", 403, "GET", "/", {"Authorization": "AWS eve:abc"}, b""),
+                ("AccessDenied", 403, "GET", f"/{self.bucket}/a", {}, b""),
+                ("AccessDenied", 403, "POST", f"/{self.bucket}", {"Content-Type": kind}, form),
+                ("AccessForbidden", 403, "OPTIONS", f"/{self.bucket}/a", leave, b""),
+            ]:
+                told = self.ask(method, path, body, headers, sign=False)
+                self.assertEqual((told[0], test_operations.Requests.code(self, told)), (status, code), (method, path, headers))
+                self.assertEqual(b"No tenant is named" in told[1], code == "AccessForbidden" or method == "POST", told[1])
 
     def test_expect_that_is_signed(self):
         """nginx has answered it, and does not pass it on."""

@@ -9,6 +9,8 @@ content of this tag: the file is *settled*. Nothing else follows from a look. An
 import secrets
 from collections.abc import Callable, Collection, Mapping, Sequence
 from dataclasses import dataclass, field
+from functools import lru_cache
+from operator import attrgetter
 from weakref import WeakKeyDictionary
 
 from .answers import LookTold, Row, row_of
@@ -20,9 +22,12 @@ LOOK_FORM = 3  # a node that tells this form of lines, or a later one, answers l
 LACKS = "-"  # what a node tells of a file that it has not got yet
 PATIENCE = 0.5  # seconds for which the answers of a row and a column are waited for
 SHORT = 0.1  # seconds that others get besides as many as these took
+MOST_WORDS = 8_192  # of files, whose meaning is remembered
+TAG = attrgetter("tag")
 AGAIN = 1.0  # seconds after which a node that did not tell which lines it knows is asked again
 
 
+@lru_cache(MOST_WORDS)  # (most files are told as they were told last)
 def row_in(word: str) -> Row | None:
     """What a word tells of a file; None where the node lacks it, or the word has no form."""
     try:
@@ -31,15 +36,20 @@ def row_in(word: str) -> Row | None:
         return None
 
 
+@lru_cache(1)
+def lines_of(shape: Shape) -> tuple[list[frozenset[int]], list[frozenset[int]]]:
+    """The places of each column, and of each row."""
+    return [frozenset(shape.column(number)) for number in range(shape.columns)], [frozenset(shape.row(number)) for number in range(shape.rows)]
+
+
 def settled(words: Mapping[int, str], shape: Shape) -> Row | None:
     """A file by what the nodes at these places told of it, where that is a read; else None."""
     rows = {place: row for place, word in words.items() if (row := row_in(word))}
-    columns = [shape.column(number) for number in range(shape.columns)]
-    least = [min(rows[place].tag for place in column) for column in columns if all(place in rows for place in column)]
-    every = [shape.row(number) for number in range(shape.rows)]
-    greatest = [max((rows[place] for place in row), key=lambda each: each.tag) for row in every if all(place in rows for place in row)]
+    columns, every = lines_of(shape)
+    least = [min([rows[place].tag for place in column]) for column in columns if column <= rows.keys()]
+    greatest = [max([rows[place] for place in row], key=TAG) for row in every if row <= rows.keys()]
     found = [row for row in greatest if least and row.tag <= max(least)]
-    return max(found, key=lambda each: each.tag) if found else None
+    return max(found, key=TAG) if found else None
 
 
 @dataclass

@@ -147,12 +147,25 @@ class Body:
         return data
 
     async def spooled(self) -> Spool:
-        """The whole body in a file, judged."""
-        spool = Spool()
+        """The whole body in a file, judged. A thread looks at some bytes and writes them while the next ones come."""
+        spool, loop = Spool(), asyncio.get_running_loop()
+        adding: asyncio.Future[None] | None = None
+
+        def add(data: bytes) -> None:
+            self.take(data)
+            spool.add(data)
+
         try:
-            while data := self.take(await self.read(4 * BODY_PIECE)):
-                await asyncio.get_running_loop().run_in_executor(None, spool.add, data)
+            while data := await self.read(4 * BODY_PIECE):
+                if adding:
+                    await adding
+                adding = loop.run_in_executor(None, add, data)
+            if adding:
+                await adding
+            self.take(b"")
         except BaseException:
+            if adding:
+                adding.add_done_callback(lambda done: done.cancelled() or done.exception())  # (which nobody waits for)
             spool.close()
             raise
         return spool

@@ -9,6 +9,7 @@ import os
 import tempfile
 from collections.abc import AsyncIterator
 from contextlib import asynccontextmanager, nullcontext
+from typing import IO
 
 from .errors import S3Error
 from .requests import Asked
@@ -23,6 +24,8 @@ MOST_CONNECTIONS = 2_048  # with more the oldest one ends on which nothing is as
 # Of bodies and answers
 IN_MEMORY = 1 << 16  # bytes up to which they are held in memory
 LONG = 1 << 20  # bytes from which on they want a place
+MOST_IN_MEMORY = 16  # answers of up to that length that are in memory at a time until they are taken; others of more than a little are in files
+GIVEN = 1 << 17  # bytes that are given at a time
 OF_A_FILE = 256 << 20  # bytes of an answer after which it goes on in another file, behind the part in which they end
 IDLE = 60.0  # seconds in which the next bytes have to come, or to be taken
 LEAST_RATE, GRACE = 4_096, 60.0  # bytes a second that have to come, or to be taken, on the whole; and seconds besides
@@ -62,25 +65,35 @@ class Places:
 
 
 class Spool:
-    """Bytes that are kept for a while: in a file without a name, whose end is where a thread or the loop writes, and which another one reads."""
+    """Bytes that are kept for a while: in a file without a name, whose end is where a thread or the loop writes, and which another one reads. It may be closed amid
+    these: then the file ends once they have, so that none of them meets another one that has got its number."""
 
     def __init__(self) -> None:
-        self.file, self.size = tempfile.TemporaryFile(buffering=0), 0
+        self.file: IO[bytes] | None = tempfile.TemporaryFile(buffering=0)
+        self.size = 0
+
+    def opened(self) -> IO[bytes]:
+        """(Whoever has it keeps it open.) A ValueError once it is closed."""
+        if self.file is None:
+            raise ValueError("the file is closed")
+        return self.file
 
     def add(self, data: bytes) -> None:
         """503 ServiceUnavailable where the disk is full."""
+        file = self.opened()
         try:
-            room, rest = os.fstatvfs(self.file.fileno()), memoryview(data)
+            room, rest = os.fstatvfs(file.fileno()), memoryview(data)
             if room.f_bavail * room.f_frsize < LEFT + len(data):
                 raise OSError
             while rest:
-                rest = rest[os.pwrite(self.file.fileno(), rest, self.size + len(data) - len(rest)) :]
+                rest = rest[os.pwrite(file.fileno(), rest, self.size + len(data) - len(rest)) :]
         except OSError:
             raise S3Error("ServiceUnavailable", "The gateway has no room for so many long contents at a time. Nothing was changed.") from None
         self.size += len(data)
 
     def read(self, at: int, length: int) -> bytes:
-        return os.pread(self.file.fileno(), length, at)
+        file = self.opened()
+        return os.pread(file.fileno(), length, at)
 
     def close(self) -> None:
-        self.file.close()
+        self.file = None

@@ -82,6 +82,7 @@ class Gateway:
         self.known_buckets: dict[str, tuple[float, str]] = {}  # until when, and the state of their versions
         self.clock = Clock()
         self.places, self.documents = Places(), asyncio.Semaphore(IN_HAND)
+        self.in_memory = 0  # gets whose answer may be in memory though it is not short
         self.map_faults = list[str]()  # what was the matter when a later map was looked for last
 
     # Sessions

@@ -11,7 +11,7 @@ from gridfs_client.buckets import Held
 
 from . import bodies, metrics, tags
 from .bodies import Spooled, Whole, body_of
-from .bounds import BODY_PIECE, IDLE, IN_HAND, IN_MEMORY, LONG, OF_A_FILE, Spool, is_too_slow
+from .bounds import GIVEN, IDLE, IN_HAND, IN_MEMORY, LONG, MOST_IN_MEMORY, OF_A_FILE, Spool, is_too_slow
 from .buckets import Buckets
 from .checksums import HEADER, algorithm_of
 from .errors import S3Error, error_of, tell
@@ -129,7 +129,7 @@ class Get:
         self.part: tuple[int, int] | None = None
         self.response: web.StreamResponse | None = None
         self.loop = asyncio.get_running_loop()
-        self.has_place = False
+        self.has_place, self.most_in_memory = False, IN_MEMORY  # bytes that may be in memory until they are taken
         self.spool: Spool | None = None
         self.held: Held | None = None
         self.next, self.end = 0, 0  # of the object: the byte to read next, and that behind the last one that is wanted
@@ -152,6 +152,7 @@ class Get:
         self.response, self.begun = response, self.loop.time()
 
     async def begin_to_give(self, held: Held) -> None:
+        self.leave_memory()
         await self.begin(held)
         self.begin_file()
 
@@ -160,7 +161,7 @@ class Get:
         self.giving = self.loop.create_task(self.give_on())
         self.giving.add_done_callback(lambda giving: giving.cancelled() or giving.exception())  # (whoever waits for it is told)
 
-    async def give(self, data: bytes) -> None:
+    async def give(self, data: bytes | memoryview) -> None:
         """A TimeoutError where it is not taken in time, or all is taken too slowly."""
         assert self.response is not None
         async with asyncio.timeout(IDLE):
@@ -177,7 +178,7 @@ class Get:
         while True:
             self.came.clear()
             is_whole = self.is_whole
-            while data := self.spool.read(self.of_file, BODY_PIECE):
+            while data := self.spool.read(self.of_file, GIVEN):
                 await self.give(data)
             if is_whole:
                 return
@@ -188,7 +189,7 @@ class Get:
         held, parts, data = store.read(self.place.name, self.choose, self.place.is_latest, OF_A_FILE)
         first, end = self.part or (0, held.content.size)
         with closing(parts):  # (what it reads ahead ends before the session has other work)
-            if len(data) == end - first <= IN_MEMORY:
+            if len(data) == end - first <= self.most_in_memory:
                 for _ in parts:
                     pass
                 return held, data
@@ -237,13 +238,25 @@ class Get:
             async with self.gateway.places.one(self.asked):
                 return await self.answered()
 
+    def take_memory(self) -> None:
+        if self.gateway.in_memory < MOST_IN_MEMORY:
+            self.gateway.in_memory += 1
+            self.most_in_memory = LONG
+
+    def leave_memory(self) -> None:
+        if self.most_in_memory == LONG:
+            self.gateway.in_memory -= 1
+            self.most_in_memory = IN_MEMORY
+
     async def answered(self) -> web.StreamResponse:
+        self.take_memory()
         try:
             rest = await self.gateway.look(self.place.name, self.send, HELPERS, lambda: self.response is not None)
             if rest:
                 held, data = rest
                 await self.begin(held)
-                await self.give(data)
+                for at in range(0, len(data), GIVEN):
+                    await self.give(memoryview(data)[at : at + GIVEN])
             else:
                 await self.give_all()
         except (Exception, asyncio.CancelledError) as fault:
@@ -260,6 +273,7 @@ class Get:
                 self.giving.cancel()
             if self.spool:
                 self.spool.close()
+            self.leave_memory()
         assert self.response is not None
         await self.response.write_eof()
         return self.response
