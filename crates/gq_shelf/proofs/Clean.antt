@@ -1,5 +1,5 @@
 -- What is clean now was clean before.
-use Rattle.std.proofs.Common.{◌≡◌, ℕ, List, subst}
+use Rattle.std.proofs.Common.{◌≡◌, ℕ, Bool, true, false, List, subst, refl}
 use Rattle.std.proofs.lemmas.List.Elements.{All-head, All-tail}
 use Rattle.gq_shelf.specs.declared.extent.Extent.{Extent}
 use Rattle.gq_shelf.specs.Notes.{Note, Noted, after_put, after_read, after_sync, IsClean, GoesOn}
@@ -29,3 +29,8 @@ read_lies old new extent bytes written e clean = All-head (Is written) (extent, 
 
 pub read_goes_on : (old new : Noted) (extent : Extent) (bytes : List ℕ) → new ≡ after_read extent bytes old → GoesOn old new
 read_goes_on old new extent bytes e written clean = All-tail (Is written) (extent, bytes) old.all (subst (λ (n : Noted). IsClean written n) e clean)
+
+-- what was vouched for counts as read, and what was not changes nothing
+pub vouched_goes_on : (is : Bool) (old new : Noted) (extent : Extent) (bytes : List ℕ) → (is ≡ true → new ≡ after_read extent bytes old) → (is ≡ false → new ≡ old) → GoesOn old new
+vouched_goes_on true old new extent bytes read other = read_goes_on old new extent bytes (read refl)
+vouched_goes_on false old new extent bytes read other = stays old new (other refl)

@@ -45,7 +45,8 @@ after_failure Read extent noted = after_refusal noted
 after_failure Write extent noted = after_refusal noted
 after_failure Full extent noted = after_refusal noted
 
--- No read was wrong: each content that was put or read is what this function says. For the one that says what was put, it says just this.
+-- No read was wrong: each content that was put or read is what this function says. For the one that says what was put, it says just this. What was had from
+-- elsewhere, with the number of bytes and the sum of a content, counts as read there.
 abbrev pub IsClean : (Extent → List ℕ) → Noted → Type 0
 IsClean written noted = All (λ note. written note.0 ≡ note.1) noted.all
 

@@ -1,6 +1,6 @@
 -- What a content is, whether it is in memory or lies on the shelf.
 use Rattle.std.specs.Prelude.{◌≡◌, ℕ, ◌≤◌, List, length, Option, Some, None, ⊤}
-use Rattle.gq_shelf.specs.Extents.{begins}
+use Rattle.gq_shelf.specs.Extents.{Describes, begins}
 use Rattle.gq_shelf.specs.Notes.{Noted, after_put, after_read, after_failure}
 use Rattle.gq_shelf.specs.declared.extent.Extent.{Extent}
 use Rattle.gq_shelf.specs.declared.fault.ShelfFault.{ShelfFault}
@@ -42,3 +42,13 @@ ReadFailed (Shelved extent) fault old new = new ≡ after_failure fault extent o
 abbrev pub extent_in : Place → Option Extent
 extent_in (Fresh bytes) = None
 extent_in (Shelved extent) = Some extent
+
+-- the bytes have the number and the sum of the content that lies there; one in memory has none
+abbrev pub DescribesAt : Option Extent → List ℕ → Type 0
+DescribesAt None bytes = ⊥
+DescribesAt (Some extent) bytes = Describes extent bytes
+
+-- they were noted as read there
+abbrev pub NotedAt : Option Extent → List ℕ → Noted → Noted → Type 0
+NotedAt None bytes old new = ⊥
+NotedAt (Some extent) bytes old new = new ≡ after_read extent bytes old

@@ -200,12 +200,20 @@ fn why_unwritten(alloc: Global, error: &io::Error) -> ShelfFault {
     }
 }
 
-// Why the segment could not be read.
-fn why_unread(alloc: Global, error: &io::Error, segment: u32) -> ShelfFault {
+// Why the segment could not be opened.
+fn why_unopened(alloc: Global, error: &io::Error, segment: u32) -> ShelfFault {
     match error.kind() {
-        io::ErrorKind::NotFound | io::ErrorKind::UnexpectedEof => ShelfFault::Damaged(segment),
+        io::ErrorKind::NotFound => ShelfFault::Damaged(segment),
         io::ErrorKind::OutOfMemory => no_memory(alloc),
         _ => ShelfFault::Read,
+    }
+}
+
+// Why the bytes could not be read of a segment that was opened: it ends before them, or the disk has lost them.
+fn why_unread(alloc: Global, error: &io::Error, segment: u32) -> ShelfFault {
+    match error.kind() {
+        io::ErrorKind::OutOfMemory => no_memory(alloc),
+        _ => ShelfFault::Damaged(segment),
     }
 }
 
@@ -458,7 +466,7 @@ impl<R: Files<File = File> + Drop> FileShelf<R> {
         let path = path_of(self.alloc, self.place.folder.as_str(), extent.segment)?;
         let file = match fs::open(&self.rt, text_of(path.as_slice())?) {
             Ok(file) => file,
-            Err(error) => return Err(why_unread(self.alloc, &error, extent.segment)),
+            Err(error) => return Err(why_unopened(self.alloc, &error, extent.segment)),
         };
         let mut bytes = filled(self.alloc, 0, extent.len as usize)?;
         match file.read_exact_at(bytes.as_mut_slice(), extent.at) {
@@ -472,7 +480,7 @@ impl<R: Files<File = File> + Drop> FileShelf<R> {
         ensures { IfOk result (λ bytes. Describes extent.now bytes) }
     {
         let bytes = self.bytes_at(extent)?;
-        if sum_of(extent.at, bytes.as_slice()) != extent.sum {
+        if !extent.describes(bytes.as_slice()) {
             return Err(ShelfFault::Damaged(extent.segment));
         }
         Ok(bytes_of(bytes)?)
@@ -537,6 +545,14 @@ impl<R: Files<File = File> + Drop> Shelf for FileShelf<R> {
                 Err(fault)
             }
         }
+    }
+
+    fn vouch(&mut self, extent: &Extent, bytes: &[u8]) -> bool {
+        let is_described = extent.describes(bytes);
+        if is_described {
+            self.notes.reads(extent, bytes);
+        }
+        is_described
     }
 
     fn segments(&self) -> Result<Vec<u32>, ShelfFault> {

@@ -42,7 +42,7 @@ impl MemoryShelf {
             return None;
         }
         let bytes = &behind[..extent.len as usize];
-        if sum_of(extent.at, bytes) != extent.sum {
+        if !extent.describes(bytes) {
             return None;
         }
         Some(bytes)
@@ -107,6 +107,14 @@ impl Shelf for MemoryShelf {
                 Err(fault)
             }
         }
+    }
+
+    fn vouch(&mut self, extent: &Extent, bytes: &[u8]) -> bool {
+        let is_described = extent.describes(bytes);
+        if is_described {
+            self.notes.reads(extent, bytes);
+        }
+        is_described
     }
 
     fn segments(&self) -> Result<Vec<u32>, ShelfFault> {

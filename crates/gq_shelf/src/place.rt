@@ -1,8 +1,8 @@
 //! Where a content is: in memory or on the shelf.
 
-ghost use Rattle.std.specs.Prelude.{◌≡◌, ◌<◌, ◌^◌, ℕ, List, length, IfOk, IfErr, OnErr, Option, Some, None};
+ghost use Rattle.std.specs.Prelude.{◌≡◌, ◌<◌, ◌^◌, ℕ, List, length, true, false, IfOk, IfErr, OnErr, Option, Some, None};
 ghost use Rattle.gq_shelf.specs.Notes.{IsClean, GoesOn, after_refusal};
-ghost use Rattle.gq_shelf.specs.Places.{content_at, long_at, extent_in, PutBehind, ReadAt, ReadFailed};
+ghost use Rattle.gq_shelf.specs.Places.{content_at, long_at, extent_in, PutBehind, ReadAt, ReadFailed, DescribesAt, NotedAt};
 ghost use Rattle.gq_shelf.specs.declared.extent.Extent.{Extent};
 
 use crate::{Extent, Shelf, ShelfFault};
@@ -67,6 +67,24 @@ impl Place {
                 let found = shelf.read(extent)?;
                 Ok(found)
             }
+        }
+    }
+
+    /// Whether these are the bytes of a content that lies on the shelf, by their number and their sum, for who has them from elsewhere. They are noted as read there then. Of a content in
+    /// memory nothing is said so.
+    pub fn vouch<S: Shelf>(&self, shelf: &mut S, bytes: &[u8]) -> bool
+        ensures bytes { (written : Extent → List ℕ) → result ≡ true → IsClean written (S.noted shelf.new) → content_at written self.now ≡ bytes.now }
+        ensures long { result ≡ true → length bytes.now ≡ long_at self.now }
+        ensures noted { result ≡ true → NotedAt (extent_in self.now) bytes.now (S.noted shelf.old) (S.noted shelf.new) }
+        ensures describes { result ≡ true → DescribesAt (extent_in self.now) bytes.now }
+        ensures others { result ≡ false → DescribesAt (extent_in self.now) bytes.now → ⊥ }
+        ensures untouched { result ≡ false → S.noted shelf.new ≡ S.noted shelf.old }
+        ensures end_stays { S.end shelf.new ≡ S.end shelf.old }
+        ensures goes_on { GoesOn (S.noted shelf.old) (S.noted shelf.new) }
+    {
+        match self {
+            Place::Fresh(_) => false,
+            Place::Shelved(extent) => shelf.vouch(extent, bytes),
         }
     }
 }

@@ -55,6 +55,16 @@ pub trait Shelf {
         ensures end_stays { end self.new ≡ end self.old }
         ensures broken_stays { is_broken self.new ≡ is_broken self.old };
 
+    /// Whether these are the bytes of the content, by their number and their sum, for who has them from elsewhere. They are noted as read there then: a read that
+    /// told them would be taken for as right.
+    fn vouch(&mut self, extent: &Extent, bytes: &[u8]) -> bool
+        ensures read { result ≡ true → noted self.new ≡ after_read extent.now bytes.now (noted self.old) }
+        ensures describes { result ≡ true → Describes extent.now bytes.now }
+        ensures others { result ≡ false → Describes extent.now bytes.now → ⊥ }
+        ensures untouched { result ≡ false → noted self.new ≡ noted self.old }
+        ensures end_stays { end self.new ≡ end self.old }
+        ensures broken_stays { is_broken self.new ≡ is_broken self.old };
+
     /// The numbers of the segments that are there, but for the greatest.
     fn segments(&self) -> Result<Vec<u32>, ShelfFault>
         ensures { IfOk result (λ found. All (λ segment. place_of (segment + 1) 0 ≤ end self.now) found.items) };
