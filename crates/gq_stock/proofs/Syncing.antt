@@ -8,7 +8,7 @@ use Rattle.gq_shelf.specs.declared.extent.Extent.{Extent}
 use Rattle.gq_shelf.specs.declared.fault.ShelfFault.{ShelfFault}
 use Rattle.gq_shelf.specs.declared.fault.ShelfFault.TheVariants.{Memory, Read, Write, Full, Damaged}
 use Rattle.gq_shelf.specs.Notes.{Note, Noted, after_put, after_read, after_sync, after_damage, after_failure, after_refusal, IsClean, GoesOn}
-use Rattle.gq_shelf.specs.Places.{PutBehind, ReadAt, ReadFailed}
+use Rattle.gq_shelf.specs.Places.{extent_in, PutBehind, ReadAt, ReadFailed, NotedAt}
 use Rattle.gq_stock.specs.Sure.{PlaceIsSure, PlaceIsPut, PutsStay}
 use Rattle.gq_stock.specs.declared.keeping.Keeping.{Keeping}
 use Rattle.gq_stock.specs.declared.keeping.Keeping.TheVariants.{New}
@@ -89,3 +89,8 @@ behind_put (Shelved extent) end content old new put = (content, subst (λ (notes
 pub sync_sure : (place : Place) (old new : Noted) → new ≡ after_sync old → PlaceIsPut place old → PlaceIsSure place new
 sync_sure (Fresh bytes) old new e its = tt
 sync_sure (Shelved extent) old new e its = (its.0, subst (λ (notes : List Note). Contains notes (extent, its.0)) (sym (ap (λ (n : Noted). n.sure) e)) its.1)
+
+-- what was vouched for was there before
+pub vouched_puts : (place : Place) (bytes : List ℕ) (old new : Noted) → NotedAt (extent_in place) bytes old new → PutsStay old new
+vouched_puts (Fresh own) bytes old new noted = absurd noted
+vouched_puts (Shelved extent) bytes old new e = puts_same old new (after_read extent bytes old) e refl (omega arith)

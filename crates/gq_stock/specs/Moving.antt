@@ -1,8 +1,8 @@
 -- What stands elsewhere, and is the same.
-use Rattle.std.specs.Prelude.{◌≡◌, ◌≤◌, ℕ, List, Bool, Option, Some, None, ⊤}
+use Rattle.std.specs.Prelude.{◌≡◌, ◌≤◌, ◌⊎◌, ℕ, List, ◌∷◌, Bool, true, false, Option, Some, None, ⊤}
 use Rattle.gq_shelf.specs.Extents.{begins}
 use Rattle.gq_shelf.specs.Notes.{Noted}
-use Rattle.gq_shelf.specs.Places.{content_at, extent_in, long_at}
+use Rattle.gq_shelf.specs.Places.{content_at, extent_in, long_at, ReadAt, DescribesAt}
 use Rattle.gq_shelf.specs.declared.extent.Extent.{Extent}
 use Rattle.gq_shelf.specs.declared.place.Place.{Place}
 use Rattle.gq_shelf.specs.declared.place.Place.TheVariants.{Fresh, Shelved}
@@ -10,6 +10,8 @@ use Rattle.gq_ledger.specs.Steps.{Book}
 use Rattle.gq_stock.specs.Finding.{FindsDamageAt}
 use Rattle.gq_stock.specs.Held.{Held}
 use Rattle.gq_stock.specs.declared.chunk.Chunk.{Chunk}
+use Rattle.gq_stock.specs.declared.moving.Source.{Source}
+use Rattle.gq_stock.specs.declared.moving.Source.TheVariants.{Shelf, Peer}
 
 -- the content lies on the shelf, behind this end
 abbrev pub LiesBehind : ℕ → Place → Type 0
@@ -21,10 +23,40 @@ abbrev pub IsBehind : ℕ → Option Chunk → Type 0
 IsBehind end None = ⊥
 IsBehind end (Some chunk) = LiesBehind end chunk.place
 
--- none is there, or a read found it damaged
-abbrev pub NoneIsRead : Option Chunk → Noted → Noted → Type 0
-NoneIsRead None old new = ⊤
-NoneIsRead (Some chunk) old new = FindsDamageAt (extent_in chunk.place) old new
+-- a read told what is there
+abbrev pub IsReadAt : Place → Noted → Noted → Type 0
+IsReadAt place old new = (found : List ℕ) × ReadAt place found old new
+
+-- Why a content is not put anew. One that is to be moved is damaged. One that is to be mended can be read, or is damaged and the bytes that were given are not of its number and sum.
+abbrev pub IsLeft : Source → Place → Noted → Noted → Type 0
+IsLeft Shelf place old new = FindsDamageAt (extent_in place) old new
+IsLeft (Peer bytes) place old new = IsReadAt place old new ⊎ (FindsDamageAt (extent_in place) old new × (DescribesAt (extent_in place) bytes → ⊥))
+
+-- of the number, if a chunk is there
+abbrev pub NoneIsRead : Source → Option Chunk → Noted → Noted → Type 0
+NoneIsRead source None old new = ⊤
+NoneIsRead source (Some chunk) old new = IsLeft source chunk.place old new
+
+-- one read since then found damage there, and no other did
+abbrev pub DamagedSince : Option Extent → Noted → Noted → Type 0
+DamagedSince None old new = ⊥
+DamagedSince (Some extent) old new = new.damaged ≡ extent ∷ old.damaged
+
+-- Only what can't be read is mended, and only by bytes of its number and sum.
+abbrev pub IsMendedBy : Source → Place → Noted → Noted → Type 0
+IsMendedBy Shelf place old new = ⊤
+IsMendedBy (Peer bytes) place old new = DamagedSince (extent_in place) old new × DescribesAt (extent_in place) bytes
+
+-- so it is of the chunk that was there
+abbrev pub MendsAs : Source → Option Chunk → Noted → Noted → Type 0
+MendsAs source None old new = ⊥
+MendsAs source (Some chunk) old new = IsMendedBy source chunk.place old new
+
+-- Whether a read found damage where the chunk lies; else it was read, or none is there.
+abbrev pub CheckedAs : Option Chunk → (is_damaged : Bool) → Noted → Noted → Type 0
+CheckedAs None is_damaged old new = is_damaged ≡ false
+CheckedAs (Some chunk) true old new = FindsDamageAt (extent_in chunk.place) old new
+CheckedAs (Some chunk) false old new = IsReadAt chunk.place old new
 
 -- the same is there under each number, and the floor is the same
 pub record MovedAs (old new : Book Held) : Type 0 where

@@ -16,6 +16,7 @@ pub use chunk::Chunk;
 pub use finding::Found;
 pub use keeping::Keeping;
 pub use limits::{CHUNK_CHARGE, MOST_FRESH, MOST_FRESH_BYTES};
+pub use moving::Source;
 pub use run::Run;
 pub use session::Session;
 pub use stock::Stock;

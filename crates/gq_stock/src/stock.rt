@@ -5,7 +5,7 @@ ghost use Rattle.gq_shelf.specs.Notes.{IsClean, GoesOn};
 ghost use Rattle.gq_shelf.specs.declared.extent.Extent.{Extent};
 ghost use Rattle.gq_shelf.specs.declared.fault.ShelfFault.TheVariants.{Full as FaultFull};
 
-use crate::{Keeping, MOST_FRESH_BYTES, Session};
+use crate::{Keeping, MOST_FRESH_BYTES, Session, Source};
 use bytes::Bytes;
 use gq_memory::{GrowVec, OutOfMemory};
 use gq_shelf::{Shelf, ShelfFault};
@@ -156,14 +156,16 @@ impl Stock {
         Ok(is_given)
     }
 
-    /// Puts the content of the number of the session at this place behind all others on the shelf. It is told as before, and has the same bytes where no read was wrong. No
-    /// other session changes, nor what is used, and no more is in memory. The shelf has to make sure of it before it is told where it lies (`PutIn`). False: none is there, or this read of the
-    /// shelf found it damaged, and nothing changes. It is refused where memory is wanting, or the shelf refuses a read or a put, as where it has no space (`Full`). Nothing changes then.
+    /// Puts the content of the number of the session at this place behind all others on the shelf: as it is read, or, where it is damaged, by the bytes that a peer gave, if these have its number
+    /// and its sum. It is told as before, and has the same bytes where no read was wrong. No other session changes, nor what is used, and no more is in memory. The shelf has to make sure of it
+    /// before it is told where it lies (`PutIn`). False, and nothing changes: none is there; or one that is to be moved is damaged; or one that is to be mended can be read, or the bytes are
+    /// others. It is refused where memory is wanting, or the shelf refuses a read or a put, as where it has no space (`Full`). Nothing changes then.
     pub fn shelve<S: Shelf>(
         &mut self,
         shelf: &mut S,
         place: usize,
         number: u64,
+        source: &Source,
     ) -> Result<bool, ShelfFault>
         requires { place < length self.old.sessions.items }
         ensures moved { (written : Extent → List ℕ) → IfOk result (λ is_moved. is_moved ≡ true → MovedIn (IsClean written (S.noted shelf.new)) written (S.end shelf.old) self.old.sessions.items place number self.new.sessions.items) }
@@ -181,6 +183,6 @@ impl Stock {
         ensures goes_on { GoesOn (S.noted shelf.old) (S.noted shelf.new) }
     {
         let _allowed = self.allowed;
-        self.sessions[place].shelve(shelf, number)
+        self.sessions[place].shelve(shelf, number, source)
     }
 }
