@@ -5,4 +5,5 @@ pub mod Seeking
 pub mod Tenants
 pub mod Segments
 pub mod Moving
+pub mod Scrubbing
 pub mod Laws

@@ -1,8 +1,9 @@
 //! Segments of the shelf of which little is named: chunks that are to be moved out of them are looked for, a part at a time.
 
-use crate::Depots;
+use crate::cursor::{Cursor, Seen};
+use crate::{Depots, Spot};
 use gq_memory::{GrowVec, SortVec};
-use gq_shelf::{Place, Shelf, ShelfFault};
+use gq_shelf::{Shelf, ShelfFault};
 use std::alloc::Global;
 
 /// The most chunks that are looked at in one part.
@@ -30,19 +31,10 @@ enum Step {
 
 // A segment, how many bytes it has, and how many of these are named.
 #[derive(Clone, Copy)]
-struct Seen {
+struct Named {
     number: u32,
     length: u64,
     named: u64,
-}
-
-/// A chunk that is to be moved: whose it is, by the tenant's place in the plan, and how many bytes it has.
-#[derive(Clone, Copy)]
-pub struct Spot {
-    pub tenant: usize,
-    pub session: u32,
-    pub number: u64,
-    pub bytes: u64,
 }
 
 /// How far a look has come for segments of which less than half is named, and for the chunks that lie there. It sees those segments that were there as it began, but for the last. Nothing rests on it: a chunk may be
@@ -51,11 +43,8 @@ pub struct Spot {
 pub struct Cleaner {
     step: Step,
     // the segments, rising: those that are looked at, or that were chosen
-    segments: Vec<Seen>,
-    // the chunk that was looked at last
-    tenant: usize,
-    session: usize,
-    number: u64,
+    segments: Vec<Named>,
+    cursor: Cursor,
     // how many chunks more this part may look at
     left: usize,
 }
@@ -66,9 +55,7 @@ impl Cleaner {
         Cleaner {
             step: Step::Rest(0),
             segments: Vec::new(alloc),
-            tenant: 0,
-            session: 0,
-            number: 0,
+            cursor: Cursor::at_tenant(0),
             left: 0,
         }
     }
@@ -87,9 +74,7 @@ impl Cleaner {
     // From the first chunk on.
     fn begin(&mut self, step: Step) {
         self.step = step;
-        self.tenant = 0;
-        self.session = 0;
-        self.number = 0;
+        self.cursor = Cursor::at_tenant(0);
     }
 
     // The place of the segment among those that are looked at.
@@ -112,19 +97,6 @@ impl Cleaner {
                 seen.named = seen.named.saturating_add(bytes);
             }
         }
-    }
-
-    // The next tenant's first session.
-    fn pass_tenant(&mut self) {
-        self.tenant = self.tenant.saturating_add(1);
-        self.session = 0;
-        self.number = 0;
-    }
-
-    // The next session of the tenant.
-    fn pass_session(&mut self) {
-        self.session = self.session.saturating_add(1);
-        self.number = 0;
     }
 
     // How many bytes are named in all segments.
@@ -157,58 +129,18 @@ impl Cleaner {
     }
 }
 
-// The number of the session at this place; 0 where no session has that place.
-fn number_of(place: usize) -> u32 {
-    match u32::try_from(place) {
-        Ok(place) => place.saturating_add(1),
-        Err(_) => 0,
-    }
-}
-
 impl<S: Shelf + Drop> Depots<S> {
-    // Looks at one chunk more, or passes on to the next session or tenant: where the chunk lies, if it is on the shelf.
-    fn look_at_one(&self, cleaner: &mut Cleaner) -> Option<(Spot, u32)> {
-        if cleaner.tenant >= self.depots.len() {
-            return None;
-        }
-        let sessions = &self.depots[cleaner.tenant].stock.sessions;
-        if cleaner.session >= sessions.len() {
-            cleaner.pass_tenant();
-            return None;
-        }
-        match sessions[cleaner.session].after(cleaner.number) {
-            Some((number, chunk)) => {
-                cleaner.number = number;
-                match &chunk.place {
-                    Place::Fresh(_) => None,
-                    Place::Shelved(extent) => {
-                        let spot = Spot {
-                            tenant: cleaner.tenant,
-                            session: number_of(cleaner.session),
-                            number,
-                            bytes: u64::from(extent.len),
-                        };
-                        Some((spot, extent.segment))
-                    }
-                }
-            }
-            None => {
-                cleaner.pass_session();
-                None
-            }
-        }
-    }
-
     // The next chunk that lies on the shelf, and in which segment. None: this part is over, or all were looked at.
     fn next_shelved(&self, cleaner: &mut Cleaner) -> Option<(Spot, u32)> {
         for _ in 0..MOST_SEEN {
-            if cleaner.left == 0 || cleaner.tenant >= self.depots.len() {
+            if cleaner.left == 0 {
                 return None;
             }
             cleaner.left -= 1;
-            let found = self.look_at_one(cleaner);
-            if found.is_some() {
-                return found;
+            match self.look_on(&mut cleaner.cursor) {
+                Seen::Shelved(spot, segment) => return Some((spot, segment)),
+                Seen::Other => {}
+                Seen::End => return None,
             }
         }
         None
@@ -221,7 +153,7 @@ impl<S: Shelf + Drop> Depots<S> {
         numbers.sort_items()?;
         let mut segments = Vec::new(alloc);
         for number in numbers.as_slice() {
-            segments.grow(Seen {
+            segments.grow(Named {
                 number: *number,
                 length: self.shelf.length(*number)?,
                 named: 0,
@@ -240,7 +172,7 @@ impl<S: Shelf + Drop> Depots<S> {
                 None => break,
             }
         }
-        if cleaner.tenant >= self.depots.len() {
+        if self.is_through(&cleaner.cursor) {
             cleaner.choose();
         }
     }
@@ -257,7 +189,7 @@ impl<S: Shelf + Drop> Depots<S> {
                 None => break,
             }
         }
-        if cleaner.tenant >= self.depots.len() {
+        if self.is_through(&cleaner.cursor) {
             cleaner.step = Step::Rest(0);
         }
         None

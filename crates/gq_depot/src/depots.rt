@@ -10,6 +10,7 @@ ghost use Rattle.gq_stock.specs.Sure.{PutsStay};
 use crate::{Answered, ChunkFact, ChunkRequest, Depot, Filling};
 use gq_memory::OutOfMemory;
 use gq_shelf::{Shelf, ShelfFault};
+use gq_stock::Source;
 use std::alloc::Global;
 
 /// The chunks of all tenants at a server, over one shelf.
@@ -27,6 +28,7 @@ impl<S: Shelf + Drop> Depots<S> {
     ghost use Rattle.gq_depot.specs.Tenants.{ApartFrom, TakesOwn, FillsOwn, LeadsOwn, ReadsOwn, DamageOf};
     ghost use Rattle.gq_depot.specs.Segments.{NoneLies, SomeLies};
     ghost use Rattle.gq_depot.specs.Moving.{MovesOwn, FactIsPut};
+    ghost use Rattle.gq_depot.specs.Scrubbing.{ChecksOwn};
 
     /// What comes of the tenant's request. What is told of it and kept of it hangs on this tenant's chunks alone, and no other tenant's change. It is refused
     /// where memory is wanting, or the shelf refuses a read or a put; all is given up then.
@@ -72,13 +74,15 @@ impl<S: Shelf + Drop> Depots<S> {
         Ok(fact)
     }
 
-    /// Moves the chunk of the tenant's session and number behind all others on the shelf. Nothing that is told changes, and no other tenant's chunks do. It is refused where memory is wanting, or the shelf
-    /// refuses a read or a put; all is given up then. Where the shelf has no space for it (`Full`) all is as it was instead.
+    /// Moves the chunk of the tenant's session and number behind all others on the shelf, or mends one that is damaged by the bytes that a peer gave, if these have its number and its sum. Nothing
+    /// that is told changes, and no other tenant's chunks do. It is refused where memory is wanting, or the shelf refuses a read or a put; all is given up then. Where the shelf has no space for it
+    /// (`Full`) all is as it was instead.
     pub fn shelve(
         &mut self,
         tenant: usize,
         session: u32,
         number: u64,
+        source: &Source,
     ) -> Result<Option<ChunkFact>, ShelfFault>
         requires { tenant < length self.old.depots.items }
         ensures own { IfOk result (λ fact. MovesOwn (S.noted self.new.shelf) (S.end self.old.shelf) self.old.depots.items tenant session number fact self.new.depots.items) }
@@ -92,10 +96,23 @@ impl<S: Shelf + Drop> Depots<S> {
         ensures goes_on { GoesOn (S.noted self.old.shelf) (S.noted self.new.shelf) }
     {
         let moving = &mut self.depots[tenant];
-        match moving.shelve(&mut self.shelf, session, number) {
+        match moving.shelve(&mut self.shelf, session, number, source) {
             Ok(fact) => Ok(fact),
             Err(fault) => Err(fault),
         }
+    }
+
+    /// Reads the content of the tenant's session and number, and says whether this read found it damaged. Nothing changes. It is refused where memory is wanting, or the shelf refuses the read.
+    pub fn check(&mut self, tenant: usize, session: u32, number: u64) -> Result<bool, ShelfFault>
+        requires { tenant < length self.old.depots.items }
+        ensures checked { IfOk result (λ is_damaged. ChecksOwn self.old.depots.items tenant session number is_damaged (S.noted self.old.shelf) (S.noted self.new.shelf)) }
+        ensures depots { self.new.depots ≡ self.old.depots }
+        ensures losses { self.new.losses ≡ self.old.losses }
+        ensures puts_stay { PutsStay (S.noted self.old.shelf) (S.noted self.new.shelf) }
+        ensures refused { IfErr result (λ fault. IsRefused fault (S.noted self.old.shelf) (S.noted self.new.shelf)) }
+        ensures goes_on { GoesOn (S.noted self.old.shelf) (S.noted self.new.shelf) }
+    {
+        self.depots[tenant].check(&mut self.shelf, session, number)
     }
 
     /// The shelf makes sure of all that was put. It is refused where memory is wanting, or the shelf refuses it.

@@ -1,4 +1,4 @@
-//! A chunk is moved: it lies elsewhere on the shelf, and nothing that is told changes.
+//! A chunk is moved, or mended: it lies elsewhere on the shelf, and nothing that is told changes.
 
 ghost use Rattle.std.specs.Prelude.{◌≡◌, ◌+◌, ◌<◌, ◌≤◌, ℕ, List, None, true, length, IfOk, IfErr};
 ghost use Rattle.gq_shelf.specs.Notes.{IsClean, GoesOn};
@@ -12,6 +12,7 @@ ghost use Rattle.gq_stock.specs.Sure.{PutsStay};
 use crate::depot::bytes_at;
 use crate::{ChunkFact, Depot, MOST_CHUNK};
 use gq_shelf::{Shelf, ShelfFault};
+use gq_stock::Source;
 
 impl Depot {
     ghost use Rattle.gq_depot.specs.Depots.{LeadsTo, ReadsFact, in_memory};
@@ -29,13 +30,14 @@ impl Depot {
         }
     }
 
-    // Moves the chunk of the number, in the session at this place.
+    // Moves or mends the chunk of the number, in the session at this place.
     fn shelve_at<S: Shelf>(
         &mut self,
         shelf: &mut S,
         place: usize,
         session: u32,
         number: u64,
+        source: &Source,
     ) -> Result<Option<ChunkFact>, ShelfFault>
         requires there { place < length self.old.stock.sessions.items }
         requires number { session ≡ place + 1 }
@@ -54,7 +56,7 @@ impl Depot {
             return Ok(None);
         }
         let before = bytes_at(&self.stock.sessions[place], number);
-        let is_moved = match self.stock.shelve(shelf, place, number) {
+        let is_moved = match self.stock.shelve(shelf, place, number, source) {
             Ok(is_moved) => is_moved,
             Err(fault) => return Err(fault),
         };
@@ -67,14 +69,16 @@ impl Depot {
         Ok(Some(fact))
     }
 
-    /// Moves the chunk of the session's number behind all others on the shelf, and gives the fact of it: where it lies then. The shelf has to make sure of it before the
-    /// fact is synced (`FactIsPut`). No fact: none is there, or this read of the shelf found it damaged, and nothing changes. It is refused where memory is wanting, or the shelf refuses a read or a
-    /// put; the depot is given up then. Where the shelf has no space for it (`Full`) the depot is as it was instead.
+    /// Moves the chunk of the session's number behind all others on the shelf, or mends one that is damaged by the bytes that a peer gave, if these have its number and its sum. It gives the fact of
+    /// it: where it lies then. The shelf has to make sure of it before the fact is synced (`FactIsPut`). No fact, and nothing changes: none is there; or one that is to be moved is damaged; or one
+    /// that is to be mended can be read, or the bytes are others. It is refused where memory is wanting, or the shelf refuses a read or a put; the depot is given up then. Where the shelf has no
+    /// space for it (`Full`) the depot is as it was instead.
     pub fn shelve<S: Shelf>(
         &mut self,
         shelf: &mut S,
         session: u32,
         number: u64,
+        source: &Source,
     ) -> Result<Option<ChunkFact>, ShelfFault>
         ensures gives { (written : Extent → List ℕ) → IfOk result (λ fact. MoveGives (IsClean written (S.noted shelf.new)) written (S.end shelf.old) self.old session number fact) }
         ensures leads { IfOk result (λ fact. LeadsTo self.old fact self.new) }
@@ -90,7 +94,7 @@ impl Depot {
         let Some(place) = self.place_of(session) else {
             return Ok(None);
         };
-        let fact = self.shelve_at(shelf, place, session, number)?;
+        let fact = self.shelve_at(shelf, place, session, number, source)?;
         Ok(fact)
     }
 }

@@ -4,8 +4,9 @@ ghost use Rattle.std.specs.Prelude.{◌≡◌, ◌+◌, ◌≤◌, IfOk, IfSome}
 ghost use Rattle.gq_shelf.specs.Extents.{place_of};
 
 use crate::Depots;
+use crate::cursor::{Cursor, Seen};
 use gq_memory::SortVec;
-use gq_shelf::{Place, Shelf, ShelfFault};
+use gq_shelf::{Shelf, ShelfFault};
 use std::alloc::Global;
 
 /// The most chunks that are looked at in one part.
@@ -32,10 +33,7 @@ pub struct Sweep {
     part: Part,
     // the segments of which no chunk was seen, rising
     left: Vec<u32>,
-    // the chunk that was looked at last
-    tenant: usize,
-    session: usize,
-    number: u64,
+    cursor: Cursor,
     // how many parts of the look there were
     parts: u32,
 }
@@ -46,9 +44,7 @@ impl Sweep {
         Sweep {
             part: Part::Rest(0),
             left: Vec::new(alloc),
-            tenant: 0,
-            session: 0,
-            number: 0,
+            cursor: Cursor::at_tenant(0),
             parts: 0,
         }
     }
@@ -58,9 +54,7 @@ impl Sweep {
         self.part = Part::Look;
         self.left = segments;
         self.parts = 0;
-        self.tenant = 0;
-        self.session = 0;
-        self.number = 0;
+        self.cursor = Cursor::at_tenant(0);
     }
 
     // A chunk lies in this segment.
@@ -68,19 +62,6 @@ impl Sweep {
         if let Ok(place) = self.left.as_slice().binary_search(&segment) {
             let _seen = self.left.remove(place);
         }
-    }
-
-    // The next tenant's first session.
-    fn pass_tenant(&mut self) {
-        self.tenant = self.tenant.saturating_add(1);
-        self.session = 0;
-        self.number = 0;
-    }
-
-    // The next session of the tenant.
-    fn pass_session(&mut self) {
-        self.session = self.session.saturating_add(1);
-        self.number = 0;
     }
 
     // All chunks were looked at, or a segment was, of which none was seen. To look at all of them at once takes as long as all parts of the look, so some parts are passed
@@ -95,47 +76,27 @@ impl Sweep {
     }
 }
 
-// The segment in which the content lies, if it is on the shelf.
-fn segment_of(place: &Place) -> Option<u32> {
-    match place {
-        Place::Fresh(_) => None,
-        Place::Shelved(extent) => Some(extent.segment),
-    }
-}
-
 impl<S: Shelf + Drop> Depots<S> {
     ghost use Rattle.gq_depot.specs.Segments.{NoneLies};
-
-    // Looks at one chunk more, or passes on to the next session or tenant. False: all were looked at.
-    fn look_on(&self, sweep: &mut Sweep) -> bool {
-        if sweep.tenant >= self.depots.len() {
-            return false;
-        }
-        let sessions = &self.depots[sweep.tenant].stock.sessions;
-        if sweep.session >= sessions.len() {
-            sweep.pass_tenant();
-            return true;
-        }
-        match sessions[sweep.session].after(sweep.number) {
-            Some((number, chunk)) => {
-                sweep.number = number;
-                if let Some(segment) = segment_of(&chunk.place) {
-                    sweep.see(segment);
-                }
-            }
-            None => sweep.pass_session(),
-        }
-        true
-    }
 
     // Looks at some chunks more.
     fn look(&self, sweep: &mut Sweep) {
         sweep.parts = sweep.parts.saturating_add(1);
         for _ in 0..MOST_LOOKED {
-            if sweep.left.is_empty() || !self.look_on(sweep) {
-                sweep.wait();
-                return;
+            if sweep.left.is_empty() {
+                break;
             }
+            match self.look_on(&mut sweep.cursor) {
+                Seen::Shelved(_, segment) => sweep.see(segment),
+                Seen::Other => {}
+                Seen::End => {
+                    sweep.wait();
+                    return;
+                }
+            }
+        }
+        if sweep.left.is_empty() {
+            sweep.wait();
         }
     }
 
