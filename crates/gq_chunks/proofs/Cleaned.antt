@@ -1,13 +1,16 @@
 -- Chunks that are moved, one after another.
 use Rattle.std.proofs.Common.{◌≡◌, ◌≤◌, ◌<◌, ℕ, List, [], ◌∷◌, ◌++◌, length, Bool, true, false, Option, Some, None, refl, sym, ap, subst, ◌∙◌, append-nil, append_assoc, arith}
-use Rattle.std.specs.Prelude.{MatchBool}
+use Rattle.std.specs.Prelude.{MatchBool, slice_get}
+use Rattle.std.proofs.lemmas.Option.{same_Some}
 use Rattle.gq_shelf.specs.Notes.{Noted, after_sync, GoesOn}
 use Rattle.gq_shelf.proofs.Clean.{sync_goes_on}
 use Rattle.gq_desk.specs.CheckedPlan.{CheckedPlan}
 use Rattle.gq_journal.specs.Batches.{Line, lines_text, are_batch_lines}
 use Rattle.gq_stock.specs.Sure.{PutsStay}
 use Rattle.gq_stock.proofs.Syncing.{puts_on, puts_itself, sync_sure}
-use Rattle.gq_depot.specs.Depots.{FactIsSure}
+use Rattle.gq_stock.specs.Stocks.{used_in}
+use Rattle.gq_depot.specs.Depots.{FactIsSure, LeadsTo, in_memory}
+use Rattle.gq_depot.proofs.Moved.{none_moved}
 use Rattle.gq_depot.specs.Moving.{FactIsPut}
 use Rattle.gq_depot.specs.declared.depot.Depot.{Depot}
 use Rattle.gq_depot.specs.declared.fact.ChunkFact.{ChunkFact}
@@ -34,6 +37,38 @@ moved_one old new t fact before after done within stands text =
       put = (done.put, tt);
       puts_stay = done.puts_stay;
     }
+
+-- a content was read, and nothing else was done
+nothing_done : (old new : Chunks) (t : ℕ) → new.depots ≡ old.depots → IsSite old new → GoesOn old.noted new.noted → PutsStay old.noted new.noted → MoveDone old t None new
+nothing_done old new t same site goes puts = record {
+  session = 0;
+  number = 0;
+  end = 0;
+  own = λ was is at_was at_is. none_moved new.noted 0 was is 0 0 (still was is (one at_was at_is)) (no_more was is (one at_was at_is)) (as_much was is (one at_was at_is));
+  apart = λ other differs. ap (λ (depots : List Depot). slice_get depots other) same;
+  goes_on = goes;
+  site = site;
+  put = tt;
+  puts_stay = puts;
+}
+  where
+    one : {was is : Depot} → slice_get old.depots t ≡ Some was → slice_get new.depots t ≡ Some is → is ≡ was
+    one {was} {is} at_was at_is = same_Some is was (sym at_is ∙ ap (λ (depots : List Depot). slice_get depots t) same ∙ at_was)
+
+    itself : (depot : Depot) → LeadsTo depot None depot
+    itself depot = record { standing = record { at = λ k n. refl; floor = λ k. refl; gone = λ k n. refl; lacks = refl }; sessions = refl; allowed = refl }
+
+    still : (was is : Depot) → is ≡ was → LeadsTo was None is
+    still was is e = subst (λ (d : Depot). LeadsTo was None d) (sym e) (itself was)
+
+    no_more : (was is : Depot) → is ≡ was → in_memory is ≤ in_memory was
+    no_more was is e = subst (λ (d : Depot). in_memory d ≤ in_memory was) (sym e) (omega arith)
+
+    as_much : (was is : Depot) → is ≡ was → used_in is.stock.sessions.items ≡ used_in was.stock.sessions.items
+    as_much was is e = ap (λ (d : Depot). used_in d.stock.sessions.items) e
+
+pub read_one : (old new : Chunks) (t : ℕ) (text : List ℕ) → t < length old.depots → new.depots ≡ old.depots → IsSite old new → GoesOn old.noted new.noted → PutsStay old.noted new.noted → MovedSoFar old text text new
+read_one old new t text within same site goes puts = moved_one old new t None text text (nothing_done old new t same site goes puts) within tt (sym (append-nil text))
 
 moves_on : (a b c : Chunks) (one two : List Move) → MovesOn a one b → MovesOn b two c → MovesOn a (one ++ two) c
 moves_on a b c [] two same moved = subst (λ (z : Chunks). MovesOn z two c) same moved

@@ -22,7 +22,7 @@ use Rattle.gq_chunks.specs.Facts.{chunk_fact_line}
 use Rattle.gq_chunks.specs.Coming.{Coming, Asked, Nothing}
 use Rattle.gq_chunks.specs.PeerLines.{asks_text}
 use Rattle.gq_chunks.specs.Peers.{is_peer}
-use Rattle.gq_chunks.specs.Machines.{Chunks, IsSite, coming_in, fact_lines, FactStands, MayAsk, MayAskOf, FillsDone, LeavesOut, Fed, Unfed, Waits, may_answer, AnswersPeer, Ticks, AddsAsks, AddsFacts, MovesBy, AddsMovesBy, IsShelfRefusal, StepsBy, ChunkSteps}
+use Rattle.gq_chunks.specs.Machines.{Chunks, IsSite, coming_in, fact_lines, FactStands, MayAsk, MayAskOf, FillsDone, LeavesOut, Fed, Unfed, Waits, may_answer, AnswersPeer, Ticks, AddsAsks, AsksOfOne, AddsFacts, MovesBy, AddsMovesBy, IsShelfRefusal, StepsBy, ChunkSteps}
 
 pub on_ok : {A E P Q : Type 0} (r : Result A E) → (P → Q) → OnOk r P → OnOk r Q
 on_ok (Ok x) goes its = goes its
@@ -105,6 +105,9 @@ asks_none m t before = record { text = []; is = sym (append-nil before); asks = 
 pub asks_some : (m : Chunks) (t to : ℕ) (before after : List ℕ) (sought : Sought) (asks : List Ask) → is_peer m.plan m.node m.lost to ≡ true → AreAsks sought asks → after ≡ before ++ asks_text m.plan m.node to t m.losses asks → AddsAsks m t before after
 asks_some m t to before after sought asks peer are text = record { text = asks_text m.plan m.node to t m.losses asks; is = text; asks = inr (record { to = to; peer = peer; sought = sought; asks = asks; are_asks = are; text = refl }) }
 
+pub asks_of_one : (m : Chunks) (t : ℕ) (before after : List ℕ) → AddsAsks m t before after → AsksOfOne m before after
+asks_of_one m t before after its = (t, its)
+
 ask_back : (a b : Chunks) (t : ℕ) (text : List ℕ) → IsSite a b → MayAskOf b t text → MayAskOf a t text
 ask_back a b t text site asks =
     subst (λ (p : CheckedPlan). MayAsk p a.node a.lost a.losses t text) site.plan
@@ -155,6 +158,11 @@ tick_waits old new t facts told told' same asks = record {
   told = asks.is;
   opened = refl;
 }
+
+-- where some tenant's damaged chunks are asked for
+pub tick_asks : (old mid new : Chunks) (facts told told' : List ℕ) → mid ≡ old → new ≡ mid → AsksOfOne mid told told' →
+    Takes (λ (a : Chunks) (l : List ℕ) (fs : List (List ℕ)) (t' : List ℕ) (b : Chunks). Ticks a fs t' b) old [] facts facts told told' new
+tick_asks old mid new facts told told' first same asks = tick_waits old new asks.0 facts told told' (same ∙ first) (subst (λ (z : Chunks). AddsAsks z asks.0 told told') (sym same) asks.1)
 
 pub tick_ends : (old mid new : Chunks) (t : ℕ) (facts facts' told : List ℕ) → mid ≡ old → AddsFacts mid t End facts facts' new →
     Takes (λ (a : Chunks) (l : List ℕ) (fs : List (List ℕ)) (t' : List ℕ) (b : Chunks). Ticks a fs t' b) old [] facts facts' told told new

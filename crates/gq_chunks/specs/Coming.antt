@@ -9,7 +9,7 @@ use Rattle.gq_depot.specs.declared.request.ChunkRequest.TheVariants.{Keep}
 use Rattle.gq_chunks.specs.declared.came.Came.{Came}
 use Rattle.gq_chunks.specs.declared.came.Came.TheVariants as Line
 use Rattle.gq_chunks.specs.Peers.{is_peer}
-use Rattle.gq_chunks.specs.PeerLines.{Saying, saying_of, saying_by}
+use Rattle.gq_chunks.specs.PeerLines.{Saying, Gives, saying_of, saying_by}
 use Rattle.gq_chunks.specs.Requests.{chunk_request_by}
 
 -- What the tenant at this place asks, none where its words have no form; what a peer says about the tenant at this place; a tick; or nothing.
@@ -67,8 +67,9 @@ IsWithin tenants (Line.Asked t request) = t < tenants
 IsWithin tenants (Line.Said t from line) = t < tenants
 IsWithin tenants _ = ⊤
 
--- whether chunks may be moved before it: a tick, or a content that is to be kept
+-- whether chunks may be moved or mended before it: a tick, a content that is to be kept, or one that a peer gives
 abbrev pub moves_at : Coming → Bool
 moves_at Ticked = true
 moves_at (Asked t (Some (Keep s n bytes))) = true
+moves_at (Said t from (Gives s n bytes)) = true
 moves_at _ = false

@@ -276,6 +276,10 @@ pub record AddsAsks (m : Chunks) (t : ℕ) (before after : List ℕ) : Type 0 wh
   pub is : after ≡ before ++ text
   pub asks : MayAskOf m t text
 
+-- so it is of some tenant
+abbrev pub AsksOfOne : Chunks → (before after : List ℕ) → Type 0
+AsksOfOne m before after = (t : ℕ) × AddsAsks m t before after
+
 -- the facts that are given of it behind the text
 pub record AddsFacts (old : Chunks) (t : ℕ) (filling : Filling) (before after : List ℕ) (new : Chunks) : Type 0 where
   pub lines : List Line

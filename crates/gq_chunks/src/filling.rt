@@ -6,7 +6,7 @@ ghost use Rattle.gq_text.specs.Canonical.{IsPlan};
 ghost use Rattle.gq_keeper.specs.Runs.{Takes};
 ghost use Rattle.gq_depot.specs.Seeking.{Sought, sought_of, AreAsks};
 ghost use Rattle.gq_chunks.specs.PeerLines.{saying_of};
-ghost use Rattle.gq_chunks.specs.Machines.{chunks, may_answer, fact_lines, FactStands, IsShelfRefusal, AnswersPeer, AddsAsks, AddsFacts, FillsDone, GivenAs, Fed, Unfed, Waits, SaidBy, Ticks};
+ghost use Rattle.gq_chunks.specs.Machines.{chunks, may_answer, fact_lines, FactStands, IsShelfRefusal, AnswersPeer, AddsAsks, AsksOfOne, AddsFacts, FillsDone, GivenAs, Fed, Unfed, Waits, SaidBy, Ticks};
 ghost use Rattle.gq_chunks.specs.Search.{IsGiven};
 
 use crate::machine::fault_of;
@@ -69,12 +69,18 @@ impl<S: Shelf + Drop> ChunkMachine<S> {
         }
     }
 
-    // Asks this of the peer whose turn it is, about the tenant.
-    fn put_asks(&self, tenant: u8, asks: &[Ask], told: &mut Vec<u8>) -> Result<(), OutOfMemory>
+    // Asks this of the peer in that row, about the tenant.
+    fn put_asks(
+        &self,
+        tenant: u8,
+        row: usize,
+        asks: &[Ask],
+        told: &mut Vec<u8>,
+    ) -> Result<(), OutOfMemory>
         requires { tenant < length self.now.plan.rows }
         ensures { (sought : Sought) → AreAsks sought asks.now → OnOk result (AddsAsks (chunks self.now.plan self.now.node self.now.lost self.now.depots.losses self.now.depots.depots.items (S.noted self.now.depots.shelf)) tenant told.old.items told.new.items) }
     {
-        let Some(to) = peer_in_row(&self.plan, self.node, &self.lost, self.search.row) else {
+        let Some(to) = peer_in_row(&self.plan, self.node, &self.lost, row) else {
             return Ok(());
         };
         put_ask_lines(
@@ -168,7 +174,7 @@ impl<S: Shelf + Drop> ChunkMachine<S> {
         let asks = self
             .search
             .hear_listing(self.alloc, depot, session, after, is_all, found)?;
-        self.put_asks(tenant, asks.as_slice(), told)
+        self.put_asks(tenant, self.search.row, asks.as_slice(), told)
     }
 
     // What is asked for once the content of the tenant's session and number came, or won't come.
@@ -192,7 +198,7 @@ impl<S: Shelf + Drop> ChunkMachine<S> {
         let asks = self
             .search
             .settle(self.alloc, sessions, session, number, is_spoilt)?;
-        self.put_asks(tenant, asks.as_slice(), told)
+        self.put_asks(tenant, self.search.row, asks.as_slice(), told)
     }
 
     // A peer tells which chunks the session has.
@@ -374,12 +380,11 @@ impl<S: Shelf + Drop> ChunkMachine<S> {
             .tick(self.alloc, self.depots.depots.as_slice(), column)
     }
 
-    // The place of the tenant whose chunks are sought, if there is one.
-    fn sought_tenant(&self) -> Option<u8>
+    // The tenant at this place, if it is one of the plan.
+    fn tenant_at(&self, place: usize) -> Option<u8>
         ensures tenant { IfSome result (λ tenant. tenant < length self.now.plan.rows) }
         ensures there { IfSome result (λ tenant. tenant < length self.now.depots.depots.items) }
     {
-        let place = self.search.tenant;
         if place < self.depots.depots.len() && place < self.plan.tenants() {
             Some(place as u8)
         } else {
@@ -387,20 +392,39 @@ impl<S: Shelf + Drop> ChunkMachine<S> {
         }
     }
 
-    /// At a tick it asks once more for what did not come, or is filled.
+    // Asks the next peer for chunks that are damaged, if some are known.
+    fn ask_for_damaged(&mut self, told: &mut Vec<u8>) -> Result<(), OutOfMemory>
+        ensures same { (chunks self.new.plan self.new.node self.new.lost self.new.depots.losses self.new.depots.depots.items (S.noted self.new.depots.shelf)) ≡ (chunks self.old.plan self.old.node self.old.lost self.old.depots.losses self.old.depots.depots.items (S.noted self.old.depots.shelf)) }
+        ensures asks { OnOk result (AsksOfOne (chunks self.old.plan self.old.node self.old.lost self.old.depots.losses self.old.depots.depots.items (S.noted self.old.depots.shelf)) told.old.items told.new.items) }
+    {
+        let rows = self.plan.grid().rows();
+        let Some(call) = self.mending.tick(self.alloc, rows)? else {
+            return Ok(());
+        };
+        let Some(tenant) = self.tenant_at(call.tenant) else {
+            return Ok(());
+        };
+        self.put_asks(tenant, call.row, call.asks.as_slice(), told)
+    }
+
+    /// At a tick it asks once more for what did not come, or is filled. Where nothing is asked so, it asks for chunks that are damaged.
     pub(crate) fn tick(&mut self, facts: &mut Vec<u8>, told: &mut Vec<u8>) -> Result<(), Fault>
         requires { IsPlan self.old.plan }
         ensures took { OnOk result (Takes (λ old line facts told new. Ticks old facts told new) (chunks self.old.plan self.old.node self.old.lost self.old.depots.losses self.old.depots.depots.items (S.noted self.old.depots.shelf)) [] facts.old.items facts.new.items told.old.items told.new.items (chunks self.new.plan self.new.node self.new.lost self.new.depots.losses self.new.depots.depots.items (S.noted self.new.depots.shelf))) }
         ensures refused { IfErr result (λ fault. IsShelfRefusal fault (S.noted self.old.depots.shelf) (S.noted self.new.depots.shelf)) }
     {
         let Turn { ends, asks } = self.turn()?;
-        let Some(tenant) = self.sought_tenant() else {
+        if asks.is_empty() && !ends {
+            self.ask_for_damaged(told)?;
+            return Ok(());
+        }
+        let Some(tenant) = self.tenant_at(self.search.tenant) else {
             return Ok(());
         };
         if ends {
             return self.fill(tenant, Filling::End, facts);
         }
-        self.put_asks(tenant, asks.as_slice(), told)?;
+        self.put_asks(tenant, self.search.row, asks.as_slice(), told)?;
         Ok(())
     }
 }

@@ -13,12 +13,13 @@ ghost use Rattle.gq_chunks.specs.Coming.{coming, IsWithin};
 ghost use Rattle.gq_chunks.specs.Machines.{chunks, StepsBy, fact_lines, FactStands, depot_reads, IsFaultOf, IsShelfRefusal, Answers, Took, Recalled, IsNewFor};
 
 use crate::came::{Came, read_came};
+use crate::mending::Mending;
 use crate::needed::put_tenants;
 use crate::new_depots::{column_losses, new_depots};
 use crate::ranges::{plan_is_sound, put_sound_fact};
 use crate::search::Search;
 use crate::{ChunkAnswer, ChunkFact, ChunkRequest, put_chunk_answer, read_chunk_fact};
-use gq_depot::{Answered, Cleaner, Depots, Sweep};
+use gq_depot::{Answered, Cleaner, Depots, Scrub, Sweep};
 use gq_desk::Plan;
 use gq_grid::MOST_SERVERS;
 use gq_keeper::{Fault, Lasting, Machine, Unread};
@@ -44,6 +45,21 @@ pub struct ChunkMachine<S: Shelf + Drop> {
     pub(crate) cleaner: Cleaner,
     // how many bytes were to be kept since chunks were moved
     pub(crate) kept: u64,
+    // how far it has come with reading all contents on the shelf
+    pub(crate) scrub: Scrub,
+    // which chunks it knows to be damaged
+    pub(crate) mending: Mending,
+}
+
+/// What is known of damaged contents.
+#[derive(Clone, Copy, PartialEq, Eq)]
+pub struct Damage {
+    /// How many were found since the start.
+    pub found: u64,
+    /// How many of these were mended.
+    pub mended: u64,
+    /// How often all contents on the shelf were read.
+    pub rounds: u64,
 }
 
 /// Why the machine ends where the shelf refuses.
@@ -59,13 +75,14 @@ pub(crate) fn fault_of(fault: ShelfFault) -> Fault
 
 impl<S: Shelf + Drop> ChunkMachine<S> {
     /// That of the node of this number and setup, which read no line yet and has no chunk. A new node lacks chunks of the tenants that had room by the setup that was read of the plan
-    /// with which its journal begins, if one was read.
+    /// with which its journal begins, if one was read. All contents on the shelf are read within so many ticks, again and again, to see whether they can be; of 0 ticks none is.
     pub fn new(
         alloc: Global,
         setup: &Setup,
         first: &Option<Setup>,
         node: u16,
         shelf: S,
+        ticks: u64,
     ) -> Result<ChunkMachine<S>, OutOfMemory>
         ensures is_new { IfOk result (λ m. IsNewFor setup.now first.now node (chunks m.plan m.node m.lost m.depots.losses m.depots.depots.items (S.noted m.depots.shelf))) }
         ensures noted { IfOk result (λ m. S.noted m.depots.shelf ≡ S.noted shelf) }
@@ -86,6 +103,8 @@ impl<S: Shelf + Drop> ChunkMachine<S> {
             search: Search::new(alloc),
             cleaner: Cleaner::new(alloc),
             kept: 0,
+            scrub: Scrub::new(ticks),
+            mending: Mending::new(alloc),
         })
     }
 
@@ -114,6 +133,15 @@ impl<S: Shelf + Drop> ChunkMachine<S> {
         ensures below { IfOk result (λ removed. IfSome removed (λ segment. place_of (segment + 1) 0 ≤ S.end self.now.depots.shelf)) }
     {
         self.depots.sweep(sweep)
+    }
+
+    /// How many damaged contents were found since the start, how many of these were mended by what a peer gave, and how often all contents were read.
+    pub fn damage(&self) -> Damage {
+        Damage {
+            found: self.mending.found,
+            mended: self.mending.mended,
+            rounds: self.scrub.rounds(),
+        }
     }
 
     /// How many contents came, of those that it asked for since it was started.
@@ -146,7 +174,10 @@ impl<S: Shelf + Drop> ChunkMachine<S> {
         ensures refused { IfErr result (λ fault. IsShelfRefusal fault (S.noted self.old.depots.shelf) (S.noted self.new.depots.shelf)) }
     {
         match self.depots.answer(self.alloc, tenant as usize, request) {
-            Ok(answered) => Ok(answered),
+            Ok(answered) => {
+                self.mending.hear(tenant as usize, &answered.answer);
+                Ok(answered)
+            }
             Err(fault) => Err(fault_of(fault)),
         }
     }

@@ -86,8 +86,8 @@ fn no_turn(alloc: Global) -> Turn
     }
 }
 
-// The place after this one, of so many; after the last the first.
-fn next_of(place: usize, many: usize) -> usize {
+/// The place after this one, of so many; after the last the first.
+pub(crate) fn next_of(place: usize, many: usize) -> usize {
     if place < many && many - place > 1 {
         place + 1
     } else {

@@ -1,7 +1,7 @@
 use Rattle.std.proofs.Common.{sym, subst}
 use Rattle.gq_depot.specs.Seeking.{sought_of, AreAsks}
 use Rattle.gq_chunks.specs.Machines.{chunks}
-use Rattle.gq_chunks.proofs.Taken.{on_ok, asks_none, tick_waits, tick_ends}
+use Rattle.gq_chunks.proofs.Taken.{on_ok, asks_none, tick_waits, tick_asks, tick_ends}
 use Rattle.gq_chunks.proofs.machine.ChunkMachine.tick.Goals as goal
 
 pub returns-in_default-clause-took : goal.returns-in_default-clause-took
@@ -24,3 +24,10 @@ returns-clause-took g c =
     let sought = sought_of n.search.seeking in
     tick_waits (chunks m.plan m.node m.lost m.depots.losses m.depots.depots.items (g.S.Shelf.noted m.depots.shelf)) (chunks n.plan n.node n.lost n.depots.losses n.depots.depots.items (g.S.Shelf.noted n.depots.shelf)) c.in-Some.tenant c.args.facts.now.items c.args.told.now.items c.put_asks.new.told.items c.turn.ensures.same
     (c.in_ok-put_asks.ensures sought (subst (AreAsks sought) (sym c.as_slice.ensures.value) c.in_ok-ends.ensures.asks))
+
+pub returns-then-not-ends-clause-took : goal.returns-then-not-ends-clause-took
+returns-then-not-ends-clause-took g c =
+    let m = c.args.self.now in
+    let n = c.turn.new.self in
+    let k = c.ask_for_damaged.new.self in
+    tick_asks (chunks m.plan m.node m.lost m.depots.losses m.depots.depots.items (g.S.Shelf.noted m.depots.shelf)) (chunks n.plan n.node n.lost n.depots.losses n.depots.depots.items (g.S.Shelf.noted n.depots.shelf)) (chunks k.plan k.node k.lost k.depots.losses k.depots.depots.items (g.S.Shelf.noted k.depots.shelf)) c.args.facts.now.items c.args.told.now.items c.ask_for_damaged.new.told.items c.turn.ensures.same c.ask_for_damaged.ensures.same c.in_ok-ask_for_damaged.ensures.asks
