@@ -11,7 +11,7 @@ use crate::registers::new_registers;
 use crate::served::{Maker, Served};
 use crate::shelving::{find_shelf, had_chunks};
 use crate::this_node::ThisNode;
-use gq_chunks::{ChunkMachine, Sweep, is_chunk_fact, taker_of};
+use gq_chunks::{ChunkMachine, Damage, Sweep, is_chunk_fact, longest_of, taker_of};
 use gq_machine::NodeMachine;
 use gq_memory::OutOfMemory;
 use gq_pair::{Pair, Parts, Taker};
@@ -21,6 +21,9 @@ use std::alloc::Global;
 use std::fs::File;
 use std::marker::PhantomData;
 use std::rt::Files;
+
+// So many quarters of a second are a day.
+const QUARTERS_OF_A_DAY: u64 = 345_600;
 
 /// Lines and facts of registers and of chunks are told apart by their verbs.
 #[derive(Drop)]
@@ -78,18 +81,31 @@ impl<S: Shelf + Drop> Served for Pair<NodeMachine, ChunkMachine<S>, ByVerb> {
     fn chunks_lacked(&self) -> (usize, u64) {
         (self.second.lacking(), self.second.contents_came())
     }
+
+    fn damage(&self) -> Damage {
+        self.second.damage()
+    }
 }
 
-// The chunks of the node, never started, over a shelf. `before` was read of the plan with which its journal begins.
+// How many ticks come in so many days. A carrier gives one each quarter of a second, and later where lines are long: so many seconds as the longest has MiB.
+fn ticks_of(days: u32, longest: usize) -> u64 {
+    let quarters = (longest as u64) / (1 << 18) + 1;
+    u64::from(days) * QUARTERS_OF_A_DAY / quarters
+}
+
+// The chunks of the node, never started, over a shelf, of which all contents are read within so many days. `before` was read of the plan with which its journal begins.
 fn new_chunks<S: Shelf + Drop>(
     alloc: Global,
     node: &ThisNode,
     before: &Option<Setup>,
     shelf: S,
+    days: u32,
 ) -> Result<ChunkMachine<S>, OutOfMemory>
     ensures { IfOk result (λ m. IsNewFor node.now.plan.setup before.now node.now.number (chunks_of S.noted m)) }
 {
-    ChunkMachine::new(alloc, node.plan.setup(), before, node.number, shelf)
+    let setup = node.plan.setup();
+    let ticks = ticks_of(days, longest_of(setup));
+    ChunkMachine::new(alloc, setup, before, node.number, shelf, ticks)
 }
 
 /// Makes the machine of a node that keeps chunks as well, on the shelf beside the journal of this path.
@@ -97,12 +113,13 @@ fn new_chunks<S: Shelf + Drop>(
 pub struct WithChunks<'x, R: Files<File = File> + Drop> {
     rt: R,
     path: &'x str,
+    days: u32,
 }
 
 impl<'x, R: Files<File = File> + Drop> WithChunks<'x, R> {
-    /// On the shelf beside the journal of this path. Nothing is opened yet.
-    pub fn new(rt: R, path: &'x str) -> WithChunks<'x, R> {
-        WithChunks { rt, path }
+    /// On the shelf beside the journal of this path, of which all contents are read within so many days; 0: none is. Nothing is opened yet.
+    pub fn new(rt: R, path: &'x str, days: u32) -> WithChunks<'x, R> {
+        WithChunks { rt, path, days }
     }
 }
 
@@ -115,11 +132,11 @@ impl<R: Files<File = File> + Drop> Maker<Pair<NodeMachine, ChunkMachine<FileShel
         journal: &[u8],
         before: &Option<Setup>,
     ) -> Result<Pair<NodeMachine, ChunkMachine<FileShelf<R>>, ByVerb>, NodeFault> {
-        let WithChunks { rt, path } = self;
+        let WithChunks { rt, path, days } = self;
         let registers = new_registers(alloc, node, before)?;
         let had_chunks = had_chunks(alloc, journal)?;
         let shelf = find_shelf(alloc, rt, path, had_chunks)?;
-        let chunks = new_chunks(alloc, node, before, shelf)?;
+        let chunks = new_chunks(alloc, node, before, shelf, days)?;
         Ok(Pair {
             first: registers,
             second: chunks,

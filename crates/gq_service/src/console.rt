@@ -29,6 +29,12 @@ pub trait Console {
     /// The node of this number lacked chunks, and has all now.
     fn has_chunks(&self, number: u16);
 
+    /// The node of this number found so many contents on its shelf damaged since it was started, and so many of them are mended.
+    fn is_damaged(&self, number: u16, found: u64, mended: u64);
+
+    /// The node of this number has read all contents on its shelf once more, to see whether they can be.
+    fn has_read_all(&self, number: u16);
+
     /// To the node of this number the other one told that it speaks all forms of lines between nodes up to this one.
     fn speaks(&self, number: u16, other: u16, form: u32);
 }
@@ -106,6 +112,20 @@ impl<I: AsFd + Drop, O: AsFd + Drop, E: AsFd + Eprint + Drop> Console for Standa
 
     fn has_chunks(&self, number: u16) {
         let _ = eprintln!(self.errors; "gridfs: node {number}: has all chunks");
+    }
+
+    fn is_damaged(&self, number: u16, found: u64, mended: u64) {
+        let journal = self.journal;
+        let _ = eprintln!(self.errors;
+            "gridfs: node {number}: {journal}.shelf: {found} contents were damaged, {mended} of them are mended"
+        );
+    }
+
+    fn has_read_all(&self, number: u16) {
+        let journal = self.journal;
+        let _ = eprintln!(self.errors;
+            "gridfs: node {number}: {journal}.shelf: all contents were read"
+        );
     }
 
     fn speaks(&self, number: u16, other: u16, form: u32) {

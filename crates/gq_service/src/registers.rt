@@ -9,7 +9,7 @@ use crate::fault::NodeFault;
 use crate::new_node::new_node;
 use crate::served::{Maker, Served};
 use crate::this_node::ThisNode;
-use gq_chunks::Sweep;
+use gq_chunks::{Damage, Sweep};
 use gq_machine::NodeMachine;
 use gq_memory::OutOfMemory;
 use gq_setup::Setup;
@@ -35,6 +35,14 @@ impl Served for NodeMachine {
 
     fn chunks_lacked(&self) -> (usize, u64) {
         (0, 0)
+    }
+
+    fn damage(&self) -> Damage {
+        Damage {
+            found: 0,
+            mended: 0,
+            rounds: 0,
+        }
     }
 }
 

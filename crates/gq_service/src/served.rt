@@ -9,7 +9,7 @@ ghost use Rattle.gq_service.specs.Serving.{TellsForm, TellsDamage, TellsNoOther}
 
 use crate::fault::NodeFault;
 use crate::this_node::ThisNode;
-use gq_chunks::Sweep;
+use gq_chunks::{Damage, Sweep};
 use gq_keeper::Lasting;
 use gq_machine::NodeMachine;
 use gq_setup::Setup;
@@ -32,6 +32,9 @@ pub trait Served: Lasting {
 
     /// Of how many tenants it lacks chunks, and how many of their contents came since it was started.
     fn chunks_lacked(&self) -> (usize, u64);
+
+    /// What is known of damaged contents on its shelf since it was started.
+    fn damage(&self) -> Damage;
 }
 
 /// What makes the machine with which a start begins.

@@ -2,7 +2,7 @@
 
 use crate::console::Console;
 use crate::served::Served;
-use gq_chunks::Sweep;
+use gq_chunks::{Damage, Sweep};
 use gq_grid::MOST_SERVERS;
 use gq_keeper::Watch;
 use gq_machine::NodeMachine;
@@ -12,10 +12,14 @@ use std::alloc::Global;
 // Once so many contents more came it is told how many.
 const CONTENTS: u64 = 10_000;
 
+// So many turns are passed over behind one at which damage was told.
+const TURNS_PASSED: u32 = 16;
+
 /// Watches the node of this number. It tells once that the server has all files, where it lacked some. It tells of how many tenants chunks are lacked, where some are: at first, each time
 /// this changes, and each time so many contents came. And each time another node tells that
 /// it speaks another form of lines than it told last, where that is not this program's. It has segments of the shelf removed in which no chunk lies: all facts are synced
-/// each time that it looks. Where that fails it tells it once, until one is removed again.
+/// each time that it looks. Where that fails it tells it once, until one is removed again. It tells of
+/// contents that were found damaged or are mended, and when all were read.
 #[derive(Drop)]
 pub(crate) struct Telling<'x, C: Console> {
     console: &'x C,
@@ -29,6 +33,9 @@ pub(crate) struct Telling<'x, C: Console> {
     sweep: Sweep,
     // whether it was told that a segment can't be removed
     is_told: bool,
+    // what was told of damaged contents, and so many turns are passed over before it is looked at again
+    damage: Damage,
+    passed: u32,
 }
 
 impl<'x, C: Console> Telling<'x, C> {
@@ -53,6 +60,12 @@ impl<'x, C: Console> Telling<'x, C> {
             forms: [None; MOST_SERVERS],
             sweep: Sweep::new(alloc),
             is_told: false,
+            damage: Damage {
+                found: 0,
+                mended: 0,
+                rounds: 0,
+            },
+            passed: 0,
         }
     }
 
@@ -72,6 +85,26 @@ impl<'x, C: Console> Telling<'x, C> {
         } else {
             self.console.has_chunks(self.number);
         }
+    }
+
+    // Looks whether more contents were found damaged or are mended, or all were read once more. It tells that at most once in some turns.
+    fn look_at_damage(&mut self, damage: Damage) {
+        if self.passed > 0 {
+            self.passed -= 1;
+            return;
+        }
+        if damage == self.damage {
+            return;
+        }
+        if damage.found != self.damage.found || damage.mended != self.damage.mended {
+            self.console
+                .is_damaged(self.number, damage.found, damage.mended);
+        }
+        if damage.rounds != self.damage.rounds {
+            self.console.has_read_all(self.number);
+        }
+        self.damage = damage;
+        self.passed = TURNS_PASSED;
     }
 
     // Looks whether the node at the place has told another form.
@@ -113,6 +146,7 @@ impl<C: Console, M: Served> Watch<M> for Telling<'_, C> {
         if self.tenants > 0 {
             self.look_at_chunks(machine.chunks_lacked());
         }
+        self.look_at_damage(machine.damage());
         let machine = machine.registers();
         if self.lacks && !machine.lacks_some() {
             self.lacks = false;

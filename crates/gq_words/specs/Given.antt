@@ -63,7 +63,7 @@ HasRequestValues rows (Picture name volume file) = HasFile rows name.now volume 
 HasRequestValues rows (Finish name session) = (name.now ≡ text_given rows (codes "NAME")) × IsNumberGiven rows (codes "SESSION") 0 session
 HasRequestValues rows Live = Unit {0}
 
--- the number, the two paths and the two flags are those that are given
+-- the number, the two paths, the two flags and the days are those that are given
 abbrev pub HasNodeValues : List Row → NodeRequest → Type 0
 HasNodeValues rows node =
     IsNumberGiven rows (codes "NUMBER") 0 node.number
@@ -71,6 +71,7 @@ HasNodeValues rows node =
     × (node.journal.now ≡ text_given rows (codes "JOURNAL"))
     × IsFlagGiven rows (codes "NEW") node.is_new
     × IsFlagGiven rows (codes "ANEW") node.is_anew
+    × IsNumberGiven rows (codes "SCRUB") 14 node.scrub
 
 -- the path, if there is one
 abbrev pub path_in : Option (Bor Text) → Option Text

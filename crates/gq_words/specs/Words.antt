@@ -53,7 +53,7 @@ live_shape = new_shape (codes "live")
 abbrev pub step_shape : Shape
 step_shape = new_shape (codes "step")
 
--- the subcommand `node`, which takes a number below 2^32 and two files, each of which has to be given, and may be told to begin the journal, or to write it anew
+-- the subcommand `node`, which takes a number below 2^32 and two files, each of which has to be given, and may be told to begin the journal, or to write it anew, and within how many days all contents are read
 abbrev pub file_rule : Text → Text → Rule
 file_rule id long = record (new_rule id) { long = Some long; required = true; action = Some Set; value_names = 1 }
 
@@ -63,9 +63,12 @@ begin_rule = record (new_rule (codes "NEW")) { long = Some (codes "new"); action
 abbrev pub anew_rule : Rule
 anew_rule = record (new_rule (codes "ANEW")) { long = Some (codes "anew"); action = Some SetTrue }
 
+abbrev pub scrub_rule : Rule
+scrub_rule = record (new_rule (codes "SCRUB")) { long = Some (codes "scrub"); action = Some Set; parser = Some (Signed (pos 0) (pos 4294967295)); value_names = 1 }
+
 abbrev pub node_shape : Shape
 node_shape = record (new_shape (codes "node")) {
-  rules = number_rule (codes "NUMBER") ∷ file_rule (codes "PLAN") (codes "plan") ∷ file_rule (codes "JOURNAL") (codes "journal") ∷ begin_rule ∷ anew_rule ∷ [];
+  rules = number_rule (codes "NUMBER") ∷ file_rule (codes "PLAN") (codes "plan") ∷ file_rule (codes "JOURNAL") (codes "journal") ∷ begin_rule ∷ anew_rule ∷ scrub_rule ∷ [];
 }
 
 -- the subcommand `plan`, which takes a file, which has to be given, and may be given another one

@@ -7,12 +7,15 @@ ghost use Rattle.clap.specs.Walk.{first_of, rows_of, rule_of};
 ghost use Rattle.clap.specs.declared.builder.command.Command.TheViews.{out-Command as fields_of};
 ghost use Rattle.clap.specs.Walk.{Text, texts};
 ghost use Rattle.clap.specs.declared.error.kind.ErrorKind.TheVariants.{DisplayHelp, DisplayVersion};
-ghost use Rattle.gq_words.specs.Words.{AsksForLive, IsAlone, IsAskedBy, IsMemory, NamesCommand, ShownFor, Shows, bare_gridfs, anew_rule, begin_rule, command_name, finish_shape, file_rule, file_shape, gridfs, name_rule, node_shape, number_rule, jobs_rule, run_shape, step_shape, next_rule, path_rule, plan_shape};
+ghost use Rattle.gq_words.specs.Words.{AsksForLive, IsAlone, IsAskedBy, IsMemory, NamesCommand, ShownFor, Shows, bare_gridfs, anew_rule, begin_rule, scrub_rule, command_name, finish_shape, file_rule, file_shape, gridfs, name_rule, node_shape, number_rule, jobs_rule, run_shape, step_shape, next_rule, path_rule, plan_shape};
 ghost use Rattle.gq_words.specs.Given.{HasValues, IsFlagGiven, IsNumberGiven, given_by, path_in, rows_behind, text_given};
 
 use clap::error::ErrorKind;
 use clap::{Arg, ArgAction, ArgMatches, Command, Error};
 use std::alloc::{AllocError, Global};
+
+/// Within so many days all contents on the shelf of a node are read, unless it is told otherwise.
+pub const SCRUB_DAYS: u32 = 14;
 
 /// What a command line asks for.
 #[derive(Clone, Copy, PartialEq, Eq)]
@@ -38,6 +41,8 @@ pub struct NodeRequest<'a> {
     pub is_new: bool,
     /// Whether the journal is to be written anew before lines are taken.
     pub is_anew: bool,
+    /// Within so many days all contents on the shelf are to be read, again and again; 0: none is.
+    pub scrub: u32,
 }
 
 /// Which plan a process is asked to tell of.
@@ -243,7 +248,8 @@ The plan is that of `gridfs run`. After `go` it has lines `NAME open FILES BLOCK
 `NAME chunks KIB`, which give room for chunks, `replace PLACE`, one for each node that was lost, `gone NAME`, one for each tenant
 that left, and no others. What must not be forgotten is in the journal, and on disk, before anything that rests on it is written.
 `--new` begins the journal, at the grid's first start or that of a new node. `--anew` has it written anew: what was replaced stands
-in it no more. A node whose journal is lost can't come back: a new one, whose number is greater by 64, takes its place, and others
+in it no more. All contents on the shelf are read once in `--scrub` days, 14 where it is left out, and one that is damaged is asked
+of the other nodes of the column; 0 reads none. A node whose journal is lost can't come back: a new one, whose number is greater by 64, takes its place, and others
 give it the files.
 
     gridfs node 0 --plan plan --journal node0.journal --new < lines
@@ -380,6 +386,21 @@ fn anew<'a>(alloc: Global) -> Arg<'a>
         .help("Write the journal anew before lines are taken: without what was replaced")
 }
 
+// Within how many days all contents on the shelf are read, which may be left out.
+fn scrub<'a>(alloc: Global) -> Arg<'a>
+    ensures rule { rule_of result ≡ scrub_rule }
+    ensures local { result.global ≡ false }
+{
+    Arg::new(alloc, "SCRUB")
+        .long("scrub")
+        .action(ArgAction::Set)
+        .value_parser(clap::value_parser!(u32))
+        .value_name("DAYS")
+        .help(
+            "Read all contents on the shelf once in so many days, and mend those that are damaged; 0 reads none [default: 14]",
+        )
+}
+
 // A subcommand, without words of its own.
 fn subcommand<'a>(alloc: Global, name: &'a str, about: &'a str, help: &'a str) -> Command<'a>
     ensures app { app_of result ≡ new_app name.entry.now }
@@ -460,7 +481,8 @@ fn node<'a>(alloc: Global) -> Result<Command<'a>, AllocError>
     ))?
     .arg(file_option(alloc, "JOURNAL", "journal", "The node's journal"))?
     .arg(begin(alloc))?
-    .arg(anew(alloc))?;
+    .arg(anew(alloc))?
+    .arg(scrub(alloc))?;
     Ok(node)
 }
 
@@ -637,6 +659,7 @@ fn command_of<'a>(matches: &ArgMatches<'a>) -> CommandLine<'a>
             journal: text_of(node, "JOURNAL"),
             is_new: flag_of(node, "NEW"),
             is_anew: flag_of(node, "ANEW"),
+            scrub: number_of(node, "SCRUB", SCRUB_DAYS),
         });
     }
     if let Some(plan) = matches.subcommand_matches("plan") {

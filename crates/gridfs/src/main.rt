@@ -91,7 +91,7 @@ fn serves_on<
     console: &C,
     input: &mut I,
 ) -> ExitCode {
-    let chunks = WithChunks::new(files, asked.journal);
+    let chunks = WithChunks::new(files, asked.journal, asked.scrub);
     let mut out: Stream<_, Durable<FileShelf<S>>> = Stream::new(io::writer(rt));
     match run_node(rt, alloc, asked, console, chunks, input, &mut out) {
         Ok(()) => ExitCode::SUCCESS,
