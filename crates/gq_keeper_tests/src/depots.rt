@@ -19,7 +19,7 @@ fn setup(rt: &impl Abort, alloc: Global) -> Setup {
 fn machine(rt: &impl Abort, alloc: Global, node: u16) -> ChunkMachine<MemoryShelf> {
     let first = Some(setup(rt, alloc));
     let shelf = MemoryShelf::new(alloc);
-    let made = ChunkMachine::new(alloc, &setup(rt, alloc), &first, node, shelf);
+    let made = ChunkMachine::new(alloc, &setup(rt, alloc), &first, node, shelf, 0);
     made.expect(rt, "memory")
 }
 

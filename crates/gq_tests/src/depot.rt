@@ -1,10 +1,12 @@
 //! The chunks of two tenants over a shelf in memory: each call where memory and the shelf refuse nothing, and a start from the facts.
 
 use bytes::Bytes;
-use gq_depot::{Answered, ChunkAnswer, ChunkFact, ChunkRequest, Cleaner, Depot, Depots, Sweep};
+use gq_depot::{
+    Answered, ChunkAnswer, ChunkFact, ChunkRequest, Cleaner, Depot, Depots, Scrub, Spot, Sweep,
+};
 use gq_memory::{GrowBytes, GrowVec, filled};
 use gq_shelf::{Extent, MemoryShelf, Place};
-use gq_stock::{CHUNK_CHARGE, Found, Keeping, MOST_FRESH, Run};
+use gq_stock::{CHUNK_CHARGE, Found, Keeping, MOST_FRESH, Run, Source};
 use std::alloc::Global;
 use std::process::Abort;
 use std::test::Fail;
@@ -259,7 +261,7 @@ fn moves(rt: &impl Abort, alloc: Global, depots: &mut Depots<MemoryShelf>) {
     assert!(rt; !depots.depots.is_empty());
     assert!(rt;
         matches!(
-            depots.shelve(0, 1, 7),
+            depots.shelve(0, 1, 7, &Source::Shelf),
             Ok(Some(ChunkFact::Put {
                 session: 1,
                 number: 7,
@@ -287,6 +289,32 @@ fn moves(rt: &impl Abort, alloc: Global, depots: &mut Depots<MemoryShelf>) {
     );
 }
 
+// All contents on the shelf are read, and then they are read anew.
+fn reads_all(rt: &impl Abort, depots: &mut Depots<MemoryShelf>) {
+    assert!(rt; !depots.depots.is_empty());
+    assert!(rt; matches!(depots.check(0, 1, 7), Ok(false)));
+    assert!(rt; !depots.depots.is_empty());
+    assert!(rt; matches!(depots.check(0, 9, 7), Ok(false)));
+    let mut scrub = Scrub::new(1);
+    depots.begin_scrub(&mut scrub);
+    assert!(rt;
+        matches!(
+            depots.next_to_read(&mut scrub),
+            Some(Spot {
+                tenant: 0,
+                session: 1,
+                number: 7,
+                bytes: 5
+            })
+        )
+    );
+    assert!(rt; depots.next_to_read(&mut scrub).is_none());
+    assert!(rt; scrub.rounds() == 1);
+    let mut never = Scrub::new(0);
+    depots.begin_scrub(&mut never);
+    assert!(rt; depots.next_to_read(&mut never).is_none());
+}
+
 // A chunk that is moved is told as before, and its fact says where it lies.
 #[test]
 fn a_moved_chunk_is_told_as_before(rt: HostRuntime) -> Result<(), Fail> {
@@ -295,11 +323,12 @@ fn a_moved_chunk_is_told_as_before(rt: HostRuntime) -> Result<(), Fail> {
     let request = keep(&rt, alloc, 7, "moved");
     let _told = answered(&rt, alloc, &mut depots, 0, request);
     assert!(&rt; !depots.depots.is_empty());
-    assert!(&rt; matches!(depots.shelve(0, 1, 8), Ok(None)));
+    assert!(&rt; matches!(depots.shelve(0, 1, 8, &Source::Shelf), Ok(None)));
     assert!(&rt; !depots.depots.is_empty());
-    assert!(&rt; matches!(depots.shelve(0, 9, 7), Ok(None)));
+    assert!(&rt; matches!(depots.shelve(0, 9, 7, &Source::Shelf), Ok(None)));
     moves(&rt, alloc, &mut depots);
     moves(&rt, alloc, &mut depots);
+    reads_all(&rt, &mut depots);
     // a shelf in memory has one segment, which is the last: nothing is to be moved
     let mut cleaner = Cleaner::new(alloc);
     for _ in 0..9 {

@@ -5,7 +5,7 @@ use gq_memory::{GrowBytes, filled};
 use gq_quote::{put_quoted, read_quoted};
 use gq_shelf::{Extent, MemoryShelf, Place, Shelf};
 use gq_stock::{
-    CHUNK_CHARGE, Chunk, Found, Keeping, MOST_FRESH, MOST_FRESH_BYTES, Run, Session, Stock,
+    CHUNK_CHARGE, Chunk, Found, Keeping, MOST_FRESH, MOST_FRESH_BYTES, Run, Session, Source, Stock,
 };
 use std::alloc::Global;
 use std::process::Abort;
@@ -114,8 +114,8 @@ fn keeps_contents<S: Shelf>(rt: &impl Abort, alloc: Global, stock: &mut Stock, s
 
 // Contents go to the shelf, are given by a peer, and are forgotten.
 fn moves_contents<S: Shelf>(rt: &impl Abort, alloc: Global, session: &mut Session, shelf: &mut S) {
-    assert!(rt; matches!(session.shelve(shelf, 1), Ok(true)));
-    assert!(rt; matches!(session.shelve(shelf, 9), Ok(false)));
+    assert!(rt; matches!(session.shelve(shelf, 1, &Source::Shelf), Ok(true)));
+    assert!(rt; matches!(session.shelve(shelf, 9, &Source::Shelf), Ok(false)));
     assert!(rt;
         matches!(
             session.get(1),
@@ -157,6 +157,48 @@ fn moves_contents<S: Shelf>(rt: &impl Abort, alloc: Global, session: &mut Sessio
     assert!(rt; matches!(session.after(1), Some((6, _))) && session.after(6).is_none());
 }
 
+// Where "other" lies on a shelf that is lost.
+fn lost_extent(rt: &impl Abort, alloc: Global) -> Extent {
+    let mut shelf = MemoryShelf::new(alloc);
+    match Place::put(&mut shelf, b"other") {
+        Ok(Place::Shelved(extent)) => Extent {
+            segment: 9,
+            at: extent.at,
+            len: extent.len,
+            sum: extent.sum,
+        },
+        _ => panic!(rt; "not put"),
+    }
+}
+
+// A damaged chunk is mended by the bytes that were put there, and by no others; one that can be read stays where it lies.
+fn mends_a_chunk<S: Shelf>(rt: &impl Abort, alloc: Global, session: &mut Session, shelf: &mut S) {
+    assert!(rt; matches!(session.check(shelf, 8), Ok(true)));
+    assert!(rt; matches!(session.check(shelf, 9), Ok(false)));
+    assert!(rt; matches!(session.shelve(shelf, 8, &Source::Shelf), Ok(false)));
+    let others = Source::Peer(content(rt, alloc, "later"));
+    assert!(rt; matches!(session.shelve(shelf, 8, &others), Ok(false)));
+    assert!(rt; is_damaged(session, shelf, 8));
+    let same = Source::Peer(content(rt, alloc, "other"));
+    assert!(rt; matches!(session.shelve(shelf, 8, &same), Ok(true)));
+    assert!(rt; is_found(session, shelf, 8, "other"));
+    assert!(rt; matches!(session.check(shelf, 8), Ok(false)));
+    assert!(rt; matches!(session.shelve(shelf, 8, &same), Ok(false)));
+}
+
+#[test]
+fn a_damaged_chunk_is_mended(rt: HostRuntime) {
+    let alloc = rt.alloc();
+    let mut shelf = MemoryShelf::new(alloc);
+    let mut session = Session::new(alloc);
+    let lost = Chunk {
+        place: Place::Shelved(lost_extent(&rt, alloc)),
+        is_sure: true,
+    };
+    assert!(&rt; matches!(session.put(8, lost), Ok(true)));
+    mends_a_chunk(&rt, alloc, &mut session, &mut shelf);
+}
+
 #[test]
 fn chunks_are_kept_moved_and_forgotten(rt: HostRuntime) -> Result<(), Fail> {
     let alloc = rt.alloc();
@@ -165,8 +207,8 @@ fn chunks_are_kept_moved_and_forgotten(rt: HostRuntime) -> Result<(), Fail> {
     keeps_contents(&rt, alloc, &mut stock, &mut shelf);
     assert!(rt; stock.sessions.len() == 1);
     let used = stock.used();
-    assert!(rt; matches!(stock.shelve(&mut shelf, 0, 2), Ok(true)));
-    assert!(rt; matches!(stock.shelve(&mut shelf, 0, 9), Ok(false)));
+    assert!(rt; matches!(stock.shelve(&mut shelf, 0, 2, &Source::Shelf), Ok(true)));
+    assert!(rt; matches!(stock.shelve(&mut shelf, 0, 9, &Source::Shelf), Ok(false)));
     assert!(rt; stock.used() == used && stock.sessions.len() == 1);
     moves_contents(&rt, alloc, &mut stock.sessions[0], &mut shelf);
     keeps(
