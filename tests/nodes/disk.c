@@ -10,6 +10,8 @@
 
    With FULL=FILE, and while FILE is there, each write to a segment does half and the rest finds no space.
 
+   With UNREAD=FILE, and while FILE is there, each read of a segment fails, as of a disk that has lost what is there.
+
    With NAMES=1 a sync of a folder leaves a file NAME.named beside each of its files that has no dot in its name.
 
    A segment that is removed is kept, with .gone behind, until its folder is synced.
@@ -117,6 +119,16 @@ static int has_no_space(int file) {
     if (!full || access(full, F_OK) || !is_file(file, S_IFREG)) return 0;
     name_of(file, path);
     return is_segment(path);
+}
+
+ssize_t pread(int file, void *bytes, size_t size, off_t at) {
+    char path[PATH_MAX];
+    const char *unread = getenv("UNREAD");
+    if (unread && !access(unread, F_OK) && is_file(file, S_IFREG)) {
+        name_of(file, path);
+        if (is_segment(path)) return refuse(EIO);
+    }
+    return syscall(SYS_pread64, file, bytes, size, at);
 }
 
 ssize_t write(int file, const void *bytes, size_t size) {
