@@ -173,7 +173,11 @@ def bounds(grid):
         found = host.does("systemctl", "show", "--value", "-p", "MemoryMax", grid.unit(place)).strip()
         check(found == str(wanted), f"{host.name}: MemoryMax={found}, where the plan wants {wanted}")
     host.does("gridfs-machine", "--memory", "256M", str(grid.nodes[place]), FOLDER)
+    scrubs = lambda days: check(f" --scrub {days}" in host.does("ps", "-C", "gridfs", "-o", "args="), f"{host.name}: its shelf is not read in {days} days")
+    scrubs(14)
+    host.write(f"/etc/gridfs/{grid.nodes[place]}.node", "SCRUB=7\n")
     grid.restarts(place)
+    scrubs(7)
     found = host.does("systemctl", "show", "--value", "-p", "MemoryMax", grid.unit(place)).strip()
     check(found == str(256 << 20), f"{host.name}: MemoryMax={found}, where 256M is asked for")
 
@@ -204,9 +208,11 @@ def metrics(grid):
         named = set(re.findall(r"expr:.*?\b(gridfs_\w+)", file.read()))
 
     def unknown():
-        files = [grid.machines[0].does("cat", "/run/gridfs/0.prom"), grid.desk.does("/usr/bin/python3", "-c", OF_GATEWAY)]
+        files = [grid.machines[0].does("cat", "/run/gridfs/0.prom", "/run/gridfs/0-shelf.prom"), grid.desk.does("/usr/bin/python3", "-c", OF_GATEWAY)]
         return (metrics_shown() | named - ELSEWHERE) - set(re.findall(r"^# TYPE (\S+) ", "\n".join(files), re.MULTILINE))
 
+    grid.machines[0].does("systemctl", "enable", "--now", "gridfs-shelf@0.timer")
+    grid.machines[0].waits_for(lambda: grid.machines[0].run("test", "-s", "/run/gridfs/0-shelf.prom").returncode == 0, "nobody tells of its shelf", READY)
     until = time.monotonic() + GREETED
     while unknown() and time.monotonic() < until:
         time.sleep(1)

@@ -224,6 +224,9 @@ class Cases(unittest.TestCase):
             text = file.read()
         self.assertIn('gridfs_shelf_named_bytes{node="66"} 90\n', text)
         self.assertIn('gridfs_shelf_lacking_tenants{node="66"} 1\n', text)
+        self.assertEqual(self.command("shelf", "--grid", "east", "--metrics", metrics, path), (0, "", ""))
+        with open(metrics) as file:
+            self.assertIn('gridfs_shelf_dead_bytes{grid="east",node="66"} 267\n', file.read())
 
 
 if __name__ == "__main__":

@@ -67,6 +67,7 @@ def parser() -> argparse.ArgumentParser:
     sub = words.add_parser("shelf", help="what nodes have of chunks, and what is dead or lacked", description="What each node has of chunks: what its journal names, what lies in the folder beside it, and of how many tenants it lacks some.")
     sub.add_argument("--json", action="store_true", help="the answer as JSON, one value")
     sub.add_argument("--metrics", metavar="FILE", help="write metrics for Prometheus' textfile collector in place of telling")
+    sub.add_argument("--grid", metavar="GRID", default="", help="the grid, a label of the metrics where a machine has nodes of several")
     sub.add_argument("journals", nargs="+", metavar="JOURNAL")
     sub.set_defaults(call=shelf)
     sub = words.add_parser("pages", help="what `room` wants of a journal, to standard output", description="Writes what `room` wants of a journal to standard output: some MB at most, which are read as a journal.")
@@ -136,7 +137,7 @@ def write_whole(path: str, text: str) -> None:
 def shelf(args: argparse.Namespace) -> None:
     found = [shelf_of(path) for path in args.journals]
     if args.metrics:
-        write_whole(args.metrics, "".join(shelf_metrics(found)))
+        write_whole(args.metrics, "".join(shelf_metrics(found, args.grid)))
     elif args.json:
         out(json_of([{"node": it.node, "lacking": it.lacking} | it.value() for it in found]).encode() + b"\n")
     else:
@@ -149,11 +150,12 @@ def shelf(args: argparse.Namespace) -> None:
             out_lines(lines)
 
 
-def shelf_metrics(found: Sequence[Shelf]) -> Iterator[str]:
+def shelf_metrics(found: Sequence[Shelf], grid: str) -> Iterator[str]:
+    of_grid = f'grid="{grid}",' if grid else ""
     for name, meaning in SHELF_METRICS.items():
         yield f"# HELP gridfs_shelf_{name} {meaning}\n# TYPE gridfs_shelf_{name} gauge\n"
         for it in found:
-            yield f'gridfs_shelf_{name}{{node="{it.node}"}} {it.value()[name]}\n'
+            yield f'gridfs_shelf_{name}{{{of_grid}node="{it.node}"}} {it.value()[name]}\n'
 
 
 def pages(args: argparse.Namespace) -> None:
