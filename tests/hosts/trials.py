@@ -212,7 +212,7 @@ def metrics(grid):
         return (metrics_shown() | named - ELSEWHERE) - set(re.findall(r"^# TYPE (\S+) ", "\n".join(files), re.MULTILINE))
 
     grid.machines[0].does("systemctl", "enable", "--now", "gridfs-shelf@0.timer")
-    grid.machines[0].waits_for(lambda: grid.machines[0].run("test", "-s", "/run/gridfs/0-shelf.prom").returncode == 0, "nobody tells of its shelf", READY)
+    grid.machines[0].waits_for(lambda: grid.machines[0].run("test", "-s", "/run/gridfs/0-shelf.prom").returncode == 0, "nobody tells of its shelf", GREETED)
     until = time.monotonic() + GREETED
     while unknown() and time.monotonic() < until:
         time.sleep(1)
