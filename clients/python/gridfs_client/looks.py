@@ -23,7 +23,7 @@ LACKS = "-"  # what a node tells of a file that it has not got yet
 PATIENCE = 0.5  # seconds for which the answers of a row and a column are waited for
 SHORT = 0.1  # seconds that others get besides as many as these took
 MOST_WORDS = 8_192  # of files, whose meaning is remembered
-MOST_TOLD = 1_024  # volumes that all nodes of each column told alike, of which the files are remembered
+MOST_TOLD = 1_024  # volumes of which is remembered what all nodes of a column told alike
 TAG = attrgetter("tag")
 AGAIN = 1.0  # seconds after which a node that did not tell which lines it knows is asked again
 
@@ -151,20 +151,20 @@ class Look:
             self.losses, self.told = told.losses, {}
         if told.words:
             self.told.setdefault(nodes.index(told.node), told)
-        if len(self.told) == len(nodes):
-            self.settle_all()
-        elif self.can_settle([each.node for each in self.told.values()]):
+        if self.can_settle([each.node for each in self.told.values()]):
             if self.until == float("inf"):
                 self.until = 2 * self.carrier.now() - begun + SHORT
-            self.settle_some()
+            self.settle_alike()
+            self.settle_each() if len(self.told) == self.shape.nodes else self.settle_some()
 
-    def settle_all(self) -> None:
-        """All nodes have told. (Mostly those of a column tell the same: no write is under way.)"""
-        columns = [[self.told[place].words for place in column] for column in lines_of(self.shape)[0]]
+    def settle_alike(self) -> None:
+        """Settles all files at once where the nodes of each column tell the same, as they mostly do while no write is under way; or all that told."""
+        columns = [[self.told[place].words for place in column if place in self.told] for column in lines_of(self.shape)[0]]
+        if len(self.told) < self.shape.nodes:
+            columns = [[words for column in columns for words in column]]
         if all(words == told[0] for told in columns for words in told):
             rows = settled_alike(tuple(told[0] for told in columns))
             self.rows, self.left = list(rows), {file for file in self.left if rows[file] is None}
-        self.settle_each()
 
     def settle_some(self) -> None:
         """Where others are waited for, no file behind one that is not settled is looked at: it is not over as long as one is left."""

@@ -30,6 +30,7 @@ HELPERS = 3
 LONGEST_PUT = 5 << 30
 ATTRIBUTES = {"Checksum", "ETag", "ObjectParts", "ObjectSize", "StorageClass"}
 DIRECTIVE = "x-amz-metadata-directive"  # whose metadata an object gets: its source's (COPY), or those of this request (REPLACE)
+BREAKS = re.compile(r"[\r\n\x00]")
 KEPT_HEADERS = ("cache-control", "content-disposition", "content-encoding", "content-language", "expires")
 
 
@@ -93,7 +94,9 @@ def headers_of(found: Object, asked: Asked) -> dict[str, str]:
     for name in (*KEPT_HEADERS, "content-type"):
         if "response-" + name in asked.query:
             told[name.title()] = asked.query["response-" + name]
-    return {name: value for name, value in told.items() if not re.search(r"[\r\n\x00]", name + value)}
+    if not BREAKS.search("".join((*told, *told.values()))):
+        return told
+    return {name: value for name, value in told.items() if not BREAKS.search(name + value)}
 
 
 def begun(asked: Asked, place: Place, found: Object, part: tuple[int, int] | None) -> web.StreamResponse:
