@@ -163,8 +163,10 @@ class Look:
         if len(self.told) < self.shape.nodes:
             columns = [[words for column in columns for words in column]]
         if all(words == told[0] for told in columns for words in told):
-            rows = settled_alike(tuple(told[0] for told in columns))
-            self.rows, self.left = list(rows), {file for file in self.left if rows[file] is None}
+            for file, row in enumerate(settled_alike(tuple(told[0] for told in columns))):
+                if row and file in self.left:
+                    self.rows[file] = row
+                    self.left.discard(file)
 
     def settle_some(self) -> None:
         """Where others are waited for, no file behind one that is not settled is looked at: it is not over as long as one is left."""
@@ -185,7 +187,7 @@ class Look:
 def run(looks: Sequence[Look], rate: float) -> None:
     """Has these looks answered, all by one connection at the same time, as far as they are in time."""
     carrier, begun = looks[0].carrier, looks[0].carrier.now()
-    box, by_number = carrier.attach_looks([look.number for look in looks]), {look.number: look for look in looks}
+    box = carrier.attach_looks([look.number for look in looks])
     try:
         uplink = uplink_of(carrier)
         length = ask(looks) / rate
@@ -196,14 +198,14 @@ def run(looks: Sequence[Look], rate: float) -> None:
             told: Answer | None = None
             if left > 0:
                 told = carrier.receive(box, left)
-            if isinstance(told, LookTold) and (look := by_number.get(told.number)):
+            if isinstance(told, LookTold) and (look := under_way.get(told.number)):
                 look.take(told, begun)
                 uplink.has_left(carrier.now(), sent.end)
                 if look.has_ended():
-                    under_way.pop(look.number, None)
-            elif left > 0:
+                    del under_way[look.number]
+            elif told is None and left > 0:
                 ask(list(under_way.values()))
-            else:
+            elif left <= 0:
                 now = carrier.now()
                 for look in [look for look in under_way.values() if sent.left() <= 0 or look.until <= now]:
                     look.is_late()
