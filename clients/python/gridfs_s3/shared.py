@@ -21,7 +21,7 @@ from .index import Index
 
 AHEAD = 3_600_000  # milliseconds by which a time may be ahead of the clock
 MOST_SEARCHED = 512  # pages that one put looks at for room
-MOST_AT_HAND = 4_096  # names of which it is remembered what they hold
+MOST_AT_HAND = 2_048  # names of which it is remembered what they hold
 LATEST = 9_999_999_999_999  # which a line has room for
 
 
