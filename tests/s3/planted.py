@@ -68,7 +68,7 @@ BUGS = {
     "a session that was lent goes on with its last number": ("test_going_on.py HowFar", "store.py", "        self.session.forget()\n        with suppress(ClientError):\n            self.session.start()\n", "        with suppress(ClientError):\n"),
     "a gateway has no share in a move": ("over_grids.py apart", "gateway.py", "            await self.share_in_moves()\n", ""),
     "no session is lent": ("test_operations.py Lent", "sessions.py", "self.settings.is_wanted(number):\n                        self.lends", "False:\n                        self.lends"),
-    "a bucket is looked for by another name's grid": ("over_grids.py silent", "gateway.py", "self.held(BUCKETS + bucket)", "self.held(bucket)"),
+    "a bucket is looked for by another name's grid": ("over_grids.py silent", "gateway.py", "self.held(BUCKETS + bucket)", "self.look(bucket, lambda store: store.look(BUCKETS + bucket))"),
     "a copy onto itself minds no grid": ("over_grids.py once", "store.py", "        if seen.version.grid != self.grid:\n            return None\n", ""),
     "who asks for much is served before others": ("test_forms.py Sessions.test_who_has_fewest_is_next", "sessions.py", "has[wanted.who] if wanted.number is None else 0", "0"),
     "all copies that are asked for are held": ("test_slow.py Slow.test_copies", "copying.py", "        async with self.objects.small:\n", "        if True:\n"),
