@@ -355,9 +355,16 @@ def counts_lacking(word):
     return Row(0, NOBODY) if word == looks.LACKS else ROW_IN(word)
 
 
-def of_any_node(look, told):
+def of_any_node(look, told, begun):
     """A node is taken for the one that stands at its place."""
-    TAKE(look, dataclasses.replace(told, losses=0, node=look.nodes()[told.node % PLACES]))
+    TAKE(look, dataclasses.replace(told, losses=0, node=look.nodes()[told.node % PLACES]), begun)
+
+
+def by_the_first(look):
+    """The first node of each column stands for all of them."""
+    columns = looks.lines_of(look.shape)[0]
+    look.rows = list(looks.settled_alike(tuple(look.told[min(column & look.told.keys())].words for column in columns)))
+    look.left = {file for file, row in enumerate(look.rows) if row is None}
 
 
 ROW_IN, TAKE = looks.row_in, looks.Look.take
@@ -367,6 +374,7 @@ BUGS = {
     "a column alone": (looks, "settled", column_alone),
     "a node that lacks the file counts": (looks, "row_in", counts_lacking),
     "answers by different plans": (looks.Look, "take", of_any_node),
+    "one node for its column": (looks.Look, "settle_alike", by_the_first),
     "answers to an older look": (looks.Look, "draw", staticmethod(lambda: 7)),
 }
 # Each with the seed of a history that shows it; None where one way does, which is rare.
@@ -376,6 +384,7 @@ FOUND = {
     "a column alone": 1,
     "a node that lacks the file counts": 23,
     "answers by different plans": None,
+    "one node for its column": 6,
     "answers to an older look": 6,
 }
 
@@ -426,8 +435,12 @@ def lost_amid():
 def is_found(bug, seed, kind=MIXED):
     """Whether a history shows a bug, and none of them is wrong without it."""
     what, name, wrong = BUGS[bug]
-    with mock.patch.object(what, name, wrong):
-        return not lost_amid() if seed is None else bool(tried(seed, kind).wrong())
+    looks.settled_alike.cache_clear()
+    try:
+        with mock.patch.object(what, name, wrong):
+            return not lost_amid() if seed is None else bool(tried(seed, kind).wrong())
+    finally:
+        looks.settled_alike.cache_clear()
 
 
 def main(first, count, kind, bug):

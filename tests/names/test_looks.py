@@ -273,10 +273,23 @@ class Looks(unittest.TestCase):
     def test_lost_amid(self):
         self.assertTrue(looking.lost_amid())
 
+    def test_several_volumes_at_once(self):
+        """Each is looked at as if it were alone: one of which a write is under way keeps no other one waiting, and a volume that is not there has no look."""
+        self.nodes.store((0, 1), Tag(5, 2), "6162")
+        self.nodes.store((1, 2), Tag(7, 1), "61", [1])
+        self.nodes.silent.add(2)
+        found = looks.looked_at(self.carrier, {0: [1], 1: None, 2: [3], 7: None}, 1e6)
+        self.assertEqual({volume: look.left for volume, look in found.items()}, {0: {1}, 1: {2}, 2: set()})
+        self.nodes.silent.clear()
+        found = looks.looked_at(self.carrier, {0: [1], 1: None, 2: [3]}, 1e6)
+        self.assertEqual({volume: look.left for volume, look in found.items()}, {0: set(), 1: set(), 2: set()})
+        self.assertEqual((found[0].rows[1], found[1].rows[2]), (Row(2, Tag(5, 2)), Row(0, Tag(0, 0))))  # (by the row that the write did not reach)
+        self.assertEqual(self.carrier.looks, {})
+
     def test_sessions_side_by_side(self):
         """Each look has its own answers, though all come over one connection."""
-        one = looks.Look(self.carrier, SQUARE, 0, FILES, range(FILES), 1e6)
-        box = self.carrier.attach_look(one.number)
+        one = looks.Look(self.carrier, SQUARE, 0, FILES, range(FILES))
+        box = self.carrier.attach_looks([one.number])
         self.assertEqual((self.look().left, self.carrier.boxes[box].empty()), (set(), True))
 
 

@@ -15,11 +15,12 @@ import time
 import types
 import unittest
 from unittest import mock
+from urllib.parse import quote
 
 sys.path.insert(0, os.path.dirname(os.path.abspath(__file__)))
 from code_of_s3 import TOP
 
-from botocore.auth import S3SigV4Auth
+from botocore.auth import S3SigV4Auth, S3SigV4QueryAuth
 from botocore.awsrequest import AWSRequest
 from botocore.credentials import Credentials
 from gridfs_client.answers import Tag
@@ -144,6 +145,30 @@ class Signing(Case):
         self.fails("SignatureDoesNotMatch", self.check, self.signed(), "x=1&y=%2F&z=")
         self.fails("AccessDenied", self.check, [("host", "host")])
         self.fails("AccessDenied", self.check, [*self.signed(), ("x-amz-meta-a", "b")])
+
+    def test_as_botocore_signs(self):
+        """Random requests that botocore has signed are right, by header and by URL, and are not once anything of them is another."""
+        letters, now = "aZ09-_.~ %+&=;/?:@é日\t", time.time()
+        for seed in range(200):
+            draw = random.Random(seed)
+            word = lambda most=8: "".join(draw.choices(letters, k=draw.randrange(1, most)))
+            path = "/bucket/" + quote(word(), safe="/-_.~")
+            pairs = [(word(), draw.choice(("", word()))) for _ in range(draw.randrange(4))]
+            pairs += [(name, word()) for name, _ in pairs[:1]]
+            query = "&".join(f"{quote(name, safe='')}={quote(value, safe='')}" for name, value in pairs)
+            request = AWSRequest(draw.choice(("GET", "PUT")), f"http://host{path}" + f"?{query}" * bool(query), {"host": "host"})
+            for name in draw.sample(("x-amz-meta-a", "content-type", "x-amz-meta-b"), draw.randrange(4)):
+                for _ in range(draw.randrange(1, 3)):
+                    request.headers[name] = word(12).replace("\t", "  ")
+            in_url = draw.random() < 0.3
+            (S3SigV4QueryAuth if in_url else S3SigV4Auth)(Credentials("ann", "secret"), "s3", draw.choice(("us-east-1", "eu-west-3"))).add_auth(request)
+            headers = [(name.lower(), value) for name, value in request.headers.items()]
+            asked = [request.method, path, request.url.partition("?")[2], headers]
+            self.assertEqual(signing.check(*asked, self.keys, now).key.access, "ann", seed)
+            other = draw.randrange(4)
+            changed = [*asked]
+            changed[other] = ("HEAD", path + "x", asked[2] + "&x=1", [(name, value + "x" * (name == "host")) for name, value in headers])[other]
+            self.fails("SignatureDoesNotMatch", signing.check, *changed, self.keys, now)
 
     def test_times(self):
         now = 1_900_000_000
@@ -479,7 +504,7 @@ class Room(Case):
         gateway, under_way = types.SimpleNamespace(in_memory=0, tenant="carol"), list[int]()
 
         async def answer(end, is_in_file):
-            get = Get(gateway, types.SimpleNamespace(), types.SimpleNamespace(name="bucket/key"))
+            get = Get(gateway, types.SimpleNamespace(), types.SimpleNamespace(name="bucket/key", is_latest=True))
 
             async def look(*_):
                 under_way.append(get.most_in_memory)

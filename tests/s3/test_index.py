@@ -1,4 +1,5 @@
-"""The index of a gateway: what it tells of random pages, as they come and go; where it is right with nobody asked; and what a later process takes from it."""
+"""The index of a gateway: what it tells of random pages, as they come and go; where it is right with nobody asked; what a later process takes from it; and looks
+for all who want one."""
 
 import asyncio
 import contextlib
@@ -8,8 +9,10 @@ import random
 import sqlite3
 import sys
 import tempfile
+import threading
 import types
 import unittest
+from unittest import mock
 
 sys.path.insert(0, os.path.dirname(os.path.abspath(__file__)))
 import code_of_s3  # noqa: F401  (which says where the code is)
@@ -17,8 +20,9 @@ import code_of_s3  # noqa: F401  (which says where the code is)
 from gridfs_client.answers import Tag
 from gridfs_client.contents import Inline, digest_of
 from gridfs_client.core import Copied, Known, Line, Page, Signpost
-from gridfs_client.errors import Unanswered
+from gridfs_client.errors import CarrierFault, Unanswered
 from gridfs_client.pages import text_of
+from gridfs_s3 import looker
 from gridfs_s3.grids import Grids
 from gridfs_s3.index import Few, Index, Union, line_in
 from gridfs_s3.listing import Cut, latest_of
@@ -333,6 +337,95 @@ class Looks(unittest.TestCase):
         faults = [Unanswered("silent")] * 3
         with self.assertRaises(Unanswered):
             asyncio.run(pool_of([set()], [look]).look_at_all())
+
+
+class Together(unittest.TestCase):
+    """Looks for all who want one: what is told was seen once it was asked for."""
+
+    def setUp(self):
+        self.values, self.looks = {0: 0, 1: 0}, []
+        self.begun, self.may_end = threading.Semaphore(0), threading.Semaphore(0)
+
+        def looked_at(_, files, __):
+            self.looks.append({volume: set(some) for volume, some in files.items()})
+            seen = dict(self.values)
+            self.begun.release()
+            self.may_end.acquire(timeout=20)
+            return {volume: types.SimpleNamespace(rows=[seen[volume]], left=set(), files=1) for volume in files}
+
+        self.enterContext(mock.patch.object(looker, "looked_at", looked_at))
+
+    async def begins(self):
+        await asyncio.get_running_loop().run_in_executor(None, self.begun.acquire)
+
+    def looker(self):
+        found = looker.Looker(asyncio.get_running_loop(), lambda: True, lambda: 1e6)
+        self.addCleanup(found.close)
+        return found
+
+    def test_who_comes_while_others_look(self):
+        """A look that had begun does not do; one for all who wait does, whichever volumes these want."""
+
+        async def work():
+            one = self.looker()
+            first = one.rows(0, [1])
+            await self.begins()
+            self.values.update({0: 5, 1: 6})
+            others = [one.rows(0, [2]), one.rows(1, [3]), one.rows(0, [4])]
+            self.may_end.release(2)
+            self.assertEqual([await each for each in (first, *others)], [(0,), (5,), (6,), (5,)])
+            self.assertEqual(self.looks, [{0: {1}}, {0: {2, 4}, 1: {3}}])
+
+        asyncio.run(work())
+
+    def test_threads(self):
+        """One that is alone looks by itself; those that come meanwhile do not take what it sees."""
+
+        async def work():
+            one, loop = self.looker(), asyncio.get_running_loop()
+            first = loop.run_in_executor(None, one.rows_at_once, 0, [1])
+            await self.begins()
+            self.values[0] = 5
+            others = [loop.run_in_executor(None, one.rows_at_once, 0, [each]) for each in (2, 3)]
+            await self.begins()
+            self.values[0] = 7
+            self.may_end.release(9)
+            self.assertEqual((await first, {await each for each in others} - {(5,), (7,)}), ((0,), set()))
+
+        asyncio.run(work())
+
+    def test_random(self):
+        """Each is told a value that was there after it had asked."""
+
+        async def work():
+            one, told = self.looker(), []
+            self.may_end.release(10_000)
+
+            async def ask(volume):
+                for _ in range(20):
+                    wanted, self.values[volume] = self.values[volume], self.values[volume] + 1
+                    (seen,) = await one.rows(volume, [0])
+                    told.append(seen)
+                    self.assertGreater(seen, wanted)
+
+            await asyncio.gather(*(ask(each % 2) for each in range(12)))
+            self.assertLess(len(self.looks), len(told))
+
+        asyncio.run(work())
+
+    def test_a_fault(self):
+        """It is told to nobody but who lists the volume then; and the next look is as good as ever."""
+
+        async def work():
+            one = self.looker()
+            self.may_end.release(9)
+            for fault in (CarrierFault("gone"), KeyError("a bug")):
+                with mock.patch.object(looker, "looked_at", side_effect=fault), mock.patch.object(looker, "error_of") as told:
+                    self.assertIsNone(await one.rows(0, [1]))
+                self.assertEqual(told.call_count, isinstance(fault, KeyError))
+            self.assertEqual(await one.rows(0, [1]), (0,))
+
+        asyncio.run(work())
 
 
 if __name__ == "__main__":

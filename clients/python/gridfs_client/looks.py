@@ -13,7 +13,7 @@ from functools import lru_cache
 from operator import attrgetter
 from weakref import WeakKeyDictionary
 
-from .answers import LookTold, Row, row_of
+from .answers import Answer, LookTold, Row, row_of
 from .carriers import Carrier
 from .grid import Shape
 from .uplinks import Sent, uplink_of
@@ -23,6 +23,7 @@ LACKS = "-"  # what a node tells of a file that it has not got yet
 PATIENCE = 0.5  # seconds for which the answers of a row and a column are waited for
 SHORT = 0.1  # seconds that others get besides as many as these took
 MOST_WORDS = 8_192  # of files, whose meaning is remembered
+MOST_TOLD = 1_024  # volumes of which is remembered what all nodes of a column told alike
 TAG = attrgetter("tag")
 AGAIN = 1.0  # seconds after which a node that did not tell which lines it knows is asked again
 
@@ -52,6 +53,16 @@ def settled(words: Mapping[int, str], shape: Shape) -> Row | None:
     return max(found, key=TAG) if found else None
 
 
+@lru_cache(MOST_TOLD)
+def settled_alike(columns: tuple[tuple[str, ...], ...]) -> tuple[Row | None, ...]:
+    """All files of a volume, by what the nodes of each column told of them, all of one column the same: the greatest of these is a read of the file."""
+    found = []
+    for words in zip(*columns):
+        rows = [row for word in words if (row := row_in(word))]
+        found.append(max(rows, key=TAG) if len(rows) == len(words) else None)
+    return tuple(found)
+
+
 @dataclass
 class Silence:
     """What looks of one connection found: nodes that did not answer one, and when which were asked for the lines that they know."""
@@ -72,8 +83,8 @@ class Look:
 
     draw: Callable[[], int] = staticmethod(lambda: secrets.randbits(64))  # its number, which no other look of the tenant has, whoever asks
 
-    def __init__(self, carrier: Carrier, shape: Shape, volume: int, files: int, wanted: Collection[int], rate: float):
-        self.carrier, self.shape, self.volume, self.files, self.rate = carrier, shape, volume, files, rate
+    def __init__(self, carrier: Carrier, shape: Shape, volume: int, files: int, wanted: Collection[int]):
+        self.carrier, self.shape, self.volume, self.files = carrier, shape, volume, files
         self.silence = SILENCES.setdefault(carrier, Silence())
         self.wanted, self.left = wanted, set(wanted)
         self.rows: list[Row | None] = [None] * files
@@ -83,6 +94,7 @@ class Look:
         self.number = self.draw()
         self.asked: set[int] = set()  # nodes
         self.answered: set[int] = set()
+        self.until = float("inf")  # when nobody is waited for any more, once those that answered stand in a row and a column
 
     def nodes(self) -> Sequence[int]:
         """The nodes that stand at the places, as far as is known now."""
@@ -98,55 +110,36 @@ class Look:
         """Whether such nodes stand in a whole row and a whole column."""
         return self.shape.goes_on({place for place, node in enumerate(self.nodes()) if node not in nodes})
 
-    def ask(self) -> int:
-        """Asks those that know looks and were not asked, and the others which lines they know; how many bytes that were."""
-        size, now = 0, self.carrier.now()
+    def can_be_answered(self) -> bool:
+        """Not where there are nodes of before in each row, or in each column."""
+        return self.can_settle([node for node in self.nodes() if self.may_answer(node)])
+
+    def lines(self) -> list[tuple[int, bytes]]:
+        """What is to be sent now, to which nodes: those that know looks and were not asked are asked, and the others which lines they know."""
+        found, now = [], self.carrier.now()
         for node in self.nodes():
             if node in self.asked or not self.may_answer(node):
                 continue
-            body = b"look %d %d" % (self.number, self.volume)
             if node in self.carrier.forms:
                 self.asked.add(node)
+                found.append((node, b"look %d %d" % (self.number, self.volume)))
             elif now >= self.silence.asked.get(node, now - AGAIN) + AGAIN:
-                self.silence.asked[node], body = now, b"plan"
-            else:
-                continue
-            size += len(body)
-            self.carrier.send(node, body)
-        return size
-
-    def run(self) -> bool:
-        """Whether anything can be told: not where there are nodes of before in each row, or in each column."""
-        carrier = self.carrier
-        if not self.can_settle([node for node in self.nodes() if self.may_answer(node)]):
-            return False
-        box, begun = carrier.attach_look(self.number), carrier.now()
-        try:
-            uplink = uplink_of(carrier)
-            length = self.ask() / self.rate
-            sent, until = Sent(uplink, carrier.now, length, PATIENCE + length), float("inf")
-            while self.left and (waits := self.waits_for()):
-                left = min(sent.left(), until - carrier.now())
-                if left <= 0:
-                    self.silence.since.update(dict.fromkeys(waits, carrier.now()))
-                    break
-                told = carrier.receive(box, left)
-                if isinstance(told, LookTold):
-                    self.take(told)
-                    uplink.has_left(carrier.now(), sent.end)
-                    if until == float("inf") and self.can_settle([each.node for each in self.told.values()]):
-                        until = 2 * carrier.now() - begun + SHORT
-                elif told is None:
-                    self.ask()
-        finally:
-            carrier.detach_look(self.number)
-        return True
+                self.silence.asked[node] = now
+                found.append((node, b"plan"))
+        return found
 
     def waits_for(self) -> list[int]:
         """The nodes whose answers are waited for."""
         return [node for node in self.nodes() if node not in self.answered and self.may_answer(node) and not self.silence.has(self.carrier, node)]
 
-    def take(self, told: LookTold) -> None:
+    def has_ended(self) -> bool:
+        return not self.left or not self.waits_for()
+
+    def is_late(self) -> None:
+        """Nobody is waited for any more: who did not answer is silent."""
+        self.silence.since.update(dict.fromkeys(self.waits_for(), self.carrier.now()))
+
+    def take(self, told: LookTold, begun: float) -> None:
         """Counts what a node told, beside others by the same plan: that with the most losses."""
         nodes = self.nodes()
         if told.volume != self.volume or told.node not in nodes:
@@ -159,21 +152,95 @@ class Look:
         if told.words:
             self.told.setdefault(nodes.index(told.node), told)
         if self.can_settle([each.node for each in self.told.values()]):
-            for file in list(self.left):
-                self.settle(file)
+            if self.until == float("inf"):
+                self.until = 2 * self.carrier.now() - begun + SHORT
+            self.settle_alike()
+            self.settle_each() if len(self.told) == self.shape.nodes else self.settle_some()
 
-    def settle(self, file: int) -> None:
-        row = settled({place: each.words[file] for place, each in self.told.items()}, self.shape)
-        if row:
+    def settle_alike(self) -> None:
+        """Settles all files at once where the nodes of each column tell the same, as they mostly do while no write is under way; or all that told."""
+        columns = [[self.told[place].words for place in column if place in self.told] for column in lines_of(self.shape)[0]]
+        if len(self.told) < self.shape.nodes:
+            columns = [[words for column in columns for words in column]]
+        if all(words == told[0] for told in columns for words in told):
+            for file, row in enumerate(settled_alike(tuple(told[0] for told in columns))):
+                if row and file in self.left:
+                    self.rows[file] = row
+                    self.left.discard(file)
+
+    def settle_some(self) -> None:
+        """Where others are waited for, no file behind one that is not settled is looked at: it is not over as long as one is left."""
+        while self.left and self.settle(min(self.left)):
+            pass
+
+    def settle_each(self) -> None:
+        for file in sorted(self.left):
+            self.settle(file)
+
+    def settle(self, file: int) -> bool:
+        if row := settled({place: each.words[file] for place, each in self.told.items()}, self.shape):
             self.rows[file] = row
             self.left.discard(file)
+        return row is not None
+
+
+def run(looks: Sequence[Look], rate: float) -> None:
+    """Has these looks answered, all by one connection at the same time, as far as they are in time."""
+    carrier, begun = looks[0].carrier, looks[0].carrier.now()
+    box = carrier.attach_looks([look.number for look in looks])
+    try:
+        uplink = uplink_of(carrier)
+        length = ask(looks) / rate
+        sent = Sent(uplink, carrier.now, length, PATIENCE + length)
+        under_way = {look.number: look for look in looks if not look.has_ended()}
+        while under_way:
+            left = min(sent.left(), min(look.until for look in under_way.values()) - carrier.now())
+            told: Answer | None = None
+            if left > 0:
+                told = carrier.receive(box, left)
+            if isinstance(told, LookTold) and (look := under_way.get(told.number)):
+                look.take(told, begun)
+                uplink.has_left(carrier.now(), sent.end)
+                if look.has_ended():
+                    del under_way[look.number]
+            elif told is None and left > 0:
+                ask(list(under_way.values()))
+            elif left <= 0:
+                now = carrier.now()
+                for look in [look for look in under_way.values() if sent.left() <= 0 or look.until <= now]:
+                    look.is_late()
+                    del under_way[look.number]
+    finally:
+        carrier.detach_looks(box)
+    for look in looks:
+        if look.left and look.can_settle([each.node for each in look.told.values()]):
+            look.settle_each()
+
+
+def ask(looks: Sequence[Look]) -> int:
+    """Sends what these looks have to send, to each node at once; how many bytes that were."""
+    by_node: dict[int, list[bytes]] = {}
+    for look in looks:
+        for node, body in look.lines():
+            by_node.setdefault(node, []).append(body)
+    for node, bodies in by_node.items():
+        looks[0].carrier.send_all(node, bodies)
+    return sum(len(body) for bodies in by_node.values() for body in bodies)
+
+
+def looked_at(carrier: Carrier, wanted: Mapping[int, Collection[int] | None], rate: float) -> dict[int, Look]:
+    """Looks at these volumes, of each these files or all, which have ended; none of a volume of which nodes answer none, or that is not there."""
+    told, shape = carrier.told, carrier.shape
+    if told is None or shape is None:
+        return {}
+    volumes = {volume: told.volumes[volume][0] for volume in wanted if volume < len(told.volumes)}
+    looks = [Look(carrier, shape, volume, files, range(files) if (some := wanted[volume]) is None else some) for volume, files in volumes.items()]
+    if not looks or not looks[0].can_be_answered():
+        return {}
+    run(looks, rate)
+    return {look.volume: look for look in looks}
 
 
 def looked(carrier: Carrier, volume: int, wanted: Collection[int] | None, rate: float) -> Look | None:
     """A look at these files of a volume, or at all, which has ended; None where the nodes answer none, or there is no such volume."""
-    told = carrier.told
-    if told is None or carrier.shape is None or volume >= len(told.volumes):
-        return None
-    files = told.volumes[volume][0]
-    look = Look(carrier, carrier.shape, volume, files, range(files) if wanted is None else wanted, rate)
-    return look if look.run() else None
+    return looked_at(carrier, {volume: wanted}, rate).get(volume)

@@ -140,8 +140,8 @@ def signed_by(fields: Mapping[str, str], gateway_keys: Mapping[str, Any]) -> Sig
         raise S3Error("InvalidArgument", "x-amz-credential is of another day than x-amz-date.")
     if access not in gateway_keys:
         raise S3Error("InvalidAccessKeyId")
-    signer = Signer(access, gateway_keys[access].secret, region, [])
-    right = signer.signature(fields["policy"], signer.request_at(stamp))
+    signer = Signer(gateway_keys[access].secret, region)
+    right = signer.signature(fields["policy"], stamp)
     if not hmac.compare_digest(right.encode(), told.encode(errors="surrogateescape")):
         raise S3Error("SignatureDoesNotMatch")
     return Signed(gateway_keys[access], UNSIGNED, told, signer, stamp)

@@ -4,6 +4,7 @@ import asyncio
 import time
 from collections.abc import AsyncIterator, Callable, Iterable, Mapping
 from contextlib import AsyncExitStack, asynccontextmanager, closing, suppress
+from dataclasses import dataclass
 from typing import TypeVar
 
 from gridfs_client.buckets import Held
@@ -19,6 +20,7 @@ from .errors import S3Error, tell
 from .grids import Grids, Taken, Want
 from .index import Few, Names, Union
 from .keys import Key
+from .looker import Rows
 from .markup import Element, element, many, parse
 from .places import BUCKETS, Object, check_bucket, of_words
 from .requests import Asked, matches
@@ -70,6 +72,15 @@ class Clock:
         return self.agreed is not None and abs(self.wall() - self.steady() - self.agreed) < SET
 
 
+@dataclass(frozen=True)
+class Glance:
+    """What was seen of a name with no session: the rows of its volume, if it was looked at, and what it holds, if that was known of such pages."""
+
+    rows: Rows | None = None
+    is_known: bool = False
+    held: Held | None = None
+
+
 class NotSettled(Exception):
     """A condition can't be judged now: a change of the page got no answer since. Nothing was changed."""
 
@@ -101,6 +112,21 @@ class Gateway:
         if fault.grid not in self.grids.pools:
             raise S3Error("ServiceUnavailable", f"A signpost leads to the grid {fault.grid}, and the map has no such grid. Nothing was changed.")
         want.goes_on(fault)
+
+    async def glance(self, name: str) -> Glance:
+        """A look at the pages of a name, which began since this was asked for, and is for all who asked meanwhile. (Over several grids a name has a way.)"""
+        if self.grids.map:
+            return Glance()
+        pool = self.grids.pool("")
+        volume, files = pool.shared.files(pool.layout, pool.layout.page_of(name))
+        rows = await pool.looker.rows(volume, files)
+        known = pool.shared.recall(name, tuple(map(rows.__getitem__, files))) if rows else None
+        return Glance(rows, True, known[0]) if known else Glance(rows)
+
+    async def held(self, name: str) -> Held | None:
+        """What a name holds; by some session, where that is not known of its pages as they are."""
+        seen = await self.glance(name)
+        return seen.held if seen.is_known else await self.look(name, lambda store: store.look(name, seen.rows))
 
     async def look(self, name: str, work: Callable[[Store], Told], helpers: int = 0, has_begun: Callable[[], bool] = lambda: False) -> Told:
         """Has some session do what changes nothing; another one where its home is silent, as long as nothing of an answer is out."""
@@ -335,7 +361,7 @@ class Gateway:
         if until > time.monotonic():
             return state
         self.known_buckets.pop(bucket, None)
-        held = await self.look(BUCKETS + bucket, lambda store: store.look(BUCKETS + bucket))
+        held = await self.held(BUCKETS + bucket)
         if not held:
             raise S3Error("NoSuchBucket", BucketName=bucket)
         state = of_words(held.words).get("v", "")

@@ -28,7 +28,7 @@ class Given(Operations):
         """When the bucket was made, and the state of its versions. What an earlier one of its name was given is not its own. 400 InvalidBucketName, 404
         NoSuchBucket."""
         await self.gateway.need_bucket(bucket)
-        held = await self.gateway.look(BUCKETS + bucket, lambda store: store.look(BUCKETS + bucket))
+        held = await self.gateway.held(BUCKETS + bucket)
         if not held:
             raise S3Error("NoSuchBucket", BucketName=bucket)
         words = of_words(held.words)

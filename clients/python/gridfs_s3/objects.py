@@ -8,6 +8,7 @@ from contextlib import asynccontextmanager, closing, nullcontext
 from aiohttp import web
 
 from gridfs_client.buckets import Held
+from gridfs_client.contents import Inline
 
 from . import bodies, metrics, tags
 from .bodies import Spooled, Whole, body_of
@@ -16,6 +17,7 @@ from .buckets import Buckets
 from .checksums import HEADER, algorithm_of
 from .errors import S3Error, error_of, tell
 from .gateway import Gateway, Operations, let_body_come
+from .looker import Rows
 from .markup import document, element, many
 from .places import MOST_KEPT, MOST_METADATA, Object, Values
 from .requests import SERVER, Asked, answer, http_date, judge, range_wanted
@@ -28,6 +30,7 @@ HELPERS = 3
 LONGEST_PUT = 5 << 30
 ATTRIBUTES = {"Checksum", "ETag", "ObjectParts", "ObjectSize", "StorageClass"}
 DIRECTIVE = "x-amz-metadata-directive"  # whose metadata an object gets: its source's (COPY), or those of this request (REPLACE)
+BREAKS = re.compile(r"[\r\n\x00]")
 KEPT_HEADERS = ("cache-control", "content-disposition", "content-encoding", "content-language", "expires")
 
 
@@ -91,7 +94,9 @@ def headers_of(found: Object, asked: Asked) -> dict[str, str]:
     for name in (*KEPT_HEADERS, "content-type"):
         if "response-" + name in asked.query:
             told[name.title()] = asked.query["response-" + name]
-    return {name: value for name, value in told.items() if not re.search(r"[\r\n\x00]", name + value)}
+    if not BREAKS.search("".join((*told, *told.values()))):
+        return told
+    return {name: value for name, value in told.items() if not BREAKS.search(name + value)}
 
 
 def begun(asked: Asked, place: Place, found: Object, part: tuple[int, int] | None) -> web.StreamResponse:
@@ -132,6 +137,7 @@ class Get:
         self.has_place, self.most_in_memory = False, IN_MEMORY  # bytes that may be in memory until they are taken
         self.spool: Spool | None = None
         self.held: Held | None = None
+        self.rows: Rows | None = None  # of its volume, by a look since it was asked for
         self.next, self.end = 0, 0  # of the object: the byte to read next, and that behind the last one that is wanted
         self.came, self.is_whole = asyncio.Event(), False
         self.giving: asyncio.Task[None] | None = None
@@ -186,7 +192,7 @@ class Get:
 
     def send(self, store: Store) -> tuple[Held, bytes] | None:
         """(A thread's.) Has what is read given; or tells it, where it is little."""
-        held, parts, data = store.read(self.place.name, self.choose, self.place.is_latest, OF_A_FILE)
+        held, parts, data = store.read(self.place.name, self.choose, self.place.is_latest, OF_A_FILE, self.rows)
         first, end = self.part or (0, held.content.size)
         with closing(parts):  # (what it reads ahead ends before the session has other work)
             if len(data) == end - first <= self.most_in_memory:
@@ -197,6 +203,18 @@ class Get:
             asyncio.run_coroutine_threadsafe(self.begin_to_give(held), self.loop).result()
             self.fill(parts, data)
         return None
+
+    async def told_by_its_line(self) -> tuple[Held, bytes] | None:
+        """The object and what is wanted of it, where that stands in the line of its name, and is known of its pages as they are: no session is wanted then."""
+        if self.place.is_latest:
+            return None
+        seen = await self.gateway.glance(self.place.name)
+        self.rows = seen.rows
+        if not seen.is_known:
+            return None
+        first, end = self.choose(seen.held)
+        content = seen.held and seen.held.content
+        return (seen.held, content.content[first:end]) if seen.held and isinstance(content, Inline) else None
 
     def send_on(self, store: Store) -> None:
         """(A thread's.) Has more of the same content given, by the next file. Replaced where it is gone."""
@@ -251,7 +269,7 @@ class Get:
     async def answered(self) -> web.StreamResponse:
         self.take_memory()
         try:
-            rest = await self.gateway.look(self.place.name, self.send, HELPERS, lambda: self.response is not None)
+            rest = await self.told_by_its_line() or await self.gateway.look(self.place.name, self.send, HELPERS, lambda: self.response is not None)
             if rest:
                 held, data = rest
                 await self.begin(held)
@@ -290,8 +308,8 @@ class Objects(Operations):
 
     async def found(self, place: Place) -> Object:
         """The object there. 404 NoSuchKey, NoSuchVersion; 405 MethodNotAllowed."""
-        look: Callable[[Store], Held | None] = lambda store: store.latest(place.name) if place.is_latest else store.look(place.name)
-        return place.expect(await self.gateway.look(place.name, look))
+        held = self.gateway.look(place.name, lambda store: store.latest(place.name)) if place.is_latest else self.gateway.held(place.name)
+        return place.expect(await held)
 
     async def target_of(self, asked: Asked, version: str = "") -> Target:
         """Where a new version of the object that is asked for is to stand. 404 NoSuchBucket."""

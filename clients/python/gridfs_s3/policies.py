@@ -138,4 +138,4 @@ class Policies(Operations):
         if words := sorted(asked.query.keys() - OF_ANYBODY):
             raise S3Error("InvalidRequest", f"A request with {words[0]} is signed.")
         key = Key(NOBODY, "", True, frozenset([asked.bucket]))
-        asked.signed = Signed(key, UNSIGNED, "", Signer(NOBODY, "", self.gateway.region, []), "")
+        asked.signed = Signed(key, UNSIGNED, "", Signer("", self.gateway.region), "")

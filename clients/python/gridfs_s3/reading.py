@@ -19,6 +19,7 @@ from gridfs_client.sessions import Files
 from gridfs_client.ways import Ground
 from gridfs_client.writers import Writer
 
+from .looker import Rows
 from .places import VERSIONS, beside, bucket_in, version_in
 from .shared import Shared, SharedWriter
 from .trips import Elsewhere, Trip
@@ -75,15 +76,21 @@ class Reader(NamedFiles):
 
     # Looks
 
-    def look(self, name: str) -> Held | None:
-        """What a name holds."""
+    def look(self, name: str, rows: Rows | None = None) -> Held | None:
+        """What a name holds; by these rows, where a look at its volume began once it was asked for."""
         if self.trip:
             return self.trip.look(name)
         page = self.layout.page_of(name)
-        places = [self.layout.page(each, page) for each in range(1, self.layout.sessions + 1)]
-        rows = self.session.look(places[0][0], [file for _, file in places])
+        volume, files = self.shared.files(self.layout, page)
+        rows = rows or self.session.look(volume, files)
+        pages = tuple(map(rows.__getitem__, files))
+        if not self.ground and (known := self.shared.recall(name, pages)):
+            return known[0]
         if self.index_has(page, rows):
-            return held_of(self.shared.index.greatest(page, name))
+            held = held_of(self.shared.index.greatest(page, name))
+            if self.index_has(page, rows):  # (no page of it came meanwhile)
+                self.shared.remember(name, pages, held)
+            return held
         bucket = self.writer.bucket(page)
         bucket.refresh(rows)
         return bucket.held(name)
@@ -103,9 +110,8 @@ class Reader(NamedFiles):
 
     def index_has(self, page: int, rows: Sequence[Row | None]) -> bool:
         """Whether the index has all pages of a bucket as they are listed: then a look would see just these."""
-        index = self.shared.index
-        places = ((each, rows[self.layout.page(each, page)[1]]) for each in range(1, self.layout.sessions + 1))
-        return not self.ground and page not in index.open and all(row and row.tag == index.tag(page, each) for each, row in places)
+        index, files = self.shared.index, self.shared.files(self.layout, page)[1]
+        return not self.ground and page not in index.open and all((row := rows[file]) and row.tag == index.tag(page, each) for each, file in enumerate(files, 1))
 
     def all(self) -> Iterator[Held]:
         """All that names hold, each at some moment of the call."""
@@ -203,12 +209,12 @@ class Reader(NamedFiles):
                 self.more, self.helpers = lambda _: (), {}
 
     def read(
-        self, name: str, choose: Callable[[Held | None], tuple[int, int]], is_latest: bool = False, most: int | None = None
+        self, name: str, choose: Callable[[Held | None], tuple[int, int]], is_latest: bool = False, most: int | None = None, rows: Rows | None = None
     ) -> tuple[Held, Generator[bytes, None, None], bytes]:
         """What a name holds, or the latest version of the object of this name; its bytes in the range that is chosen by that, as `content` has them, and before them
-        the first ones, which are there for sure."""
-        for _ in range(BEGINNINGS):
-            held = self.latest(name) if is_latest else self.look(name)
+        the first ones, which are there for sure. At first it is looked by these rows, where there are any."""
+        for turn in range(BEGINNINGS):
+            held = self.latest(name) if is_latest else self.look(name, rows if not turn else None)
             first, end = choose(held)
             assert held
             if held.version.grid != self.grid:

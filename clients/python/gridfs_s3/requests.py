@@ -29,7 +29,12 @@ def iso_of_seconds(seconds: int) -> str:
 
 
 def http_date(ms: int) -> str:
-    return email.utils.formatdate(ms // 1000, usegmt=True)
+    return http_date_of_seconds(ms // 1000)
+
+
+@lru_cache(1_024)
+def http_date_of_seconds(seconds: int) -> str:
+    return email.utils.formatdate(seconds, usegmt=True)
 
 
 def seconds_of_date(text: str) -> float | None:

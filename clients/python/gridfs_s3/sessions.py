@@ -30,6 +30,7 @@ from gridfs_client.ways import Ground, slice_of
 from .claims import Claims
 from .errors import error_of, tell
 from .index import Index
+from .looker import Looker
 from .notes import Begun, Notes
 from .shared import Shared, Turns
 from .store import Store
@@ -67,6 +68,7 @@ class Pool:
         self.gathering = gathering
         self.threads = ThreadPoolExecutor(32, thread_name_prefix="session")
         self.loop = asyncio.get_running_loop()
+        self.looker = Looker(self.loop, lambda: self.carrier, lambda: self.settings.pace().rate)
         self.tasks: set[asyncio.Task[None]] = set()
         self.lends: set[int] = set()  # numbers of sessions that are lent, or are to be
         self.lasting: list[asyncio.Task[None]] = []  # what goes on as long as the gateway does
@@ -114,7 +116,7 @@ class Pool:
             lock.close()
             return None
         session = Turn(carrier, number, home, self.settings.pace())
-        session.notes = self.notes
+        session.notes, session.looker = self.notes, self.looker
         worker = known or Worker(session, lock)
         worker.session = session
         self.renew(worker)
@@ -708,6 +710,7 @@ class Pool:
 
     def close(self) -> None:
         self.threads.shutdown(wait=False, cancel_futures=True)
+        self.looker.close()
         if self.carrier:
             self.carrier.close()
 

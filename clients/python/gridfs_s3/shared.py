@@ -10,7 +10,7 @@ from weakref import WeakValueDictionary
 
 from gridfs_client import core
 from gridfs_client.answers import Row, Tag
-from gridfs_client.buckets import Bucket
+from gridfs_client.buckets import Bucket, Held
 from gridfs_client.core import Known, Page
 from gridfs_client.layout import Layout
 from gridfs_client.sessions import Files
@@ -21,6 +21,7 @@ from .index import Index
 
 AHEAD = 3_600_000  # milliseconds by which a time may be ahead of the clock
 MOST_SEARCHED = 512  # pages that one put looks at for room
+MOST_AT_HAND = 2_048  # names of which it is remembered what they hold
 LATEST = 9_999_999_999_999  # which a line has room for
 
 
@@ -83,6 +84,9 @@ class Turns:
             self.unsure[name] = max(number, self.unsure.pop(name, 0))
 
 
+Seen = tuple[Row | None, ...]
+
+
 class Shared:
     """Pages of all sessions of a gateway at one grid. Each call may come from any thread."""
 
@@ -91,9 +95,33 @@ class Shared:
         self.index = index or Index()  # pages as they were seen last by any session
         self.swept: dict[int, float] = {}  # pages that were swept, and when
         self.searched: dict[int, float] = {}  # sessions all of whose pages were searched for room, and when
+        self.guard = threading.Lock()
+        self.places: dict[int, tuple[int, tuple[int, ...]]] = {}  # of buckets: the volume and the files of the pages, session by session
+        self.at_hand: dict[str, tuple[Seen, Held | None]] = {}  # what names held by their pages as these were
 
     def keep(self, session: int, number: int, known: Known) -> None:
         self.index.keep(number, session, known)
+
+    def files(self, layout: Layout, page: int) -> tuple[int, tuple[int, ...]]:
+        """Where the pages of a bucket stand: the volume, and the file of each session."""
+        if found := self.places.get(page):
+            return found
+        every = [layout.page(each, page) for each in range(1, layout.sessions + 1)]
+        self.places[page] = every[0][0], tuple(file for _, file in every)
+        return self.places[page]
+
+    def remember(self, name: str, pages: Seen, held: Held | None) -> None:
+        """What a name holds as long as the pages of its bucket are told to be these: a tag tells one content of a file."""
+        with self.guard:
+            self.at_hand.pop(name, None)
+            if len(self.at_hand) >= MOST_AT_HAND:
+                del self.at_hand[next(iter(self.at_hand))]
+            self.at_hand[name] = pages, held
+
+    def recall(self, name: str, pages: Seen) -> tuple[Held | None] | None:
+        """The same, where it was seen; else None."""
+        found = self.at_hand.get(name)
+        return (found[1],) if found and found[0] == pages else None
 
 
 class SharedBucket(Bucket):

@@ -1,17 +1,14 @@
-"""Who a request is from: AWS Signature Version 4, as header or in the URL, by the signer of botocore."""
+"""Who a request is from: AWS Signature Version 4, as header or in the URL."""
 
+import hashlib
 import hmac
 import re
 import time
 from calendar import timegm
-from collections.abc import Mapping
+from collections.abc import Mapping, Sequence
 from dataclasses import dataclass
+from functools import lru_cache
 from urllib.parse import quote, unquote
-
-from botocore.auth import S3SigV4Auth
-from botocore.awsrequest import AWSRequest
-from botocore.compat import HTTPHeaders
-from botocore.credentials import Credentials
 
 from .errors import S3Error
 from .keys import Key
@@ -38,35 +35,55 @@ class Signed:
 
     def chunk_signature(self, before: str, digest: str, kind: str = "PAYLOAD") -> str:
         """The signature of a chunk after one with the signature `before`; of trailers, where the kind says so."""
-        scope = self.signer.credential_scope(self.signer.request_at(self.stamp))
+        scope = self.signer.scope(self.stamp)
         empty = [] if kind == "TRAILER" else ["e3b0c44298fc1c149afbf4c8996fb92427ae41e4649b934ca495991b7852b855"]
         text = "\n".join([f"{ALGORITHM}-{kind}", self.stamp, scope, before, *empty, digest])
-        return str(self.signer.signature(text, self.signer.request_at(self.stamp)))
+        return self.signer.signature(text, self.stamp)
 
 
-class Signer(S3SigV4Auth):  # type: ignore[misc]
-    """The signer of botocore, over the headers that the client says it signed."""
+@lru_cache(256)
+def key_of_day(secret: str, day: str, region: str) -> bytes:
+    """What signs all requests of a day."""
+    key = f"AWS4{secret}".encode()
+    for word in (day, region, "s3", "aws4_request"):
+        key = hmac.digest(key, word.encode(), "sha256")
+    return key
 
-    def __init__(self, access: str, secret: str, region: str, names: list[str]):
-        super().__init__(Credentials(access, secret), "s3", region)
-        self.names = names
 
-    def headers_to_sign(self, request: AWSRequest) -> HTTPHeaders:
-        found = HTTPHeaders()
-        for name in self.names:
-            for value in request.headers.get_all(name, []):
-                found[name] = value
-        return found
+@dataclass(frozen=True)
+class Signer:
+    """Whose secret signs, and for which region."""
 
-    def request_at(self, stamp: str) -> AWSRequest:
-        request = AWSRequest()
-        request.context["timestamp"] = stamp
-        return request
+    secret: str
+    region: str
+
+    def scope(self, stamp: str) -> str:
+        return f"{stamp[:8]}/{self.region}/s3/aws4_request"
+
+    def signature(self, text: str, stamp: str) -> str:
+        """That of a text, at a time."""
+        return hmac.digest(key_of_day(self.secret, stamp[:8], self.region), text.encode(), "sha256").hex()
+
+    def of_request(self, request: str, stamp: str) -> str:
+        """That of a request in its canonical form."""
+        return self.signature("\n".join((ALGORITHM, stamp, self.scope(stamp), hashlib.sha256(request.encode()).hexdigest())), stamp)
+
+
+def canonical_request(method: str, path: str, query: str, headers: Mapping[str, Sequence[str]], payload: str) -> str:
+    """A request as it is signed: its headers by small names, those that it has of the ones that are signed."""
+    names = sorted(headers)
+    lines = [f"{name}:{','.join(' '.join(value.split()) for value in headers[name])}\n" for name in names]
+    return "\n".join((method.upper(), path, query, "".join(lines), ";".join(names), payload))
+
+
+@lru_cache(256)  # (many requests are of one second)
+def moment_of(stamp: str) -> int:
+    return timegm(time.strptime(stamp, "%Y%m%dT%H%M%SZ"))
 
 
 def seconds_of(stamp: str, code: str) -> int:
     try:
-        return timegm(time.strptime(stamp, "%Y%m%dT%H%M%SZ"))
+        return moment_of(stamp)
     except (ValueError, OverflowError):
         raise S3Error(code, "The request has no time of the form 20260101T000000Z.") from None
 
@@ -102,7 +119,7 @@ def quoted(text: str) -> str:
 
 
 def canonical(pairs: list[tuple[str, str]]) -> str:
-    words = ([quote(each, safe="-_.~", errors="surrogateescape") for each in pair] for pair in pairs)
+    words = sorted([quote(each, safe="-_.~", errors="surrogateescape") for each in pair] for pair in pairs)
     return "&".join(f"{name}={value}" for name, value in words)
 
 
@@ -163,21 +180,21 @@ def check(method: str, path: str, query: str, headers: list[tuple[str, str]], ke
         raise S3Error(code, "The header Host has to be signed.")
     if len(signed_names) > MOST_SIGNED or len(set(signed_names)) < len(signed_names):
         raise S3Error(code, f"At most {MOST_SIGNED} headers are signed, each once.")
-    if not all(is_utf8(text) for header in headers for text in header):
+    if not is_utf8("".join(text for header in headers for text in header)):
         raise S3Error("InvalidRequest", "A header is not UTF-8.")
     unsigned = [name for name in told if name.startswith("x-amz-") and name not in signed_names and name != "x-amz-content-sha256"]
     if unsigned:
         raise S3Error("AccessDenied", f"The header {unsigned[0]} is not signed.")
-    signer = Signer(access, keys[access].secret, region, signed_names)
-    request = AWSRequest(method, f"http://host{quote(unquote(path, errors='surrogateescape'), safe='/-_.~', errors='surrogateescape')}?{canonical(pairs)}")
+    signer, signed = Signer(keys[access].secret, region), dict[str, list[str]]()
     for name, value in headers:
-        request.headers[name] = value  # (which adds one)
+        if name in signed_names and name != "x-amz-content-sha256":
+            signed.setdefault(name, []).append(value)
     if "expect" in signed_names and "expect" not in told and "x-front-expect" in told:
-        request.headers["expect"] = told["x-front-expect"]  # (nginx has answered it)
-    del request.headers["x-amz-content-sha256"]
-    request.headers["x-amz-content-sha256"] = payload
-    request.context["timestamp"] = stamp
-    right = signer.signature(signer.string_to_sign(request, signer.canonical_request(request)), request)
+        signed["expect"] = [told["x-front-expect"]]  # (nginx has answered it)
+    if "x-amz-content-sha256" in signed_names:
+        signed["x-amz-content-sha256"] = [payload]
+    as_meant = quote(unquote(path, errors="surrogateescape"), safe="/-_.~", errors="surrogateescape")
+    right = signer.of_request(canonical_request(method, as_meant, canonical(pairs), signed, payload), stamp)
     if not hmac.compare_digest(right.encode(), signature.encode(errors="surrogateescape")):
         raise S3Error("SignatureDoesNotMatch")
     return Signed(keys[access], payload, signature, signer, stamp)

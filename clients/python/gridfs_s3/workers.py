@@ -1,17 +1,18 @@
 """A session of the gateway, and who works by it."""
 
 import asyncio
-from collections.abc import AsyncIterator, Callable
+from collections.abc import AsyncIterator, Callable, Collection
 from contextlib import asynccontextmanager
 from contextvars import ContextVar
 from dataclasses import replace
 from typing import IO
 
-from gridfs_client.answers import Done
+from gridfs_client.answers import Done, Row
 from gridfs_client.errors import ClientError
 from gridfs_client.opening import SOON
 from gridfs_client.sessions import Pace, Session
 
+from .looker import Looker
 from .notes import Begun, Notes
 from .store import Store
 
@@ -25,6 +26,7 @@ class Turn(Session):
 
     has_written, has_failed = False, False
     full: Pace | None = None
+    looker: Looker | None = None  # who looks for all sessions
     notes: Notes | None = None  # where it is noted how far it came, and whether all its pages are settled
     has_settled: Callable[[], bool] = staticmethod(lambda: False)
 
@@ -35,6 +37,12 @@ class Turn(Session):
 
     def end(self) -> None:
         self.pace = self.full or self.pace
+
+    def look(self, volume: int, wanted: Collection[int] | None = None) -> tuple[Row | None, ...]:
+        told = self.carrier.told
+        if self.looker is None or told is None or volume >= len(told.volumes):
+            return super().look(volume, wanted)
+        return self.looker.rows_at_once(volume, range(told.volumes[volume][0]) if wanted is None else wanted) or self.list(volume)
 
     def ask(self, kind: str, place: tuple[int, ...], content: bytes | None = None) -> Done:
         if content is not None and not self.has_written:
