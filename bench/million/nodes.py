@@ -24,19 +24,18 @@ from gridfs_client.answers import Tag, to_hex
 from gridfs_client.asking import ask_plan
 from gridfs_client.chunks import FIRST_MOMENT, IN_A_MOMENT, MOMENTS
 from gridfs_client.contents import digest_of
-from gridfs_client.core import Known
 from gridfs_client.ends import End
 from gridfs_client.layout import Layout, Volume, layout_of
 from gridfs_client.names import NamedFiles
 from gridfs_client.opening import turn_of
-from gridfs_client.pages import parse_page
+from gridfs_client.pages import parse_line
 from gridfs_client.sessions import Session
 from gridfs_client.settings import Settings
 from gridfs_grid.carried import free_ports
 from gridfs_grid.carrier import Carrier, Node, journal_of
 from gridfs_grid.planned import planned
 from gridfs_grid.tenant import tick_of
-from gridfs_s3.index import Index
+from gridfs_s3.index import ADDED, Index, stored
 from gridfs_s3.sessions import WORD_OF_GRID
 
 STEP = 7_919  # from one name to the next
@@ -239,11 +238,10 @@ class Nodes:
         found = Settings.gather({"config": str(self.folder / "carol.ini")}, {})
         carrier = found.carrier()
         told = ask_plan(carrier, found.pace())
-        layout, index, word = layout_of(told), Index(str(self.folder / "index")), os.urandom(16).hex()
+        layout, path, word = layout_of(told), str(self.folder / "index"), os.urandom(16).hex()
         assert layout == self.filling.layout
-        for page, session in self.filling.lines:
-            text = self.filling.text(page, session)
-            index.keep(page, session, Known(self.tags[layout.page(session, page)], parse_page(text, "a page")))
+        fill_index(path, self.filling, self.tags)
+        index = Index(path)
         sessions = [Session(carrier, number, told.home_of(number), found.pace()) for number in range(1, told.sessions + 1)]
         files = NamedFiles(sessions[0], layout)
         files.put(WORD_OF_GRID, word.encode())
@@ -277,6 +275,32 @@ class Nodes:
         self.process.send_signal(signal.SIGINT)
         self.process.wait()
         self.log.close()
+
+
+def fill_index(path, filling, tags):
+    """The index has each page, as if it had been told of one after another. (Lines are not read one by one: most differ in few words.)"""
+    index, layout = Index(path), filling.layout
+    pages = ((page * 64 + session, *vars_of(tags[layout.page(session, page)]), filling.text(page, session)) for page, session in filling.lines)
+    index.base.executemany("insert into pages values (?, ?, ?, ?)", pages)
+    index.base.executemany(ADDED, sorted(rows_of(filling)))
+    index.close()
+
+
+def vars_of(tag):
+    return tag.number, tag.session
+
+
+def rows_of(filling):
+    alike = {}
+    for (_, session), lines in filling.lines.items():
+        for text in lines:
+            version, words, rest = text[:-1].split(" ", 2)
+            size, name = rest.partition(" ")[0], rest.rpartition(" ")[2]
+            if (words, size) not in alike:
+                alike[words, size] = stored(parse_line(text[:-1]), session, "")
+            like, number = alike[words, size], int(version)
+            assert like[11:13] == (like[3], like[4])
+            yield name.encode(), "", session, number, session, *like[5:11], number, session, like[13]
 
 
 def status_of(process, word):
