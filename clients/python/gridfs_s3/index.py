@@ -27,6 +27,7 @@ from gridfs_client.pages import FIRST_WORDS, HEAD, parse_line, parse_page, text_
 from gridfs_client.ways import Found, version_in
 
 from .errors import tell
+from .later import later_page
 from .places import KEYS, NULL, VERSIONS, Object, of_words
 
 FORM = 1
@@ -305,7 +306,7 @@ class Index:
             told = self.base.execute("select number, session, text from pages where place = ?", (page * 64 + session,)).fetchone()
             if told is None:
                 return None
-            known = Known(Tag(told[0], told[1]), parse_page(told[2], "the index"))
+            known = Known(Tag(told[0], told[1]), later_page(told[2], "the index"))
             self.is_recent(page, session, known, len(told[2]))
             return known
 
