@@ -108,6 +108,7 @@ BUGS = {
     "gateways outlive who sees to them": ("test_several.py Several.test_ends", "several.py", "        ctypes.CDLL(None).prctl(WITH_PARENT, signal.SIGTERM)\n", ""),
     "a gateway of several is anybody's": ("test_several.py Several.test_users", "several.py", "            os.setuid(user.pw_uid)\n", ""),
     "lines that are wrong end what runs": ("test_several.py Several.test_lines_that_change", "several.py", "            tell(f\"{fault}; the gateways stay as they were\")\n            return\n", "            raise\n"),
+    "a page that is full is taken for no room at all": ("test_in_chunks.py NoRoomForALine", "store.py", "        return NoLine(f\"{name}: page", "        return NoRoom(f\"{name}: page"),
     "a part of a list counts in place of a later one": ("test_in_chunks.py Many.test_completed_and_read", "part_lists.py", "{number: each for group in self.lists for number, each in self.listed(group).items()} | self.in_line", "self.in_line | {number: each for group in self.lists for number, each in self.listed(group).items()}"),
     "a completion makes all lists anew": ("test_in_chunks.py Many.test_completed_and_read", "part_lists.py", "if listed and list(chosen", "if False and list(chosen"),
     "a list is taken that names more": ("test_in_chunks.py Many.test_some_of_them_are_chosen", "part_lists.py", "list(chosen[at : at + len(listed[1])]) == listed[1]", "True"),
