@@ -119,7 +119,7 @@ class Journals:
         tick = tick_of(told.longest, 0.2)
         self.carrier = Carrier(self.nodes, self.hear, self.fall, tick)
         self.carrier.carry_lines_of(told.longest, tick)
-        self.last, self.under_way, self.files, self.tags = collections.Counter(), {}, {}, {}
+        self.last, self.under_way, self.left, self.current, self.tags = collections.Counter(), {}, {}, {}, {}
         self.heard = time.monotonic()
         for node in self.nodes:
             node.start(True)
@@ -147,8 +147,7 @@ class Journals:
         elif words[:2] == [b"done", b"write"]:
             session = int(words[2])
             if int(words[3]) == self.last[session] and self.under_way.pop(session, None):
-                place = next(self.files[session])
-                self.tags[place] = Tag(int(words[5]), int(words[6]))
+                self.tags[self.current[session]] = Tag(int(words[5]), int(words[6]))
                 self.next_write(session)
         elif words[0] in (b"refused", b"gone"):
             raise SystemExit(line)
@@ -172,25 +171,17 @@ class Journals:
         self.go_on(0)
 
     def next_write(self, session):
-        """(A generator of places, which goes on once the last one is written.)"""
+        if found := next(self.left[session], None):
+            (volume, file), text = found
+            self.last[session] += 1
+            self.current[session] = volume, file
+            self.send(session, b"%d carol write %d %d %d %d %b" % (self.homes[session], session, self.last[session], volume, file, to_hex(text)))
 
     def write(self, filling):
         """All files, by all sessions side by side."""
-        left = {session: filling.writes(session) for session in self.homes}
-        current = {}
-
-        def next_write(session):
-            found = next(left[session], None)
-            if found:
-                (volume, file), text = found
-                self.last[session] += 1
-                current[session] = volume, file
-                self.send(session, b"%d carol write %d %d %d %d %b" % (self.homes[session], session, self.last[session], volume, file, to_hex(text)))
-
-        self.files = {session: iter(lambda session=session: current[session], None) for session in self.homes}
-        self.next_write = next_write
+        self.left = {session: filling.writes(session) for session in self.homes}
         for session in self.homes:
-            next_write(session)
+            self.next_write(session)
         self.go_on(0)
 
     def end(self):
@@ -280,13 +271,13 @@ class Nodes:
 def fill_index(path, filling, tags):
     """The index has each page, as if it had been told of one after another. (Lines are not read one by one: most differ in few words.)"""
     index, layout = Index(path), filling.layout
-    pages = ((page * 64 + session, *vars_of(tags[layout.page(session, page)]), filling.text(page, session)) for page, session in filling.lines)
+    pages = ((page * 64 + session, *pair_of(tags[layout.page(session, page)]), filling.text(page, session)) for page, session in filling.lines)
     index.base.executemany("insert into pages values (?, ?, ?, ?)", pages)
     index.base.executemany(ADDED, sorted(rows_of(filling)))
     index.close()
 
 
-def vars_of(tag):
+def pair_of(tag):
     return tag.number, tag.session
 
 
