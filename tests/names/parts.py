@@ -33,20 +33,21 @@ LONG, MOST_MEMORY = 100, 84  # MiB of a content, and of a process that moves it 
 ATTEMPTS, LEAST_OPERATIONS, MOST_OPERATIONS = 10, 50, 2_000  # of trials over nodes; a bug has to be found within the most
 GROUPS = {"broker": "broker", "package": "checkers"}  # of tests/packages, which these parts want
 SHAPES = ("MIXED", "CROWDED", "LENDING", "REMOVING", "DYING", "SWEEPING", "UNSURE", "LOOKING")
+LISTED = ("LISTING", "MIXED", "UNSURE")  # with listings that skim pages
 
 
 def steps():
     loader, told = unittest.TestLoader(), io.StringIO()
-    suite = loader.loadTestsFromNames(["test_core", "test_parts", "test_sessions", "test_names", "test_looks", "test_status", "test_mirror", "test_journals"])
+    suite = loader.loadTestsFromNames(["test_core", "test_parts", "test_sessions", "test_names", "test_skimming", "test_looks", "test_status", "test_mirror", "test_journals"])
     result = unittest.TextTestRunner(told, verbosity=0).run(suite)
     return f"{result.testsRun} tests", [f"{test}: {text.splitlines()[-1]}" for test, text in result.failures + result.errors]
 
 
-def random_histories(shape, first, count):
+def random_histories(shape, first, count, kind=registers.NamedFiles):
     total, wrong = {}, []
     for seed in range(first, first + count):
         try:
-            history, world = registers.try_registers(seed, shape=getattr(registers, shape))
+            history, world = registers.try_registers(seed, kind, shape=getattr(registers, shape))
         except ClientError as fault:
             wrong.append(f"seed {seed} of {shape}: {type(fault).__name__}: {fault}")
             continue
@@ -54,7 +55,11 @@ def random_histories(shape, first, count):
             total[what] = total.get(what, 0) + number
         for name in sum(history.wrong(), []):
             wrong.append(f"seed {seed} of {shape}: no order of {name} was found")
-    return f"{count} seeds of {shape}: {told_of(total)}", wrong
+    return f"{count} seeds of {shape}{', listings that skim' * (kind is registers.Skims)}: {told_of(total)}", wrong
+
+
+def skimmed_histories(shape, first, count):
+    return random_histories(shape, first, count, registers.Skims)
 
 
 def told_of(counts):
@@ -71,7 +76,8 @@ def bugs():
     """Each bug is found by the history of its seed, in which nothing is wrong without it."""
     missed = []
     for bug, (seed, shape) in planted.FOUND.items():
-        if not registers.is_found(bug, seed, shape=shape) or registers.is_found(registers.NamedFiles, seed, shape=shape):
+        right = registers.Skims if issubclass(bug, registers.Skims) else registers.NamedFiles
+        if not registers.is_found(bug, seed, shape=shape) or registers.is_found(right, seed, shape=shape):
             missed.append(f"{bug.__name__} is not found")
     return f"{len(planted.FOUND)} bugs in histories", missed
 

@@ -18,6 +18,7 @@ import code_of_s3  # noqa: F401  (which says where the code is)
 import registers
 from bodies_in_memory import Body
 from gridfs_client import ClientError, NoSuchName, Replaced, Unanswered
+from gridfs_s3 import index
 from gridfs_s3.errors import S3Error
 from gridfs_s3.places import of_words, upload_name
 from gridfs_s3.shared import Shared, SharedWriter
@@ -33,7 +34,7 @@ SHAPES = [
 ALONE = 2  # in the last shape there is one gateway at a time, which has all sessions: it settles a page before its first change
 
 
-SharedWriter.most_buckets = 1  # (what a gateway forgets of its pages, where there are many)
+SharedWriter.most_buckets, index.RECENT = 1, 0  # (what a gateway forgets of its pages, where there are many)
 
 
 class WentBack(Exception):

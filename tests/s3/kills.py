@@ -1,7 +1,9 @@
 #!/usr/bin/python3
 """Histories over gateways that are killed amid what they do; each key has to be one register of content and metadata.
 
-    kills.py SETTINGS SECONDS KILLS GATEWAYS        puts, gets, heads, removals and uploads in parts, by so many gateways, each with some of eight sessions
+    kills.py SETTINGS SECONDS KILLS GATEWAYS        puts, gets, heads, removals, uploads in parts and listings, by so many gateways, each with some of eight sessions
+    kills.py --indexed SETTINGS SECONDS KILLS       the same by one gateway that has all sessions, and goes on with the index of the one that was killed
+    kills.py --indexed SECONDS KILLS                the same over a stand-in for a grid; it is tried up to ten times, until something is wrong
     kills.py --conditional SETTINGS SECONDS KILLS   puts with If-None-Match and If-Match, by one gateway that has all sessions: links of a chain
 
 SETTINGS is a file as for gridfs-client, of the tenant carol. The status is 1 where something is wrong.
@@ -46,11 +48,18 @@ def word_of(body):
 class Trial:
     """Clients that ask, and gateways that are killed and started again."""
 
+    weights = {"put": 30, "get": 35, "head": 8, "remove": 10, "upload": 10, "list": 7}
+
+    @staticmethod
+    def words(room):
+        """More words of a gateway."""
+        return ()
+
     def __init__(self, gateways, seconds, kills, seed):
         self.gateways, self.seconds, self.kills, self.draw = gateways, seconds, kills, random.Random(seed)
         self.bucket = f"{type(self).__name__.lower()}-{os.getpid()}"
         self.history, self.guard, self.faults, self.wrong = collections.defaultdict(list), threading.Lock(), collections.Counter(), []
-        self.begun = time.monotonic()
+        self.begun, self.by_etag = time.monotonic(), {}  # (words of contents)
         gateways[0].client().create_bucket(Bucket=self.bucket)
 
     def now(self):
@@ -67,8 +76,8 @@ class Trial:
 
     def run(self):
         """The clients ask until the time is over; what is wrong."""
-        until = time.monotonic() + self.seconds
-        threads = [threading.Thread(target=self.guarded, args=(number, until)) for number in range(CLIENTS)]
+        self.until = time.monotonic() + self.seconds
+        threads = [threading.Thread(target=self.guarded, args=(number,)) for number in range(CLIENTS)]
         for thread in threads:
             thread.start()
         for _ in range(self.kills):
@@ -76,6 +85,7 @@ class Trial:
             gateway = self.draw.choice(self.gateways)
             gateway.kill()
             gateway.start()
+            self.until = max(self.until, time.monotonic() + self.seconds / (self.kills + 1))  # (it begins slowly on a machine that does much else)
         for thread in threads:
             thread.join()
         self.look_at_last()
@@ -83,22 +93,24 @@ class Trial:
         fallen = [gateway.log for gateway in self.gateways if "Traceback" in gateway.told()]
         return self.wrong + [f"{log} has a traceback" for log in fallen]
 
-    def guarded(self, number, until):
+    def guarded(self, number):
         draw = random.Random(f"{number} {self.draw.random()}")
         try:
-            self.client(number, until, draw)
+            self.client(number, draw)
         except Exception as fault:
             self.wrong.append(f"a client fell: {type(fault).__name__}: {fault}")
 
-    def client(self, number, until, draw):
+    def client(self, number, draw):
         clients, count = [gateway.client() for gateway in self.gateways], 0
-        while time.monotonic() < until:
+        while time.monotonic() < self.until:
             count += 1
             self.ask(draw.choice(clients), draw, f"{number}.{count}")
 
     def ask(self, s3, draw, word):
         words, begin = {"Bucket": self.bucket, "Key": f"key/{draw.randrange(KEYS)}"}, self.now()
-        kind = draw.choices(("put", "get", "head", "remove", "upload"), (30, 40, 10, 10, 10))[0]
+        kind = draw.choices(list(self.weights), self.weights.values())[0]
+        if kind == "list":
+            return self.list(s3)
         if kind in ("get", "head"):
             try:
                 self.note(words["Key"], Operation(False, self.read(s3, kind, words), begin, self.now()))
@@ -106,14 +118,17 @@ class Trial:
                 self.fault(fault)
             return
         value = None if kind == "remove" else word
+        body = body_of(word, draw)
+        digest = hashlib.md5(body)
+        self.by_etag.update({digest.hexdigest(): word, f"{hashlib.md5(digest.digest()).hexdigest()}-1": word})
         try:
             if kind == "put":
-                s3.put_object(**words, Body=body_of(word, draw), Metadata={"word": word})
+                s3.put_object(**words, Body=body, Metadata={"word": word})
             elif kind == "remove":
                 s3.delete_object(**words)
             else:
                 upload = s3.create_multipart_upload(**words, Metadata={"word": word})["UploadId"]
-                etag = s3.upload_part(**words, UploadId=upload, PartNumber=1, Body=body_of(word, draw))["ETag"]
+                etag = s3.upload_part(**words, UploadId=upload, PartNumber=1, Body=body)["ETag"]
                 begin, kind = self.now(), "complete"
                 s3.complete_multipart_upload(**words, UploadId=upload, MultipartUpload={"Parts": [{"PartNumber": 1, "ETag": etag}]})
             self.note(words["Key"], Operation(True, value, begin, self.now()))
@@ -121,6 +136,17 @@ class Trial:
             self.fault(fault)
             if kind != "upload" and code_of(fault) != "EndpointConnectionError":  # (that one was never sent)
                 self.note(words["Key"], Operation(True, value, begin, NEVER))
+
+    def list(self, s3):
+        """A listing, which tells of each key what it held at some moment of it."""
+        begin = self.now()
+        try:
+            told = s3.list_objects_v2(Bucket=self.bucket, Prefix="key/")
+        except FAULTS as fault:
+            return self.fault(fault)
+        end, held = self.now(), {each["Key"]: self.by_etag.get(each["ETag"].strip('"'), "nobody's") for each in told.get("Contents", [])}
+        for key in map("key/{}".format, range(KEYS)):
+            self.note(key, Operation(False, held.get(key), begin, end))
 
     def read(self, s3, kind, words):
         """The word of an object, None where there is none."""
@@ -156,13 +182,30 @@ class Trial:
         return f"{count} operations, {unanswered} changes unanswered, {self.kills} kills, {dict(self.faults)}"
 
 
+class Indexed(Trial):
+    """One gateway, whose listings read its index: it has to be right behind a kill too."""
+
+    weights = {"put": 30, "get": 5, "head": 5, "remove": 10, "upload": 10, "list": 40}
+
+    @staticmethod
+    def words(room):
+        return ("--index", os.path.join(room, "index"))
+
+    def look_at_last(self):
+        try:
+            super().look_at_last()
+        except FAULTS as fault:
+            self.wrong.append(f"at the end: {fault}")
+        self.list(self.gateways[0].client())
+
+
 class Conditional(Trial):
     """Each client puts the successor of what it read, if that is there still. So those that were told to have succeeded are links of one chain."""
 
-    def client(self, number, until, draw):
+    def client(self, number, draw):
         s3, count, header = self.gateways[0].client(), 0, {}
         s3.meta.events.register("before-sign.s3.PutObject", lambda request, **_: [request.headers.__setitem__(*each) for each in header.items()])
-        while time.monotonic() < until:
+        while time.monotonic() < self.until:
             words, word, count = {"Bucket": self.bucket, "Key": f"chain/{draw.randrange(3)}"}, f"{number}.{count}", count + 1
             try:
                 before, etag = self.last(s3, words)
@@ -215,7 +258,7 @@ def tried(kind, settings, seconds, kills, count, seed, room):
     """A trial; what is wrong, and what was done."""
     each = SESSIONS // count
     ranges = [f"{1 + each * number}-{SESSIONS if number == count - 1 else each * (number + 1)}" for number in range(count)]
-    gateways = [endpoint.Gateway(settings, room, sessions) for sessions in ranges]
+    gateways = [endpoint.Gateway(settings, room, sessions, words=kind.words(room)) for sessions in ranges]
     try:
         trial = kind(gateways, seconds, kills, seed)
         return trial.run(), trial.told()
@@ -224,12 +267,26 @@ def tried(kind, settings, seconds, kills, count, seed, room):
             gateway.kill()
 
 
+def over_a_stand_in(seconds, kills):
+    """Trials of listings behind kills, until one is wrong; what was done."""
+    for turn in range(10):
+        with endpoint.stand_in() as room:
+            wrong, told = tried(Indexed, os.path.join(room, "carol.ini"), seconds, kills, 1, turn, room)
+        if wrong:
+            break
+    return wrong, told
+
+
 def main(words):
-    kind = Conditional if words[0] == "--conditional" else Trial
-    settings, seconds, kills, *count = words[kind is Conditional :]
-    with tempfile.TemporaryDirectory(prefix="gridfs-s3-") as room:
-        wrong, told = tried(kind, settings, float(seconds), int(kills), int(count[0]) if count else 1, os.getpid(), room)
-    print("".join(f"{line}\n" for line in wrong) + told)
+    kind = {"--conditional": Conditional, "--indexed": Indexed}.get(words[0], Trial)
+    words = words[kind is not Trial :]
+    if kind is Indexed and len(words) == 2:
+        wrong, told = over_a_stand_in(float(words[0]), int(words[1]))
+    else:
+        settings, seconds, kills, *count = words
+        with tempfile.TemporaryDirectory(prefix="gridfs-s3-") as room:
+            wrong, told = tried(kind, settings, float(seconds), int(kills), int(count[0]) if count else 1, os.getpid(), room)
+    print("".join(f"{line}\n" for line in wrong) + f"{told}, {len(wrong)} wrong")
     return bool(wrong)
 
 

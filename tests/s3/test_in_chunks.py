@@ -24,7 +24,7 @@ from gridfs_s3.errors import S3Error
 from gridfs_s3.part_lists import Uploaded
 from gridfs_s3.places import upload_name
 from gridfs_s3.shared import Shared
-from gridfs_s3.store import Store
+from gridfs_s3.store import NoLine, Store
 from gridfs_s3.versions import Target
 
 NAME, BUCKET, MIB = "bucket/key", "bucket", 1 << 20
@@ -146,6 +146,18 @@ class Steps(unittest.TestCase):
     def test_an_abort(self):
         for world, upload, done in self.each_step(self.begun, lambda objects, upload: objects.delete(upload_name(BUCKET, upload, NAME)), 4):
             self.assertEqual(content_of(store(world, 2)), OLD)
+
+
+class NoRoomForALine(unittest.TestCase):
+    def test_others_may_have_it(self):
+        """Where a page has room for a shorter line, and none for that of a content in chunks, pages of other sessions may have it: so it is told."""
+        for size in range(0, 90, 3):
+            objects = store(new_world())
+            objects.shared.swept[0] = float("inf")  # (it was swept just now)
+            put(objects, "bucket/first", b"x" * size)
+            with self.assertRaises(NoLine):
+                for number in range(99):
+                    put(objects, f"bucket/{number:02}", OLD)
 
 
 class Many(unittest.TestCase):

@@ -18,13 +18,15 @@ sys.path.insert(0, os.path.dirname(os.path.abspath(__file__)))
 import code_of_s3  # noqa: F401  (which says where the code is)
 
 from gridfs_client.answers import Tag
-from gridfs_client.contents import Inline, digest_of
+from gridfs_client.contents import InChunks, Inline, digest_of
 from gridfs_client.core import Copied, Known, Line, Page, Signpost
-from gridfs_client.errors import CarrierFault, Unanswered
+from gridfs_client.errors import CarrierFault, Damaged, Unanswered
 from gridfs_client.pages import text_of
+from gridfs_client.runs import Run
 from gridfs_s3 import looker
 from gridfs_s3.grids import Grids
 from gridfs_s3.index import Few, Index, Union, line_in
+from gridfs_s3.later import later_page, whole
 from gridfs_s3.listing import Cut, latest_of
 from gridfs_s3.places import KEYS, to_words
 from gridfs_s3.sessions import Pool
@@ -192,6 +194,27 @@ class Pages(unittest.TestCase):
         self.assertEqual([line_in(text, name) for name in ("x 5", "5", "x x 5", "x", "y")], [*lines, None, None])
         self.assertIsNone(line_in(text_of(Page((), (), 5)), "5"))
         self.assertIsNone(line_in(b"", "5"))
+
+    def test_pages_that_are_read_later(self):
+        """They say what pages say that are read at once, whatever is asked first."""
+        draw, contents = random.Random(5), [None, Inline(b""), Inline(b"x" * 9), InChunks(9, "A" * 43, (Run(0, 1, 7),)), InChunks(9, "A" * 43, (Run(0, 1, 7, 2),))]
+        names = ["a", "x - y", "- 1", "@ b", "ü", "5", "1 @ 2"]
+        asks = [
+            lambda page: page.removals(), lambda page: sorted(page.by_name), lambda page: [page.shown(name) for name in [*names, "z"]], lambda page: page.lines,
+            lambda page: page.in_chunks(), lambda page: sorted(line.version for line in page.by_name.values()), lambda page: page.without(Page()).lines, lambda page: (page.number, page.after, page.signposts),
+            lambda page: text_of(page), lambda page: list(page.by_name.items()) and {name: page.by_name.get(name) for name in names},
+        ]  # fmt: skip
+        for turn in range(300):
+            lines = tuple(Line(name, draw.randrange(1, 99), draw.choice(contents), draw.choice(("", "t=5"))) for name in draw.sample(names, draw.randrange(len(names) + 1)))
+            page = Page(lines, draw.choice(((), (0, 7))), 99, (Signpost(1, 0, 9, "west"),) if turn % 10 == 0 else ())
+            found = later_page(text_of(page), "the index")
+            for ask in draw.sample(asks, len(asks)):
+                self.assertEqual(ask(found), ask(page))
+            self.assertEqual((found, hash(found), whole(found)), (page, hash(page), page))
+        with self.assertRaises(Damaged):
+            later_page(b"no page\n", "the index")
+        with self.assertRaises(ValueError):
+            later_page(b"names 2 1\n01 @ a\n", "the index").shown("a")
 
     def test_what_pages_ask_for(self):
         index = Index()

@@ -32,6 +32,7 @@ from .renewing import Renewed
 from .renewing import renew as renewed
 from .sessions import Session
 from .settings import SETTINGS, Settings, default_file
+from .skimming import Skimmed
 from .status import nodes_lines, nodes_value, usage_lines, usage_value
 from .usage import Usage, usage_of
 
@@ -296,12 +297,28 @@ def line_of(entry: Entry) -> str:
 
 
 def ls(opened: Opened | OpenedFleet, args: argparse.Namespace) -> None:
-    silent = dict[str, ClientError]()
     if isinstance(opened, OpenedFleet):
-        found = opened.names().names_told(args.prefix)
-        entries, silent = [entry for entry in found.entries if entry.name != MAP_NAME], found.silent
+        ls_over_grids(opened, args)
+    elif args.json:
+        out(json_of([told_of(entry) for entry in opened.by_sessions(lambda names: names.names(args.prefix))]).encode() + b"\n")
     else:
-        entries = opened.by_sessions(lambda names: names.names(args.prefix))
+        found = opened.by_sessions(lambda names: names.skimmed(sortable, args.prefix))
+        out_lines(line_of_sortable(each) for each in sorted(found))
+
+
+def sortable(found: Skimmed) -> str:
+    """What is told of a name, in one text: many of these take less memory than as many entries. (No name has a letter of number 0, so they are in the names' order.)"""
+    return f"{found.name}\0{found.size:>12}  {found.version}.{found.session}  "
+
+
+def line_of_sortable(text: str) -> str:
+    name, _, told = text.rpartition("\0")
+    return told + name
+
+
+def ls_over_grids(opened: OpenedFleet, args: argparse.Namespace) -> None:
+    found = opened.names().names_told(args.prefix)
+    entries, silent = [entry for entry in found.entries if entry.name != MAP_NAME], found.silent
     tell(args, [told_of(entry) for entry in entries], *map(line_of, entries))
     for grid, fault in silent.items():
         complain(f"names at {grid} are not told: {str(fault).removeprefix(f'{grid}: ')}")

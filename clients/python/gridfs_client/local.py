@@ -11,12 +11,14 @@ import tempfile
 import unicodedata
 from collections.abc import Callable, Iterable, Iterator
 from contextlib import contextmanager
+from itertools import islice
 from pathlib import Path
 from typing import IO, TextIO, TypeVar, cast
 
 Result = TypeVar("Result")
 INPUT, OUTPUT = "standard input", "standard output"
 SHORT = 1 << 20  # bytes of a stream that is kept in memory
+SOME = 10_000  # lines that are written at a time
 UNFINISHED = ".gridfs-client."  # what the names of files begin with that are being written
 
 
@@ -88,6 +90,8 @@ def out(content: bytes) -> None:
 def visible(text: str, is_for_eyes: bool = True) -> str:
     """A text of one line, of which a terminal obeys nothing: each control character is told as an escape, and for a person's eyes each letter that
     can't be printed."""
+    if text.isprintable():
+        return text
 
     def is_odd(letter: str) -> bool:
         return not letter.isprintable() and (is_for_eyes or unicodedata.category(letter) in ("Cc", "Cs"))
@@ -101,9 +105,9 @@ def json_of(value: object) -> str:
 
 
 def out_lines(lines: Iterable[str]) -> None:
-    """Writes lines to standard output: at a terminal for a person's eyes."""
-    is_for_eyes = sys.stdout is not None and sys.stdout.isatty()
-    if content := "".join(f"{visible(line, is_for_eyes)}\n" for line in lines):
+    """Writes lines to standard output, some at a time: at a terminal for a person's eyes."""
+    is_for_eyes, left = sys.stdout is not None and sys.stdout.isatty(), iter(lines)
+    while content := "".join(f"{visible(line, is_for_eyes)}\n" for line in islice(left, SOME)):
         out(content.encode())
 
 

@@ -6,6 +6,7 @@ some moment of a request, is not decided here (sessions.py).
 """
 
 import os
+import re
 import sqlite3
 import tempfile
 import threading
@@ -22,10 +23,11 @@ from gridfs_client.answers import Tag
 from gridfs_client.buckets import Held
 from gridfs_client.core import Known, Line, Page, Version, version_of
 from gridfs_client.errors import ClientError
-from gridfs_client.pages import parse_line, parse_page, text_of
+from gridfs_client.pages import FIRST_WORDS, HEAD, parse_line, parse_page, text_of
 from gridfs_client.ways import Found, version_in
 
 from .errors import tell
+from .later import later_page
 from .places import KEYS, NULL, VERSIONS, Object, of_words
 
 FORM = 1
@@ -42,6 +44,7 @@ LINE: Final = ""  # in the place of a name: the row is that of a line of a sessi
 SIZE: Final = 7  # places in a row
 WORDS: Final = 10
 AT_ONCE = 5_000  # names that are counted before others are let in
+FIRST_LINE: Final = re.compile(HEAD.pattern.encode() + rb"\n")
 BESIDE = (KEYS, VERSIONS)  # names of objects that don't tell their keys
 
 
@@ -102,6 +105,15 @@ def line_in(text: bytes, name: str) -> Line | None:
             return line
         at = text.find(end, at + 1)  # (another name ends so)
     return None
+
+
+def head_in(text: bytes) -> tuple[int, tuple[int, ...]]:
+    """The number of a page, and after which numbers others have to be seen, by its first line; Damaged where it has none."""
+    if found := FIRST_LINE.match(text):
+        number, *after = map(int, found[0][len(FIRST_WORDS) :].split())
+        return number, tuple(after)
+    page = parse_page(text[: text.find(b"\n") + 1], "the index")
+    return page.number, page.after
 
 
 class Names(Protocol):
@@ -213,19 +225,17 @@ class Index:
         self.numbers.clear()
         self.asks.clear()
         for place, number, session, length, head in base.execute("select place, number, session, length(text), substr(text, 1, 500) from pages"):
-            page = parse_page(head[: head.find(b"\n") + 1], "the index")
             self.tags[place // 64, place % 64] = Tag(number, session)
-            self.note(place // 64, place % 64, page)
+            self.note(place // 64, place % 64, *head_in(head))
             self.fullest = max(self.fullest, length)
-        for (text,) in base.execute("select text from pages where instr(text, x'0a3e')"):
+        for (text,) in base.execute("select text from pages where instr(text, x'0a3e')") if self.grid else ():  # (a grid alone has no signposts)
             self.leads.update(each.grid for each in parse_page(text, "the index").signposts)
         self.open = {page for page in {page for page, _ in self.asks} if not self.is_closed(page)}
 
-    def note(self, page: int, session: int, seen: Page) -> None:
-        self.numbers[page, session] = seen.number
-        self.leads.update(each.grid for each in seen.signposts)
-        if seen.after:
-            self.asks[page, session] = seen.after
+    def note(self, page: int, session: int, number: int, after: tuple[int, ...]) -> None:
+        self.numbers[page, session] = number
+        if after:
+            self.asks[page, session] = after
         else:
             self.asks.pop((page, session), None)
 
@@ -296,7 +306,7 @@ class Index:
             told = self.base.execute("select number, session, text from pages where place = ?", (page * 64 + session,)).fetchone()
             if told is None:
                 return None
-            known = Known(Tag(told[0], told[1]), parse_page(told[2], "the index"))
+            known = Known(Tag(told[0], told[1]), later_page(told[2], "the index"))
             self.is_recent(page, session, known, len(told[2]))
             return known
 
@@ -329,7 +339,8 @@ class Index:
                 self.go_on_in_memory(fault)
                 self.keep_text(page, session, known, text)
             self.tags[page, session] = known.tag
-            self.note(page, session, known.page)
+            self.note(page, session, known.page.number, known.page.after)
+            self.leads.update(each.grid for each in known.page.signposts)
             self.open.discard(page) if self.is_closed(page) else self.open.add(page)
             self.is_recent(page, session, known, len(text))
             self.fullest = max(self.fullest, len(text))

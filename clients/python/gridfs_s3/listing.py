@@ -8,7 +8,7 @@ from aiohttp import web
 from .errors import S3Error
 from .gateway import Operations
 from .index import Names, Row, by_keys
-from .markup import document, element, many
+from .markup import document, element, escape, many
 from .places import NULL, UPLOADS, number_of, of_words, upload_of
 from .requests import Asked, answer, iso, place_of, token_of
 from .versions import ID
@@ -133,10 +133,10 @@ class Listings(Operations):
         return asked.query.get("prefix", ""), asked.query.get("delimiter", ""), asked.number("max-keys", 1_000, 1_000)
 
     def row(self, name: str, each: Row, coding: str | None, version: list[str], is_owned: bool) -> str:
-        """One object of a listing. A marker has no content."""
-        content = [element("ETag", f'"{each.etag}"'), element("Size", each.size)] if not each.is_marker else []
-        owner, kind = self.gateway.owner() if is_owned else None, element("StorageClass", "STANDARD") if content else None
-        return many(name, element("Key", encoded(each.key, coding)), *version, element("LastModified", iso(each.time)), *content, owner, kind)
+        """One object of a listing. A marker has no content. (There may be a thousand: so it is written at once.)"""
+        key, owner = escape(encoded(each.key, coding)), self.gateway.owner() if is_owned else ""
+        content = f"<ETag>&quot;{escape(each.etag)}&quot;</ETag><Size>{each.size}</Size>{owner}<StorageClass>STANDARD</StorageClass>" if not each.is_marker else owner
+        return f"<{name}><Key>{key}</Key>{''.join(version)}<LastModified>{iso(each.time)}</LastModified>{content}</{name}>"
 
     def told(self, asked: Asked, cut: Cut, marks: list[str], rows: list[str], is_of_versions: bool = False) -> list[str]:
         """What all listings tell, in the order of S3's schema: there marks say where this one begins, and the next one."""

@@ -18,6 +18,7 @@ from gridfs_client.ways import Ground
 from gridfs_client.writers import Writer
 
 from .index import Index
+from .later import whole
 
 AHEAD = 3_600_000  # milliseconds by which a time may be ahead of the clock
 MOST_SEARCHED = 512  # pages that one put looks at for room
@@ -140,7 +141,7 @@ class SharedBucket(Bucket):
         own = index.known(self.number, self.me) if carried else None
         if own is None or own.tag != carried:
             return
-        self.client = replace(self.client, seen=tuple(index.known(self.number, each) or Known() for each in self.all), journal=own.page)
+        self.client = replace(self.client, seen=tuple(index.known(self.number, each) or Known() for each in self.all), journal=whole(own.page))
         self.is_carried = True
 
     def known(self, state: core.State) -> core.Answer | None:

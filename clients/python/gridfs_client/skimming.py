@@ -1,0 +1,94 @@
+"""Pages skimmed, for listings of many names: of each name the line that counts, and of that line only what is told of it.
+
+Most lines have one of few short forms, which are read by one expression; any other line is read as ever (pages.py). Where pages have to be looked at again, or are none,
+nothing is told: then a bucket looks at them (buckets.py).
+"""
+
+import re
+from collections.abc import Mapping
+from typing import NamedTuple
+
+from .answers import Row, Tag
+from .buckets import Held
+from .contents import NUMBER
+from .layout import Layout
+from .pages import FIRST_WORDS, HEAD, parse_line
+from .sessions import Files
+
+NEVER = Tag(0, 0)  # of a file that was never written
+SURE = r"(?:0|[1-9][0-9]{0,5})"  # no slot that nobody has, and so no line that is damaged by it
+SIZE = r"[1-9][0-9]{0,18}"
+PLACE = rf"(?:{NUMBER} {NUMBER}:{SURE}|{NUMBER}\.{NUMBER}:(?:0|{SIZE}))"
+IN_LINE = r"@(?:[A-Za-z0-9_-]{4})*(?:[A-Za-z0-9_-]{2,3})?"
+PLAIN = re.compile(rf"([1-9][0-9]*) (?:\{{[!-z]+\}} )?(-|{IN_LINE}|{SIZE} [A-Za-z0-9_-]{{43}} {PLACE}) (.+)", re.DOTALL)
+
+
+class Skimmed(NamedTuple):
+    """What a page says of a name: the version, by whose page, and the text of the content."""
+
+    version: int
+    session: int
+    name: str
+    content: str
+
+    @property
+    def size(self) -> int:
+        """In bytes."""
+        if self.content.startswith("@"):
+            return (len(self.content) - 1) * 3 // 4
+        return sum(int(part.partition(" ")[0]) for part in self.content.split("&"))
+
+
+def skimmed_of(held: Held) -> Skimmed:
+    return Skimmed(held.version.number, held.version.session, held.name, held.content.text())
+
+
+def skim(session: Files, layout: Layout, page: int, rows: tuple[Row | None, ...]) -> list[Skimmed] | None:
+    """What the names of a bucket hold, by a look at its volume that was begun before; None where a bucket has to look."""
+    contents = dict[int, bytes]()
+    for each in range(1, layout.sessions + 1):
+        volume, file = layout.page(each, page)
+        row = rows[file]
+        if row is None or row.tag != NEVER:
+            copy = session.read(volume, file)
+            if row and copy.tag < row.tag:
+                return None
+            contents[each] = copy.content
+    return counting(contents)
+
+
+def counting(contents: Mapping[int, bytes]) -> list[Skimmed] | None:
+    """Of each name the greatest line that these pages of sessions show, where that holds something; None where a page asks for another one to be seen with a later
+    number, or is of a form that is not told here."""
+    found, numbers, asks = dict[str, Skimmed](), dict[int, int](), list[tuple[int, int]]()
+    try:
+        for session, content in contents.items():
+            if not content:
+                continue
+            head, *lines, rest = content.decode().split("\n")
+            if rest or not HEAD.fullmatch(head):
+                return None
+            numbers[session], *after = map(int, head[len(FIRST_WORDS) :].split(" "))
+            asks += enumerate(after, 1)
+            for text in lines:
+                line = line_in(text, session)
+                if line is None:
+                    return None
+                before = found.get(line.name)
+                if before is None or before < line:
+                    found[line.name] = line
+    except ValueError:
+        return None
+    if any(numbers.get(session, 0) < number for session, number in asks):
+        return None
+    return [line for line in found.values() if line.content != "-"]
+
+
+def line_in(text: str, session: int) -> Skimmed | None:
+    """A line of a session's page; None for what is of several grids. A ValueError for what is none."""
+    if plain := PLAIN.fullmatch(text):
+        return Skimmed(int(plain[1]), session, plain[3], plain[2])
+    if text.startswith(">"):
+        return None
+    line = parse_line(text)
+    return None if line.copied else Skimmed(line.version, session, line.name, line.content.text() if line.content else "-")
