@@ -32,12 +32,12 @@ DEPLOY, PACKAGE = os.path.join(TOP, "deploy", "mqtt"), os.path.join(TOP, "client
 LONG, MOST_MEMORY = 100, 84  # MiB of a content, and of a process that moves it and plays the nodes too
 ATTEMPTS, LEAST_OPERATIONS, MOST_OPERATIONS = 10, 50, 2_000  # of trials over nodes; a bug has to be found within the most
 GROUPS = {"broker": "broker", "package": "checkers"}  # of tests/packages, which these parts want
-SHAPES = ("MIXED", "CROWDED", "LENDING", "REMOVING", "DYING", "SWEEPING", "UNSURE", "LOOKING")
+SHAPES = ("MIXED", "CROWDED", "LENDING", "REMOVING", "DYING", "SWEEPING", "UNSURE", "LOOKING", "SPLITTING", "DIVIDED")
 
 
 def steps():
     loader, told = unittest.TestLoader(), io.StringIO()
-    suite = loader.loadTestsFromNames(["test_core", "test_parts", "test_sessions", "test_names", "test_looks", "test_status", "test_mirror", "test_journals"])
+    suite = loader.loadTestsFromNames(["test_core", "test_parts", "test_sessions", "test_names", "test_splits", "test_looks", "test_status", "test_mirror", "test_journals"])
     result = unittest.TextTestRunner(told, verbosity=0).run(suite)
     return f"{result.testsRun} tests", [f"{test}: {text.splitlines()[-1]}" for test, text in result.failures + result.errors]
 
