@@ -19,6 +19,7 @@ import looking
 import outages
 import planted
 import registers
+import splitting
 import trial
 import with_room
 import worlds
@@ -95,6 +96,32 @@ def bugs_in_worlds():
     """Each wrong variant of the core is found."""
     missed = [f"{name} is not found" for name in worlds.VARIANTS if not worlds.refuses(name)]
     return f"{len(worlds.VARIANTS)} wrong variants in worlds", missed
+
+
+def bugs_in_splits():
+    """Each wrong variant of how pages split is found."""
+    missed = [f"{name} is not found" for name in splitting.VARIANTS if not splitting.refuses(name)]
+    return f"{len(splitting.VARIANTS)} wrong variants in worlds of pages that split", missed
+
+
+def search_splits(bounds):
+    bounds = splitting.Bounds(**bounds)
+    what = "pages that split, " + ", ".join(f"{number} {name}" for name, number in bounds._asdict().items() if number)
+    try:
+        count, ways, _ = splitting.search(bounds)
+    except splitting.Wrong as wrong:
+        return what, ["; ".join(wrong.args)]
+    return f"{count} worlds, {ways} steps from them, of {what}", []
+
+
+def wander_splits(ways, bounds):
+    bounds = splitting.Bounds(**bounds)
+    what = "pages that split, " + ", ".join(f"{number} {name}" for name, number in bounds._asdict().items() if number)
+    try:
+        _, count = splitting.wander(bounds, ways)
+    except splitting.Wrong as wrong:
+        return what, ["; ".join(wrong.args)]
+    return f"{ways} random ways, {count} steps, of {what}", []
 
 
 def search(bounds):

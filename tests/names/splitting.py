@@ -476,9 +476,9 @@ VARIANTS = {
     "an old page is read behind the new one": (splits, "reading", read_late, ONE),
     "closed by one signpost": (splits.Split, "is_closed", closed_by_one, BESIDE),
     "an old page counts as long as it has lines": (splits, "reading", old_counts, AGAIN),
-    "a put behind the signpost": (HERE, "has_split", never_split, Bounds(2)),
+    "a put behind the signpost": (HERE, "has_split", never_split, ONE._replace(changes=2)),
     "a new page begins without the old lines": (splits, "part_of", empty, ONE),
-    "numbers begin anew": (splits, "part_of", numbered_anew, ONE),
+    "numbers begin anew": (splits, "part_of", numbered_anew, ONE._replace(others=1)),
     "a new client goes on from the old journal": (splits, "reading_journal", journal_of_before, AGAIN),
 }
 

@@ -245,7 +245,7 @@ class Splitting(unittest.TestCase):
         before.layout = before.writer.layout = Layout(2, memory.layout.volumes[:4])
         self.assertEqual(held(before), contents)
         grow(memory, 1)
-        self.assertRaisesRegex(BadSettings, "a later plan", before.get, NAMES[0])
+        self.assertRaisesRegex(BadSettings, "not known here", before.get, NAMES[0])
         self.assertRaises(BadSettings, before.put, NAMES[0], b"")
         self.assertRaises(BadSettings, before.names)
         self.assertRaises(BadSettings, before.sweep)
