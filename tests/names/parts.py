@@ -15,6 +15,7 @@ from histories import HERE
 sys.path[:0] = [os.path.join(HERE, "..", "nodes"), os.path.join(HERE, "..")]
 os.environ["PATH"] += ":/usr/sbin"  # (where Debian has mosquitto and nginx)
 import commands
+import growing
 import looking
 import outages
 import planted

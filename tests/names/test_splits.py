@@ -1,14 +1,16 @@
 """Pages that split: where they stand, and what clients do that die at each step."""
 
 import unittest
+from dataclasses import replace
 
 from histories import HERE, Killed
 from memory import Memory, Write
 
-from gridfs_client import BadSettings, Copy, Layout, NoRoom, Tag, Volume, core, splits
+from gridfs_client import BadSettings, Copy, Damaged, Layout, NoRoom, Tag, Unanswered, Volume, core, splits
 from gridfs_client.buckets import Bucket
 from gridfs_client.layout import MARK
 from gridfs_client.pages import parse_page, text_of
+from gridfs_client.usage import usage_of
 from gridfs_client.ways import Ground
 
 assert HERE
@@ -253,6 +255,50 @@ class Splitting(unittest.TestCase):
         bucket = Bucket(memory.client(2).session, memory.layout, 0, Ground("east", lambda _: 0))
         self.assertRaisesRegex(BadSettings, "a map can't", bucket.refresh)
         self.assertEqual(held(memory.client(2)), contents)
+
+    def test_catch_up(self):
+        """A page that others ask for in vain catches up, an old one or a new one."""
+        for sessions in ((), (1, 2)):
+            memory, contents = filled(levels=(2,))
+            if sessions:
+                grow(memory, *sessions)
+            for number in range(memory.layout.levels[-1].first, memory.layout.levels[-1].first + 2) if sessions else (0,):
+                place = memory.layout.page(1, number)
+                memory.take(memory.begin(place, 1, text_of(replace(page_in(memory, 1, number), after=(0, 10**9)))))
+            self.assertRaises(Damaged, memory.client(1).names)
+            self.assertEqual(memory.client(1, others=(2,)).catch_up(), 2 if sessions else 1)
+            self.assertEqual(held(memory.client(1)), contents)
+
+    def test_usage(self):
+        memory, contents = filled(levels=(2, 3), pages=2)
+        self.assertEqual(usage_of(memory.client(1)).pages, 2 * 2)
+        memory.client(2).grow()
+        used = usage_of(memory.client(1))
+        self.assertEqual((used.pages, used.names), (2 * 12, len(contents)))
+
+    def test_a_look_that_failed(self):
+        """What was looked at within an operation is looked at anew within the next one."""
+        memory, contents = filled(levels=(2,))
+        for step in range(1, 40):
+            memory, contents = filled(levels=(2,))
+            grow(memory, 2)
+            fails = [step]
+
+            def at_step(now, fails=fails):
+                if now in fails:
+                    raise Unanswered("no answer")
+
+            files = memory.client(1, at_step)
+            for name in NAMES[:2]:
+                try:
+                    files.put(name, b"first")
+                except Unanswered:
+                    pass
+            fails.clear()
+            memory.client(2).put(NAMES[0], b"last")
+            self.assertEqual(files.get(NAMES[0])[0], b"last", step)
+            files.put(NAMES[0], b"later")
+            self.assertEqual(memory.client(2).get(NAMES[0])[0], b"later", step)
 
     def test_no_room_for_a_signpost(self):
         memory = Memory(levels=(2,))

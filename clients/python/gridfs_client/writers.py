@@ -54,13 +54,14 @@ class Writer:
             bucket = self.bucket(self.layout.page_of(name, bucket.level_number + 1))
         return bucket
 
-    def looked_at(self, name: str, look: Callable[[Bucket], None]) -> Bucket:
-        """The bucket of a name, once it was looked at: another one where the look shows that its pages have split."""
+    def looked_at(self, name: str, look: Callable[[Bucket, bool], None]) -> Bucket:
+        """The bucket of a name, once it was looked at: another one where the look shows that its pages have split. A look is told whether the bucket before was
+        just looked at."""
         bucket = self.place_of(name)
-        look(bucket)
+        look(bucket, False)
         while bucket.has_split():
             bucket = self.part_for(bucket, name)
-            look(bucket)
+            look(bucket, True)
         return bucket
 
     def has_parts(self, bucket: Bucket) -> bool:
@@ -68,10 +69,8 @@ class Writer:
         return bucket.level_number + 1 < len(self.layout.levels)
 
     def part_for(self, bucket: Bucket, name: str) -> Bucket:
-        """The bucket of the next level that has a name of this one, which was just looked at."""
-        part = self.bucket(self.layout.page_of(name, bucket.level_number + 1))
-        part.is_fresh = True
-        return part
+        """The bucket of the next level that has a name of this one."""
+        return self.bucket(self.layout.page_of(name, bucket.level_number + 1))
 
     def change(self, bucket: Bucket, journal: Page) -> None:
         """Announces and carries a journal, and notes the slots that its page doesn't name any more: once that was carried, no page that does is seen
@@ -179,8 +178,7 @@ class Writer:
         level, lines = bucket.level_number + 1, bucket.journal.lines
         for page in sorted({self.layout.page_of(line.name, level) for line in lines}):
             part = self.bucket(page)
-            part.is_fresh = True  # (the one before was just looked at)
-            part.look()
+            part.look(is_fresh=True)
             if not part.is_in_place():
                 self.change(part, part.changed(None))
         if not splits.is_split(bucket.client.seen[self.me - 1].page, level):
