@@ -1,6 +1,7 @@
 """Pages that split: where they stand, and what clients do that die at each step."""
 
 import unittest
+from contextlib import suppress
 from dataclasses import replace
 
 from histories import HERE, Killed
@@ -278,24 +279,20 @@ class Splitting(unittest.TestCase):
 
     def test_a_look_that_failed(self):
         """What was looked at within an operation is looked at anew within the next one."""
-        memory, contents = filled(levels=(2,))
         for step in range(1, 40):
-            memory, contents = filled(levels=(2,))
+            memory, fails = Memory(sessions=3, levels=(2,)), [step]
+            memory.client(2).put(NAMES[0], b"first")
             grow(memory, 2)
-            fails = [step]
 
             def at_step(now, fails=fails):
                 if now in fails:
                     raise Unanswered("no answer")
 
             files = memory.client(1, at_step)
-            for name in NAMES[:2]:
-                try:
-                    files.put(name, b"first")
-                except Unanswered:
-                    pass
+            with suppress(Unanswered):
+                files.put(NAMES[0], b"next")
             fails.clear()
-            memory.client(2).put(NAMES[0], b"last")
+            memory.client(3).put(NAMES[0], b"last")
             self.assertEqual(files.get(NAMES[0])[0], b"last", step)
             files.put(NAMES[0], b"later")
             self.assertEqual(memory.client(2).get(NAMES[0])[0], b"later", step)
