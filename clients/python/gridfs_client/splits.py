@@ -67,10 +67,10 @@ class Split:
     old: tuple[Known, ...]
     journal: Page | None = None
     is_fresh: bool = False  # the old pages were looked at within the operation
-    is_new: bool = False  # the own new journal was written: so the old page had the signpost before
+    is_new: bool = False  # the own new journal was written, though perhaps not the page: so the old page had the signpost before
 
     def has_signpost(self, session: int) -> bool:
-        return is_split(self.old[session - 1].page, self.level) or session == self.session and self.is_new
+        return is_split(self.old[session - 1].page, self.level)
 
     def is_closed(self) -> bool:
         """Whether each old page showed the signpost. What was seen of it counts for good, as long as the new one is not written: so nobody has to look at it again."""
@@ -129,6 +129,10 @@ def listing(split: Split) -> Work:
                 known = yield OLD, ReadPage(session)
                 assert isinstance(known, Known)
                 split = split.saw(session, known)
+    elif split.is_fresh and split.session and not split.has_signpost(split.session):
+        known = yield OLD, ReadPage(split.session)  # (a look for a change is at the other pages alone)
+        assert isinstance(known, Known)
+        split = split.saw(split.session, known)
     split = replace(split, is_fresh=False)
     found: list[Tag | None] = [known.tag for known in split.old]
     if any(map(split.has_signpost, range(1, len(found) + 1))):
