@@ -71,7 +71,7 @@ def growing(program):
         while (told := run("grow", "--json"))[0] == 0 and b'"absent": []' not in told[1] and time.monotonic() < until:
             pass
         seen.held("grow", told[0], 0)
-        seen.held("all pages have split", (run("grow", "--json")[1], b"level1" in run("read", "0", "7")[1]), (b'{"pages": 0, "lines": 0, "absent": []}\n', True))
+        seen.held("all pages have split", (run("grow", "--json")[1], b"level1" in run("read", "1", "0")[1]), (b'{"pages": 0, "lines": 0, "absent": []}\n', True))
         for each in beside:
             seen.wrong += each.end()
             seen.held("puts beside", each.count > 1, True)

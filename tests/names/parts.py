@@ -34,7 +34,7 @@ DEPLOY, PACKAGE = os.path.join(TOP, "deploy", "mqtt"), os.path.join(TOP, "client
 LONG, MOST_MEMORY = 100, 84  # MiB of a content, and of a process that moves it and plays the nodes too
 ATTEMPTS, LEAST_OPERATIONS, MOST_OPERATIONS = 10, 50, 2_000  # of trials over nodes; a bug has to be found within the most
 GROUPS = {"broker": "broker", "package": "checkers"}  # of tests/packages, which these parts want
-SHAPES = ("MIXED", "CROWDED", "LENDING", "REMOVING", "DYING", "SWEEPING", "UNSURE", "LOOKING", "SPLITTING", "DIVIDED")
+SHAPES = ("MIXED", "CROWDED", "LENDING", "REMOVING", "DYING", "SWEEPING", "UNSURE", "LOOKING", "SPLITTING", "DIVIDED", "PARTED")
 
 
 def steps():

@@ -282,6 +282,8 @@ class Splitting(unittest.TestCase):
         for step in range(1, 40):
             memory, fails = Memory(sessions=3, levels=(2,)), [step]
             memory.client(2).put(NAMES[0], b"first")
+            beside = next(name for name in NAMES[1:] if memory.layout.page_of(name, 1) == memory.layout.page_of(NAMES[0], 1))
+            memory.client(1).put(beside, b"beside")
             grow(memory, 2)
 
             def at_step(now, fails=fails):
@@ -292,10 +294,36 @@ class Splitting(unittest.TestCase):
             with suppress(Unanswered):
                 files.put(NAMES[0], b"next")
             fails.clear()
+            self.assertEqual(files.get(beside)[0], b"beside", step)
             memory.client(3).put(NAMES[0], b"last")
             self.assertEqual(files.get(NAMES[0])[0], b"last", step)
             files.put(NAMES[0], b"later")
             self.assertEqual(memory.client(2).get(NAMES[0])[0], b"later", step)
+
+    def test_goes_on_behind_one_that_died(self):
+        """One client of a session dies amid a put, the next one gets no answer amid another, and goes on."""
+        for died in range(4, 16):
+            for step in range(1, 16):
+                memory, fails = Memory(sessions=2, levels=(2,)), [step]
+                beside = next(name for name in NAMES[1:] if memory.layout.page_of(name, 1) == memory.layout.page_of(NAMES[0], 1))
+                memory.client(1).put(beside, b"beside")
+                grow(memory, 2)
+
+                def dies(now, died=died):
+                    if now == died:
+                        raise Killed
+
+                def at_step(now, fails=fails):
+                    if now in fails:
+                        raise Unanswered("no answer")
+
+                with suppress(Killed):
+                    memory.client(1, dies).put(NAMES[0], b"first")
+                files = memory.client(1, at_step)
+                with suppress(Unanswered):
+                    files.put(NAMES[0], b"next")
+                fails.clear()
+                self.assertEqual((files.get(beside)[0], memory.client(2).get(beside)[0]), (b"beside", b"beside"), (died, step))
 
     def test_no_room_for_a_signpost(self):
         memory = Memory(levels=(2,))
