@@ -15,10 +15,12 @@ from histories import HERE
 sys.path[:0] = [os.path.join(HERE, "..", "nodes"), os.path.join(HERE, "..")]
 os.environ["PATH"] += ":/usr/sbin"  # (where Debian has mosquitto and nginx)
 import commands
+import growing
 import looking
 import outages
 import planted
 import registers
+import splitting
 import trial
 import with_room
 import worlds
@@ -32,13 +34,13 @@ DEPLOY, PACKAGE = os.path.join(TOP, "deploy", "mqtt"), os.path.join(TOP, "client
 LONG, MOST_MEMORY = 100, 84  # MiB of a content, and of a process that moves it and plays the nodes too
 ATTEMPTS, LEAST_OPERATIONS, MOST_OPERATIONS = 10, 50, 2_000  # of trials over nodes; a bug has to be found within the most
 GROUPS = {"broker": "broker", "package": "checkers"}  # of tests/packages, which these parts want
-SHAPES = ("MIXED", "CROWDED", "LENDING", "REMOVING", "DYING", "SWEEPING", "UNSURE", "LOOKING")
+SHAPES = ("MIXED", "CROWDED", "LENDING", "REMOVING", "DYING", "SWEEPING", "UNSURE", "LOOKING", "SPLITTING", "DIVIDED", "PARTED")
 LISTED = ("LISTING", "MIXED", "UNSURE")  # with listings that skim pages
 
 
 def steps():
     loader, told = unittest.TestLoader(), io.StringIO()
-    suite = loader.loadTestsFromNames(["test_core", "test_parts", "test_sessions", "test_names", "test_skimming", "test_looks", "test_status", "test_mirror", "test_journals"])
+    suite = loader.loadTestsFromNames(["test_core", "test_parts", "test_sessions", "test_names", "test_skimming", "test_splits", "test_looks", "test_status", "test_mirror", "test_journals"])
     result = unittest.TextTestRunner(told, verbosity=0).run(suite)
     return f"{result.testsRun} tests", [f"{test}: {text.splitlines()[-1]}" for test, text in result.failures + result.errors]
 
@@ -101,6 +103,32 @@ def bugs_in_worlds():
     """Each wrong variant of the core is found."""
     missed = [f"{name} is not found" for name in worlds.VARIANTS if not worlds.refuses(name)]
     return f"{len(worlds.VARIANTS)} wrong variants in worlds", missed
+
+
+def bugs_in_splits():
+    """Each wrong variant of how pages split is found."""
+    missed = [f"{name} is not found" for name in splitting.VARIANTS if not splitting.refuses(name)]
+    return f"{len(splitting.VARIANTS)} wrong variants in worlds of pages that split", missed
+
+
+def search_splits(bounds):
+    bounds = splitting.Bounds(**bounds)
+    what = "pages that split, " + ", ".join(f"{number} {name}" for name, number in bounds._asdict().items() if number)
+    try:
+        count, ways, _ = splitting.search(bounds)
+    except splitting.Wrong as wrong:
+        return what, ["; ".join(wrong.args)]
+    return f"{count} worlds, {ways} steps from them, of {what}", []
+
+
+def wander_splits(ways, bounds):
+    bounds = splitting.Bounds(**bounds)
+    what = "pages that split, " + ", ".join(f"{number} {name}" for name, number in bounds._asdict().items() if number)
+    try:
+        _, count = splitting.wander(bounds, ways)
+    except splitting.Wrong as wrong:
+        return what, ["; ".join(wrong.args)]
+    return f"{ways} random ways, {count} steps, of {what}", []
 
 
 def search(bounds):

@@ -48,12 +48,15 @@ class Grid:
 
 
 @contextlib.contextmanager
-def grid(program):
-    started = Grid(program)
+def grid_of(program, plan=PLAN):
+    started = Grid(program, plan)
     try:
         yield started
     finally:
         started.end()
+
+
+grid = grid_of
 
 
 def begin(*words, given=None):

@@ -1,11 +1,14 @@
 """What stands at each step of a change of an object: the gateway's objects over registers in memory, with clients that die at each step, and writes
 of theirs that take effect late. And the forms of what is beside a content."""
 
+import contextlib
 import hashlib
+import io
 import os
 import random
 import sys
 import unittest
+from dataclasses import replace
 from unittest import mock
 
 HERE = os.path.dirname(os.path.abspath(__file__))
@@ -15,9 +18,9 @@ from bodies_in_memory import Body
 from histories import Killed
 from memory import Memory
 
-from gridfs_client import OneByOne, Unanswered
+from gridfs_client import BadSettings, OneByOne, Unanswered
 from gridfs_client.contents import Joined
-from gridfs_s3.errors import S3Error
+from gridfs_s3.errors import S3Error, error_of
 from gridfs_s3.places import of_words, parts_of, upload_name
 from gridfs_s3.shared import Shared
 from gridfs_s3.store import Store
@@ -34,6 +37,31 @@ def client(memory, number=1, at_step=None, shared=None):
         return found
 
     return memory.client(number, at_step, kind)
+
+
+class MorePages(unittest.TestCase):
+    def test_a_page_that_has_split(self):
+        """A gateway follows no names to more pages: it tells so, whatever it knew before, and nothing else; and nothing is changed."""
+        memory = Memory(sessions=3, page_blocks=64, slots=24, slot_blocks=4, levels=(2,))
+        whole, memory.layout = memory.layout, replace(memory.layout, most_levels=1)
+        shared = Shared()
+        one, two = client(memory, 1, shared=shared), client(memory, 2, shared=shared)
+        put(one, NAME, OLD)
+        two.look_at(range(two.layout.pages_volumes))
+        self.assertEqual(content_of(two, NAME), OLD)
+        memory.layout = whole
+        memory.client(3).grow()
+        memory.layout = replace(whole, most_levels=1)
+        before = dict(memory.registers)
+        for store in (one, two, client(memory, 1), client(memory, 2)):
+            for call in (store.look, store.latest, lambda name, store=store: put(store, name, b"new"), lambda _, store=store: store.look_at(range(store.layout.pages_volumes)),
+                         lambda _, store=store: list(store.all()), store.remove):  # fmt: skip
+                with self.assertRaises(BadSettings) as told, contextlib.redirect_stderr(io.StringIO()):
+                    call(NAME)
+                with contextlib.redirect_stderr(io.StringIO()):
+                    error = error_of(told.exception)
+                self.assertEqual((error.code, error.status), ("InternalError", 500))
+        self.assertEqual(memory.registers, before)
 
 
 def fresh():

@@ -15,7 +15,7 @@ from typing import IO, Any, TypeVar
 
 from . import __version__
 from .answers import PlanTold
-from .asking import SILENCE, ask_all, ask_plan, why_unanswered
+from .asking import LAST_CALL, SILENCE, ask_all, ask_plan, why_unanswered
 from .carriers import Carrier
 from .errors import BadFile, BadSettings, ClientError, Refused, Silent, Skipped, Unanswered
 from .fleet import MAP_NAME, FleetFiles, expect_no_map
@@ -25,7 +25,7 @@ from .layout import BLOCK, layout_of
 from .local import INPUT, complain, content_of, cut, go_to, json_of, out, out_lines, rewindable, to_target
 from .memory import keep_for_chunks
 from .mirror import GRID, Removal, ToFolder, ToGrid, prefix_of, shown
-from .names import Entry, NamedFiles, place_to_cut
+from .names import Entry, Grown, NamedFiles, place_to_cut
 from .open_grids import OpenGrids, one_by_one
 from .opening import LEAST, OpenSessions, turn_of
 from .renewing import Renewed
@@ -114,7 +114,16 @@ class Opened:
 
     def names(self, session: Session | None = None) -> NamedFiles:
         layout, sessions = layout_of(self.told), self.sessions
-        return NamedFiles(session or self.session, layout, self.progress, sessions.helpers, others=sessions.others)
+        files = NamedFiles(session or self.session, layout, self.progress, sessions.helpers, others=sessions.others)
+        files.may_grow = lambda: not self.of_before(LAST_CALL)
+        return files
+
+    def of_before(self, seconds: float) -> list[int]:
+        """The nodes that answer, and have not told the plan that others did. (One that is silent so long has to begin with the last one.)"""
+        nodes = ask_all(self.carrier, seconds, None)
+        told = self.carrier.volumes
+        standing = [] if nodes is None else [node for place in range(nodes.told.nodes) if (node := nodes.told.node_at(place)) not in nodes.silent]
+        return [node for node in standing if told.get(node, 0) < max([len(self.told.volumes), *told.values()])]
 
     def by_sessions(self, call: Callable[[NamedFiles], Result], again: Callable[[], None] | None = nothing) -> Result:
         """What a call gives. Where the home of its session dies of it, or is silent, it is begun anew by another session, if that is as if it had not begun:
@@ -246,6 +255,7 @@ def parser() -> argparse.ArgumentParser:
          **{"--catch-up": dict(is_given, help="after damage: first let pages that are older than others ask for catch up"),
             "--erase": dict(is_given, help="write each slot that no name needs empty at every column, so that no node keeps an older copy")})  # fmt: skip
     word("renew", renew, "move contents that are in slots to chunks, once a plan gives room for these; by one session after another, so that others go on")
+    word("grow", grow, "let names go on to more pages, once a plan gives these and all nodes have it; by one session after another, so that others go on")
     # What lies below names: the numbered files themselves.
     word("write", write, "write a numbered file; what names stand on can be spoilt so", volume=volume, file=number, path=source)
     word("read", read, "tell a numbered file's content", volume=volume, file=number, path=target)
@@ -385,6 +395,19 @@ def renew(opened: Opened | OpenedFleet, args: argparse.Namespace) -> None:
         else:
             absent.append(session)
     text = f"contents: {told.moved} moved to chunks, {told.bytes} bytes; {told.left} left in slots, since their pages are too full"
+    tell(args, vars(told) | {"absent": absent}, text + (f"; {'sessions' if len(absent) > 1 else 'session'} {listed(absent)} could not be had" if absent else ""))
+
+
+def grow(opened: Opened, args: argparse.Namespace) -> None:
+    if before := opened.of_before(SILENCE):
+        raise BadSettings(f"{'nodes' if len(before) > 1 else 'node'} {listed(before)} told an earlier plan: start all nodes with the last one, and then begin anew")
+    told, absent = Grown(), []
+    for session, names in opened.one_by_one():
+        if names:
+            told += names.grow()
+        else:
+            absent.append(session)
+    text = f"pages: {told.pages} have split, and {told.lines} lines went to others by that"
     tell(args, vars(told) | {"absent": absent}, text + (f"; {'sessions' if len(absent) > 1 else 'session'} {listed(absent)} could not be had" if absent else ""))
 
 

@@ -120,11 +120,11 @@ class Journals:
 
     def lines_of_pages(self, tenant: str) -> Iterator[bytes]:
         try:
-            volumes = layout_of(self.plan.tenants[tenant]).pages_volumes
+            volumes = set(layout_of(self.plan.tenants[tenant]).all_pages_volumes)
         except BadSettings:
             return
         for (whose, volume, file), place in self.places.items():
-            if whose == tenant and volume < volumes:
+            if whose == tenant and volume in volumes:
                 yield f"kept {tenant} {volume} {file} {place.tag.number} {place.tag.session} ".encode() + place.text() + b"\n"
 
     def files(self, tenant: str, as_they_are: bool = False) -> NamedFiles:
@@ -152,14 +152,14 @@ class JournalFiles:
     may_leave = False
 
     def __init__(self, journals: Journals, tenant: str, layout: Layout, as_they_are: bool):
-        self.places, self.tenant, self.layout, self.as_they_are = journals.places, tenant, layout, as_they_are
+        self.places, self.tenant, self.layout, self.as_they_are, self.pages_volumes = journals.places, tenant, layout, as_they_are, set(layout.all_pages_volumes)
 
     def read(self, volume: int, file: int) -> Copy:
         place = self.places.get((self.tenant, volume, file))
         if place is None:
             return Copy(NO_COPY, b"")
         content = place.content()
-        if self.as_they_are and volume < self.layout.pages_volumes:
+        if self.as_they_are and volume in self.pages_volumes:
             content = HEAD.sub(rb"\1", content, count=1) if HEAD.match(content) else content
         return Copy(place.tag, content)
 

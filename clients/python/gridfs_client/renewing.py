@@ -53,13 +53,13 @@ class Renewal:
         self.files, self.writer, self.contents = files, files.writer, contents
 
     def run(self) -> Renewed:
-        return sum((self.renew(self.writer.bucket(page)) for page in range(self.writer.layout.pages)), Renewed())
+        return sum(map(self.renew, self.writer.all_buckets()), Renewed())
 
     def renew(self, bucket: Bucket) -> Renewed:
         """The contents of a page: each batch of lines goes by one change."""
         bucket.look()
         journal = bucket.changed(None)  # (without lines of which others show greater ones)
-        wanted, batch = self.wanted(journal), list[Line]()
+        wanted, batch = self.wanted(bucket, journal), list[Line]()
         told = Renewed(left=sum(map(is_in_slots, journal.lines)) - len(wanted))
         try:
             for line in wanted:
@@ -71,12 +71,12 @@ class Renewal:
             raise
         return told + self.change(bucket, batch)
 
-    def wanted(self, journal: Page) -> list[Line]:
+    def wanted(self, bucket: Bucket, journal: Page) -> list[Line]:
         """The lines whose contents are in slots, as many as the page has room for once they are in chunks."""
         found = list[Line]()
         for line in filter(is_in_slots, journal.lines):
             longer = with_lines(journal, [replace(line, content=self.example(line))])
-            if self.writer.has_room(longer):
+            if self.writer.has_room(bucket, longer):
                 journal = longer
                 found.append(line)
         return found

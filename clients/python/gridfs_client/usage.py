@@ -62,7 +62,7 @@ def usage_of(files: NamedFiles) -> Usage:
         names=len(entries),
         bytes_used=sum(entry.size for entry in entries),
         bytes_free=sum(slot.room for slot in free),
-        pages=layout.sessions * layout.pages,
+        pages=layout.sessions * sum(not bucket.has_split() for bucket in files.writer.buckets.values()),
         fullest=fullest_page(files, layout),
         slots_taken=sum(map(len, taken.values())),
         slots_without_a_name=sum((session, slot) not in named for session, slots in taken.items() for slot in slots),

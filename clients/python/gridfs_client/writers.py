@@ -2,10 +2,11 @@
 
 import time
 
-from collections.abc import Collection, Iterable
+from collections.abc import Callable, Collection, Iterable, Iterator
 from contextlib import suppress
+from itertools import chain
 
-from . import ways
+from . import splits, ways
 from .buckets import Bucket
 from .contents import InSlots, Part
 from .core import Line, Page
@@ -39,7 +40,37 @@ class Writer:
         return self.buckets[page]
 
     def new_bucket(self, page: int) -> Bucket:
-        return Bucket(self.session, self.layout, page, self.ground)
+        return Bucket(self.session, self.layout, page, self.ground, self.bucket_before(page))
+
+    def bucket_before(self, page: int) -> Bucket | None:
+        """That of whose names this page has a part."""
+        before = self.layout.before(page)
+        return None if before is None else self.bucket(before)
+
+    def place_of(self, name: str) -> Bucket:
+        """The bucket of a name, as far as is known now."""
+        bucket = self.bucket(self.layout.page_of(name))
+        while bucket.has_split():
+            bucket = self.bucket(self.layout.page_of(name, bucket.level_number + 1))
+        return bucket
+
+    def looked_at(self, name: str, look: Callable[[Bucket, bool], None]) -> Bucket:
+        """The bucket of a name, once it was looked at: another one where the look shows that its pages have split. A look is told whether the bucket before was
+        just looked at."""
+        bucket = self.place_of(name)
+        look(bucket, False)
+        while bucket.has_split():
+            bucket = self.part_for(bucket, name)
+            look(bucket, True)
+        return bucket
+
+    def has_parts(self, bucket: Bucket) -> bool:
+        """Whether there is a next level."""
+        return bucket.level_number + 1 < len(self.layout.levels)
+
+    def part_for(self, bucket: Bucket, name: str) -> Bucket:
+        """The bucket of the next level that has a name of this one."""
+        return self.bucket(self.layout.page_of(name, bucket.level_number + 1))
 
     def change(self, bucket: Bucket, journal: Page) -> None:
         """Announces and carries a journal, and notes the slots that its page doesn't name any more: once that was carried, no page that does is seen
@@ -82,6 +113,8 @@ class Writer:
         """Changes no name, where a line can go, or the page is to say that it was made beside another one's removal. With `anew` also where this client
         hasn't carried the page yet, so that nothing that an earlier one wrote can come into it. How many removals are forgotten by that."""
         bucket.look()
+        if bucket.has_split():
+            return 0  # (its names are in other buckets by now)
         before, journal = bucket.journal, bucket.changed(None)
         if (journal.lines, journal.after) == (before.lines, before.after) and (bucket.is_carried or not anew):
             return 0
@@ -92,19 +125,18 @@ class Writer:
         """The journal that announces a line; None for no room. An eighth of the page is kept for removals, so that names can be taken away from a
         full one."""
         journal = bucket.changed(line, besides)
-        return journal if self.has_room(journal, line.content is None) else None
+        return journal if self.has_room(bucket, journal, line.content is None) else None
 
-    def has_room(self, journal: Page, for_removals: bool = False) -> bool:
+    def has_room(self, bucket: Bucket, journal: Page, for_removals: bool = False) -> bool:
         """Whether a page has room for these lines, beside what is kept for removals."""
-        room = self.layout.lines_room if for_removals else self.layout.contents_room
+        room = bucket.level.lines_room if for_removals else bucket.level.contents_room
         return length_of_lines(journal.lines) + length_of_signposts(journal) <= room
 
     def find_room(self) -> None:
         """Looks through all pages of the session for slots that are taken and not needed: left by a client that died, or of lines that can go. A
         request for each page, and four where this client hasn't carried it yet."""
         slots, puts = set[int](), set[int]()
-        for page in range(self.layout.pages):
-            bucket = self.bucket(page)
+        for bucket in self.all_buckets():
             self.tidy(bucket, anew=True)
             slots |= bucket.journal.slots(self.me)
             puts |= bucket.journal.puts()
@@ -122,7 +154,38 @@ class Writer:
             raise Damaged(f"session {self.me}: a list that a page names is gone") from None
 
     def journals(self) -> Iterable[Page]:
-        return (self.bucket(page).journal for page in range(self.layout.pages))
+        return (bucket.journal for bucket in self.all_buckets(is_known=True))
+
+    def all_buckets(self, is_known: bool = False) -> Iterator[Bucket]:
+        """The buckets of all names: those of the next level in place of such as have split. Whether they have it is looked at, unless that `is_known`."""
+        return chain.from_iterable(self.parts_of(self.bucket(page), is_known) for page in range(self.layout.pages))
+
+    def parts_of(self, bucket: Bucket, is_known: bool) -> Iterator[Bucket]:
+        level = bucket.level_number + 1
+        if level < len(self.layout.levels) and not is_known:
+            bucket.look()
+        if not bucket.has_split():
+            yield bucket
+            return
+        for page in self.layout.parts_of(bucket.number):
+            yield from self.parts_of(self.bucket(page), is_known)
+
+    # Pages that split
+
+    def split(self, bucket: Bucket) -> int:
+        """Has the page of the session split, where it hasn't wholly: its lines go to pages of the next level. How many these are."""
+        bucket.look(own=True)
+        level, lines = bucket.level_number + 1, bucket.journal.lines
+        for page in sorted({self.layout.page_of(line.name, level) for line in lines}):
+            part = self.bucket(page)
+            part.look(is_fresh=True)
+            if not part.is_in_place():
+                self.change(part, part.changed(None))
+        if not splits.is_split(bucket.client.seen[self.me - 1].page, level):
+            bucket.carry_for_later(splits.signed(bucket.journal, level))
+        if lines:
+            bucket.carry_for_later(splits.cleared(bucket.journal))
+        return len(lines)
 
     def release(self, choices: Iterable[tuple[int, int]]) -> None:
         """Slots (session, number) that no line was ever to name are needed no more."""

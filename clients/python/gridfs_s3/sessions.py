@@ -46,6 +46,7 @@ PLAN_AGAIN, ANSWERS = 10.0, 2.0  # seconds after which all nodes are asked wheth
 SURE_FOR = 2.0  # seconds for which sessions that were this gateway's are taken to be
 SOME, TURNS = 16, 3  # volumes that a session looks at, before others have their turn; and how often it is tried
 WORD_OF_GRID = ".s3/index"  # a name, with what the index of this grid says of it
+LEVELS = 1  # of pages that a gateway follows: it stops at a page that has split
 RETRY = 1.0  # seconds until a session whose home is silent, or a carrier that has ended, is tried again
 
 
@@ -87,7 +88,7 @@ class Pool:
         carrier = self.settings.carrier()
         try:
             told = ask_plan(carrier, self.settings.pace())
-            self.layout = layout_of(told)
+            self.layout = layout_of(told, LEVELS)
             for number in self.settings.session_numbers(told.sessions):
                 self.add(carrier, number, told.home_of(number))
         except BaseException:
@@ -585,7 +586,7 @@ class Pool:
             while (is_last := not carrier.silent_since(begun)) or carrier.now() < begun + ANSWERS:
                 answer = carrier.receive(NO_SESSION, 0 if is_last else max(0, begun + ANSWERS - carrier.now()))
                 if isinstance(answer, PlanTold):
-                    found.add(layout_of(answer))
+                    found.add(layout_of(answer, LEVELS))
                 elif is_last:
                     break
         except ClientError:
