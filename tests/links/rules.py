@@ -16,7 +16,7 @@ WIDTH = 24  # of a dashboard
 PARTS = re.compile(r"_(?:bucket|sum|count)\Z")  # of a histogram
 OTHERS = {"up", "node_textfile_mtime_seconds", "node_filesystem_avail_bytes", "node_filesystem_size_bytes"}  # what the node exporter and Prometheus tell
 RULE = re.compile(
-    r"      - alert: (Gridfs\w+)\n        expr: (.+)\n(?:        for: \d+m\n)?        annotations:\n          summary: ([A-Z].*\.)\n          todo: (.*\.)\n"
+    r"      - alert: (Gridfs\w+)\n        expr: (.+)\n(?:        for: \d+[mh]\n)?        annotations:\n          summary: ([A-Z].*\.)\n          todo: (.*\.)\n"
 )
 CLOSES = {")": "(", "]": "[", "}": "{"}
 
@@ -25,7 +25,7 @@ def metrics_told():
     """The names that docs/MACHINES.md tells."""
     with open(os.path.join(TOP, "docs", "MACHINES.md"), encoding="utf-8") as file:
         section = file.read().partition("## Metrics\n")[2].partition("\n## ")[0]
-    return {f"gridfs_{name}" for name in re.findall(r"`((?:node|carrier|tenant)_\w+)`", section)}
+    return {f"gridfs_{name}" for name in re.findall(r"`((?:node|carrier|tenant|shelf)_\w+)`", section)}
 
 
 def is_balanced(text):

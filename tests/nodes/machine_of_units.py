@@ -131,7 +131,7 @@ def told(machine):
     """All nodes of both grids run, and their metrics can be collected together; names are spread over both; `status` has a node of one grid that was
     stopped, whose names are got."""
     single = machine.words_of("3")
-    check(single[-1].endswith("lib/3/journal") and single[single.index("--grid") + 1] == "", f"the words of a node of one grid: {single}")
+    check(single[-3].endswith("lib/3/journal") and single[-2:] == ["--scrub", "14"] and single[single.index("--grid") + 1] == "", f"the words of a node of one grid: {single}")
     waits = {status: machine.waits_behind(status) for status in (0, 1, 3, 137)}
     check(waits == {0: 0, 1: True, 3: 0, 137: 0}, f"a unit waits behind a fault of a file alone: {waits}")
     try:
