@@ -1,6 +1,7 @@
-"""A search of all worlds that can come about from a first one, in the order of how many steps lead there."""
+"""A search of all worlds that can come about from a first one, in the order of how many steps lead there; and random ways from it."""
 
 import collections
+import random
 
 
 class Wrong(Exception):
@@ -28,3 +29,24 @@ def searched(first, steps_from, judge, most=None):
                 known[following] = world, words
                 left.append(following)
     return len(known), count, True
+
+
+def wandered(first, steps_from, judge, ways, seed):
+    """So many random ways, each until nothing can happen any more, and how many steps they took. New clients are the rarer ones. Wrong at the first step that `judge` says is."""
+    chance, count = random.Random(seed), 0
+    for _ in range(ways):
+        world, told = first, []
+        while following := steps_from(world):
+            words, then = chance.choice(following)
+            if " has a new client" in words and told and chance.random() < 0.7:
+                if len(following) == 1:
+                    break
+                continue
+            told.append(words)
+            count += 1
+            try:
+                judge(world, then)
+            except Wrong as wrong:
+                raise Wrong(str(wrong), *told) from None
+            world = then
+    return ways, count

@@ -11,7 +11,6 @@ of it go to the new bucket once they meet a signpost. A client looks at one file
 import argparse
 import contextlib
 import functools
-import random
 import sys
 from dataclasses import replace
 from typing import NamedTuple
@@ -19,7 +18,7 @@ from unittest import mock
 
 sys.dont_write_bytecode = True
 import worlds
-from searching import Wrong, searched
+from searching import Wrong, searched, wandered
 from worlds import M, N, Op, at, judge_ops, tag_of, with_tags
 
 from gridfs_client import core, splits
@@ -370,24 +369,8 @@ def search(bounds, most=None):
 
 
 def wander(bounds, ways, seed=1):
-    """Random ways, each until nothing can happen any more. (New clients are the rarer steps.)"""
-    chance, count = random.Random(seed), 0
-    for _ in range(ways):
-        world, told = first_world(bounds), []
-        while following := Steps(world, bounds).all():
-            words, then = chance.choice(following)
-            if " has a new client" in words and told and chance.random() < 0.7:
-                if len(following) == 1:
-                    break
-                continue
-            told.append(words)
-            count += 1
-            try:
-                judge(world, then)
-            except Wrong as wrong:
-                raise Wrong(str(wrong), *told) from None
-            world = then
-    return ways, count
+    """Random ways, each until nothing can happen any more."""
+    return wandered(first_world(bounds), lambda world: Steps(world, bounds).all(), judge, ways, seed)
 
 
 # Wrong variants, each with bounds within which the search refuses it, or with so many random ways.

@@ -23,7 +23,6 @@ the ways to wrong worlds that are known for some variants. It ends with status 1
 import argparse
 import contextlib
 import functools
-import random
 import re
 import sys
 from dataclasses import replace
@@ -33,7 +32,7 @@ from unittest import mock
 sys.dont_write_bytecode = True
 from histories import HERE  # (and where the client is found)
 from linearizability import Operation, is_linearizable
-from searching import Wrong, searched
+from searching import Wrong, searched, wandered
 
 from gridfs_client import Tag, core
 from gridfs_client.core import Carries, Known, Line, ListPages, Page, ReadPage, Version, WriteJournal, WritePage
@@ -271,24 +270,8 @@ def search(bounds):
 
 
 def wander(bounds, ways, seed=1):
-    """Random ways, each until nothing can happen any more. (New clients are the rarer steps.)"""
-    chance, count = random.Random(seed), 0
-    for _ in range(ways):
-        world, told = first_world(bounds), []
-        while following := Steps(world, bounds).all():
-            words, then = chance.choice(following)
-            if " has a new client" in words and told and chance.random() < 0.7:
-                if len(following) == 1:
-                    break
-                continue
-            told.append(words)
-            count += 1
-            try:
-                judge(world, then)
-            except Wrong as wrong:
-                raise Wrong(str(wrong), *told) from None
-            world = then
-    return ways, count
+    """Random ways, each until nothing can happen any more."""
+    return wandered(first_world(bounds), lambda world: Steps(world, bounds).all(), judge, ways, seed)
 
 
 # Ways: patterns of steps, one after another. A look goes on to its end.
