@@ -7,7 +7,7 @@ use Rattle.gq_tag.specs.Tag.{first_copy}
 use Rattle.gq_laws.specs.declared.ops.Kind.{Kind}
 use Rattle.gq_laws.specs.declared.ops.Kind.TheVariants.{Write as Writes, Read as Reads}
 use Rattle.gq_laws.specs.declared.ops.Op.{Op}
-use Rattle.gq_names.specs.Names.{Setting, Page, Journal, Change, Client, Knows, Looks, Announces, Carries, Session, Reader, Idle, Searches, World, Step, Enters, JournalLate, PageLate, Begins, Tidies, Sees, Chooses, ClientWrites, Asks, Finds, Tells, with_session, with_reader, with_op, with_tag, with_end, with_new_op, new_world, new_session, new_page, new_journal, new_put, looking, tidying, shown, is_of, goes_now, changed_page, changed, new_line, highest, has_seen, and_page, and_seen, no_page, none_seen, behind, greatest_of, greatest_shown, journal_late, page_late, begins_by, tidies_by, sees_by, chooses_by, writes_by, asks, new_get, finds_by, told as told_op, version_told, tells_by, changes, tick, after_step}
+use Rattle.gq_names.specs.Names.{Setting, Page, Journal, Change, Client, Knows, Looks, Announces, Carries, Session, Reader, Idle, Searches, World, Step, Enters, JournalLate, PageLate, Begins, Tidies, Repeats, Sees, Chooses, ClientWrites, Asks, Finds, Tells, with_session, with_reader, with_op, with_tag, with_end, with_new_op, new_world, new_session, new_page, new_journal, new_put, looking, tidying, shown, is_of, goes_now, changed_page, changed, new_line, highest, has_seen, and_page, and_seen, no_page, none_seen, behind, greatest_of, greatest_shown, journal_late, page_late, begins_by, tidies_by, repeats_by, sees_by, chooses_by, writes_by, asks, new_get, finds_by, told as told_op, version_told, tells_by, changes, tick, after_step}
 use Rattle.gq_names.specs.Contents.{Contents, ShowsOnly, Each, WritesOnly, HasOnly, IsFree, Deed, Does, Keeps, Forgets, State, new_state, and_content, after_deed, state_after, ChoosesKept, MayPut, MayStep, May, AllMay, IsThere, AllShownAreThere, AllToldWereKept, PutsNot, NonePuts, CarriesWithout, AllStayFree}
 use Rattle.gq_names.proofs.Lists.{each_at, each_behind, each_push, each_map, greatest_is, Chosen}
 use Rattle.gq_names.proofs.Moves.{with_here, with_away}
@@ -168,6 +168,12 @@ module _ (v : Setting) (k : Contents) (P Q : (s : ℕ) → ℕ → Type 0) where
   tidied w s (Announces journal op) is all = all
   tidied w s (Carries journal op) is all = all
 
+  repeated : (w : World) (s : ℕ) (client : Client) → (w.session s).client ≡ client → AllHave w → AllHave (repeats_by w s client)
+  repeated w s (Knows journal) is all = turned w w s _ (λ t. refl) all (knows_only k (P s) (Q s) _ (w.session s) (all s) (subst (WritesOnly k (P s) (Q s)) is (all s).client))
+  repeated w s (Looks journal change looked seen) is all = all
+  repeated w s (Announces journal op) is all = all
+  repeated w s (Carries journal op) is all = all
+
   sees : (w : World) (s t : ℕ) (client : Client) → (w.session s).client ≡ client → AllHave w → AllHave (sees_by w s t client)
   sees w s t (Looks journal change looked seen) is all = by (t == s)
     where
@@ -231,6 +237,7 @@ module _ (v : Setting) (k : Contents) (P Q : (s : ℕ) → ℕ → Type 0) where
   all_have_on w (PageLate s place) may all = page_comes w s place (slice_get (w.session s).page_pending place) refl all
   all_have_on w (Begins s name bytes) may all = either (nat_lt s v.sessions) (begins_by v w s name bytes (w.session s).client) w (begun w s name bytes (w.session s).client refl may all) all
   all_have_on w (Tidies s) may all = either (nat_lt s v.sessions) (tidies_by w s (w.session s).client) w (tidied w s (w.session s).client refl all) all
+  all_have_on w (Repeats s) may all = repeated w s (w.session s).client refl all
   all_have_on w (Sees s t) may all = either (nat_lt t v.sessions) (sees_by w s t (w.session s).client) w (sees w s t (w.session s).client refl all) all
   all_have_on w (Chooses s more goes ask) may all = chosen w s more goes ask (w.session s).client refl may all
   all_have_on w (ClientWrites s answered) may all = written w s answered (w.session s).client refl all
@@ -304,6 +311,12 @@ module _ (v : Setting) where
   own_tidied w s (Announces journal op) all = all
   own_tidied w s (Carries journal op) all = all
 
+  own_repeated : (w : World) (s : ℕ) (client : Client) → AllOwn w → AllOwn (repeats_by w s client)
+  own_repeated w s (Knows journal) all = own_turned w w s _ (λ t. refl) all tt
+  own_repeated w s (Looks journal change looked seen) all = all
+  own_repeated w s (Announces journal op) all = all
+  own_repeated w s (Carries journal op) all = all
+
   own_sees : (w : World) (s t : ℕ) (client : Client) → AllOwn w → AllOwn (sees_by w s t client)
   own_sees w s t (Looks journal change looked seen) all = by (t == s)
     where
@@ -344,6 +357,7 @@ module _ (v : Setting) where
   own_on w (PageLate s place) all = own_page w s place (slice_get (w.session s).page_pending place) all
   own_on w (Begins s name bytes) all = own_either (nat_lt s v.sessions) (begins_by v w s name bytes (w.session s).client) w (own_begun w s name bytes (w.session s).client all) all
   own_on w (Tidies s) all = own_either (nat_lt s v.sessions) (tidies_by w s (w.session s).client) w (own_tidied w s (w.session s).client all) all
+  own_on w (Repeats s) all = own_repeated w s (w.session s).client all
   own_on w (Sees s t) all = own_either (nat_lt t v.sessions) (sees_by w s t (w.session s).client) w (own_sees w s t (w.session s).client all) all
   own_on w (Chooses s more goes ask) all = own_chosen w s more goes ask (w.session s).client all
   own_on w (ClientWrites s answered) all = own_written w s answered (w.session s).client refl all
@@ -401,6 +415,7 @@ module _ (v : Setting) (k : Contents) (s content : ℕ) where
   may_step w (JournalLate t place) puts = tt
   may_step w (PageLate t place) puts = tt
   may_step w (Tidies t) puts = tt
+  may_step w (Repeats t) puts = tt
   may_step w (Sees t other) puts = tt
   may_step w (ClientWrites t answered) puts = tt
   may_step w (Asks r) puts = tt
@@ -484,6 +499,7 @@ module _ (v : Setting) (k : Contents) (st : State) where
   may_do (JournalLate s place) may = tt
   may_do (PageLate s place) may = tt
   may_do (Tidies s) may = tt
+  may_do (Repeats s) may = tt
   may_do (Sees s t) may = tt
   may_do (ClientWrites s answered) may = tt
   may_do (Asks r) may = tt
@@ -554,6 +570,12 @@ module _ (v : Setting) (k : Contents) (st : State) where
     tells_tidied s (Looks journal change looked seen) = t
     tells_tidied s (Announces journal op) = t
     tells_tidied s (Carries journal op) = t
+
+    tells_repeated : (s : ℕ) (client : Client) → Telling (repeats_by w s client)
+    tells_repeated s (Knows journal) = record { read = t.read; told = t.told }
+    tells_repeated s (Looks journal change looked seen) = t
+    tells_repeated s (Announces journal op) = t
+    tells_repeated s (Carries journal op) = t
 
     tells_sees : (s other : ℕ) (client : Client) → Telling (sees_by w s other client)
     tells_sees s other (Looks journal change looked seen) = by (other == s)
@@ -635,6 +657,7 @@ module _ (v : Setting) (k : Contents) (st : State) where
     tells_on (PageLate s place) = (let it = tells_page s place (slice_get (w.session s).page_pending place) in record { read = it.read; told = it.told })
     tells_on (Begins s name bytes) = (let it = tells_either (nat_lt s v.sessions) (begins_by v w s name bytes (w.session s).client) (tells_begun s name bytes (w.session s).client) in record { read = it.read; told = it.told })
     tells_on (Tidies s) = (let it = tells_either (nat_lt s v.sessions) (tidies_by w s (w.session s).client) (tells_tidied s (w.session s).client) in record { read = it.read; told = it.told })
+    tells_on (Repeats s) = (let it = tells_repeated s (w.session s).client in record { read = it.read; told = it.told })
     tells_on (Sees s other) = (let it = tells_either (nat_lt other v.sessions) (sees_by w s other (w.session s).client) (tells_sees s other (w.session s).client) in record { read = it.read; told = it.told })
     tells_on (Chooses s more goes ask) = (let it = tells_chosen s more goes ask (w.session s).client in record { read = it.read; told = it.told })
     tells_on (ClientWrites s answered) = (let it = tells_written s answered (w.session s).client in record { read = it.read; told = it.told })

@@ -2,7 +2,7 @@
 use Rattle.std.proofs.Common.{◌≡◌, ◌≢◌, ◌⊎◌, ℕ, ◌≤◌, Bool, true, false, List, [], ◌∷◌, ◌++◌, refl, sym, ◌∙◌, subst, inl, inr, Option, Some, None, eqb, ltb}
 use Rattle.std.specs.Prelude.{slice_get, fold, if◌then◌else◌}
 use Rattle.std.proofs.lemmas.Bool.{cases_eq}
-use Rattle.gq_names.specs.Names.{Setting, Page, Journal, Client, Knows, Looks, Announces, Carries, Session, Reader, Idle, Searches, World, new_world, Step, Enters, JournalLate, PageLate, Begins, Tidies, Sees, Chooses, ClientWrites, Asks, Finds, Tells, with_session, with_reader, with_op, with_new_op, with_tag, with_end, told, new_put, looking, begins_by, tidying, tidies_by, sees_by, chooses_by, writes_by, finds_by, tells_by, journal_late, page_late, changed, highest, new_line, version_told, and_page, and_seen, greatest_shown, has_seen, behind, changes, after_step, world_after}
+use Rattle.gq_names.specs.Names.{Setting, Page, Journal, Client, Knows, Looks, Announces, Carries, Session, Reader, Idle, Searches, World, new_world, Step, Enters, JournalLate, PageLate, Begins, Tidies, Repeats, Sees, Chooses, ClientWrites, Asks, Finds, Tells, with_session, with_reader, with_op, with_new_op, with_tag, with_end, told, new_put, looking, begins_by, tidying, tidies_by, repeats_by, sees_by, chooses_by, writes_by, finds_by, tells_by, journal_late, page_late, changed, highest, new_line, version_told, and_page, and_seen, greatest_shown, has_seen, behind, changes, after_step, world_after}
 use Rattle.gq_names.specs.Laws.{AllPagesRise}
 use Rattle.gq_names.proofs.Lists.{each_at}
 use Rattle.gq_names.proofs.Views.{Among, Follows, follows_refl, follows_trans, follows_rises}
@@ -55,6 +55,12 @@ module _ (v : Setting) (w : World) (sound : Sound v w) (all : AllCounted w) wher
   up_tidies s (Looks j change looked seen) = no_less
   up_tidies s (Announces j op) = no_less
   up_tidies s (Carries j op) = no_less
+
+  up_repeats : (s : ℕ) (client : Client) → Up (repeats_by w s client)
+  up_repeats s (Knows j) = up_kept s (record (w.session s) { client = Announces j None }) w (λ t. refl) refl
+  up_repeats s (Looks j change looked seen) = no_less
+  up_repeats s (Announces j op) = no_less
+  up_repeats s (Carries j op) = no_less
 
   up_sees : (s t : ℕ) (client : Client) → Up (sees_by w s t client)
   up_sees s t (Looks j change looked seen) = by (eqb t s)
@@ -127,6 +133,7 @@ module _ (v : Setting) (w : World) (sound : Sound v w) (all : AllCounted w) wher
       by : (b : Bool) → Up (if b then tidies_by w s (w.session s).client else w)
       by true = up_tidies s (w.session s).client
       by false = no_less
+  up_step (Repeats s) = up_repeats s (w.session s).client
   up_step (Sees s t) = by (ltb t v.sessions)
     where
       by : (b : Bool) → Up (if b then sees_by w s t (w.session s).client else w)

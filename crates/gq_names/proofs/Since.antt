@@ -3,7 +3,7 @@ use Rattle.std.proofs.Common.{◌≡◌, ◌≢◌, ◌⊎◌, ℕ, ◌≤◌, B
 use Rattle.std.specs.Prelude.{slice_get, ⊤, fold, if◌then◌else◌}
 use Rattle.std.proofs.lemmas.Bool.{cases_eq, ne_eqb, eq-eqb, true≢false}
 use Rattle.gq_tag.specs.Tag.{first_copy}
-use Rattle.gq_names.specs.Names.{Setting, Page, Journal, Change, Client, Knows, Looks, Announces, Carries, Session, Reader, Idle, Searches, World, Step, Enters, JournalLate, PageLate, Begins, Tidies, Sees, Chooses, ClientWrites, Asks, Finds, Tells, with_session, with_reader, with_op, with_new_op, with_tag, with_end, told, new_put, looking, begins_by, tidying, tidies_by, sees_by, chooses_by, writes_by, finds_by, tells_by, journal_late, page_late, changed, highest, new_line, version_told, no_page, and_page, and_seen, greatest_shown, has_seen, behind, changes, after_step}
+use Rattle.gq_names.specs.Names.{Setting, Page, Journal, Change, Client, Knows, Looks, Announces, Carries, Session, Reader, Idle, Searches, World, Step, Enters, JournalLate, PageLate, Begins, Tidies, Repeats, Sees, Chooses, ClientWrites, Asks, Finds, Tells, with_session, with_reader, with_op, with_new_op, with_tag, with_end, told, new_put, looking, begins_by, tidying, tidies_by, repeats_by, sees_by, chooses_by, writes_by, finds_by, tells_by, journal_late, page_late, changed, highest, new_line, version_told, no_page, and_page, and_seen, greatest_shown, has_seen, behind, changes, after_step}
 use Rattle.gq_names.proofs.Views.{Follows, follows_refl, follows_trans}
 use Rattle.gq_names.proofs.Moves.{with_here, with_away}
 use Rattle.gq_names.proofs.Onward.{Kept, kept_from, pages_follow, line_number}
@@ -90,6 +90,12 @@ module _ (v : Setting) (w u z : World) (kept : Kept v u) (from : (t : ℕ) → F
   tidies i (Announces j op) = same
   tidies i (Carries j op) = same
 
+  repeats : (i : ℕ) (client : Client) → Well (repeats_by u i client)
+  repeats i (Knows j) = one i (record (u.session i) { client = Announces j None }) u (λ n. refl) (λ here. tt)
+  repeats i (Looks j change looked seen) = same
+  repeats i (Announces j op) = same
+  repeats i (Carries j op) = same
+
   sees : (i t : ℕ) (client : Client) → (u.session i).client ≡ client → Well (sees_by u i t client)
   sees i t (Looks j change looked seen) is = by (eqb t i)
     where
@@ -170,6 +176,7 @@ module _ (v : Setting) (w u z : World) (kept : Kept v u) (from : (t : ℕ) → F
       by : (b : Bool) → Well (if b then tidies_by u i (u.session i).client else u)
       by true = tidies i (u.session i).client
       by false = same
+  step_well (Repeats i) = repeats i (u.session i).client
   step_well (Sees i t) = by (ltb t v.sessions)
     where
       by : (b : Bool) → Well (if b then sees_by u i t (u.session i).client else u)

@@ -7,14 +7,14 @@ use Rattle.gq_tag.specs.declared.Tag.{Tag}
 use Rattle.gq_tag.specs.Tag.{first_tag, is_less}
 use Rattle.gq_laws.specs.declared.ops.Op.{Op}
 use Rattle.gq_laws.specs.Operations.{is_write, Gives, At, WroteWith, Tagged}
-use Rattle.gq_names.specs.Names.{Setting, Page, Journal, Change, Client, Knows, Looks, Announces, Carries, Session, Reader, Idle, Searches, World, new_world, new_page, new_journal, Step, Enters, JournalLate, PageLate, Begins, Tidies, Sees, Chooses, ClientWrites, Asks, Finds, Tells, with_session, with_reader, with_op, with_new_op, asks, told, new_put, looking, begins_by, tidying, tidies_by, sees_by, chooses_by, writes_by, finds_by, tells_by, journal_late, page_late, changed, highest, new_line, version_told, and_page, and_seen, greatest_shown, has_seen, behind, tick, after_step, world_after, operations_of}
+use Rattle.gq_names.specs.Names.{Setting, Page, Journal, Change, Client, Knows, Looks, Announces, Carries, Session, Reader, Idle, Searches, World, new_world, new_page, new_journal, Step, Enters, JournalLate, PageLate, Begins, Tidies, Repeats, Sees, Chooses, ClientWrites, Asks, Finds, Tells, with_session, with_reader, with_op, with_new_op, asks, told, new_put, looking, begins_by, tidying, tidies_by, repeats_by, sees_by, chooses_by, writes_by, finds_by, tells_by, journal_late, page_late, changed, highest, new_line, version_told, and_page, and_seen, greatest_shown, has_seen, behind, tick, after_step, world_after, operations_of}
 use Rattle.gq_names.specs.Laws.{AllNamesTagged}
 use Rattle.gq_tag.proofs.Order.{IsAtMost, at_most_refl}
 use Rattle.gq_names.proofs.Lists.{risen_at_most, rises_refl, chain_at, chain_ends}
 use Rattle.gq_names.proofs.Views.{Among, Gone, Follows, follows_refl}
 use Rattle.gq_names.proofs.Pages.{PastOf, above_self}
 use Rattle.gq_names.proofs.Standing.{Ended, Sourced, Sane, ReadFrom, Lines, Searching, Sound}
-use Rattle.gq_names.proofs.Turns.{minding, lines_enters, lines_journal_late, lines_page_late, lines_begins_other, lines_sees, lines_chooses, lines_asked, lines_carried, lines_carries, lined_self}
+use Rattle.gq_names.proofs.Turns.{minding, lines_enters, lines_journal_late, lines_page_late, lines_begins_other, lines_repeats, lines_sees, lines_chooses, lines_asked, lines_carried, lines_carries, lined_self}
 use Rattle.gq_names.proofs.Moves.{session_moves, rests, reader_moves}
 use Rattle.gq_names.proofs.Tellings.{announced_moves, none_some, some_is}
 use Rattle.gq_names.proofs.Endings.{carried_moves, put_moves, get_moves, search_finds, told_moves}
@@ -68,6 +68,12 @@ module _ (v : Setting) (w : World) (sound : Sound v w) (s : ℕ) where
   tidies low (Looks j change looked seen) is = rests v w sound
   tidies low (Announces j op) is = rests v w sound
   tidies low (Carries j op) is = rests v w sound
+
+  repeats : (client : Client) → x.client ≡ client → Sound v (tick (repeats_by w s client))
+  repeats (Knows j) is = session_moves v w sound s (record x { client = Announces j None }) still (lines_repeats v w past s base x lines j is)
+  repeats (Looks j change looked seen) is = rests v w sound
+  repeats (Announces j op) is = rests v w sound
+  repeats (Carries j op) is = rests v w sound
 
   sees : (t : ℕ) (client : Client) → x.client ≡ client → Sound v (tick (sees_by w s t client))
   sees t (Looks j change looked seen) is = by (cases_eq t s)
@@ -152,6 +158,7 @@ sound_step v w (Tidies s) sound = by (ltb s v.sessions) refl
     by : (b : Bool) → ltb s v.sessions ≡ b → Sound v (tick (if b then tidies_by w s (w.session s).client else w))
     by true e = tidies v w sound s (ltb-true s v.sessions e) (w.session s).client refl
     by false e = rests v w sound
+sound_step v w (Repeats s) sound = repeats v w sound s (w.session s).client refl
 sound_step v w (Sees s t) sound = by (ltb t v.sessions)
   where
     by : (b : Bool) → Sound v (tick (if b then sees_by w s t (w.session s).client else w))

@@ -11,7 +11,7 @@ use Rattle.gq_names.specs.Laws.{Rises}
 use Rattle.gq_tag.proofs.Order.{IsAtMost, at_most_refl, at_most_less, less_at_most}
 use Rattle.gq_names.proofs.Lists.{risen_at_most}
 use Rattle.gq_names.proofs.Views.{Among, Grows, not_less_first, not_less_self, follows_rises}
-use Rattle.gq_names.proofs.Pages.{Above, paged_announced}
+use Rattle.gq_names.proofs.Pages.{IsNoOther, Above, paged_announced}
 use Rattle.gq_names.proofs.Standing.{Ended, Sourced, Sane, line_at, Kept, Fresh, Lined, BaseOp, Lines, Sound}
 use Rattle.gq_names.proofs.GoingOn.{kind_write, OpGoes, op_stays, Goes, StaysOpen, sourced_on, based_on, sound_on, Untouched}
 use Rattle.gq_names.proofs.Turns.{knows, knows_line, minding, acting, lined_self}
@@ -62,7 +62,7 @@ module _ (v : Setting) (w : World) (sound : Sound v w) (s : ℕ) (j : Journal) (
   up : Rises (sound.base s).page j.page
   up = follows_rises v (sound.base s).page j.page above.rises
 
-  new_number : (sound.base s).page.number < j.page.number
+  new_number : IsNoOther (sound.base s).page j.page
   new_number = minding v w sound.past s (sound.base s) x old (Announces j op) is
 
   past_here : (t : ℕ) → t ≡ s → then_past t ≡ (j.page ∷ sound.past t)

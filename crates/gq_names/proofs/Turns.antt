@@ -9,7 +9,7 @@ use Rattle.gq_names.specs.Names.{Setting, Page, Journal, Change, Client, Knows, 
 use Rattle.gq_tag.proofs.Order.{IsAtMost, at_most_refl, at_most_trans, at_most_less, less_from}
 use Rattle.gq_names.proofs.Lists.{risen_at_most, first_least, each_at, each_behind, each_push, all_at, greatest_least, number_least}
 use Rattle.gq_names.proofs.Views.{Among, Gone, Follows, follows_trans, follows_rises, closed_at, at_most_shown, changed_follows, changed_gone}
-use Rattle.gq_names.proofs.Pages.{known_by, Minds, Above, PastOf, paged_client, paged_journal_late, paged_page_late, paged_asked, paged_carried, paged_carries}
+use Rattle.gq_names.proofs.Pages.{known_by, at_least, Minds, Above, PastOf, paged_client, paged_journal_late, paged_page_late, paged_asked, paged_carried, paged_carries}
 use Rattle.gq_names.proofs.Standing.{Ended, Open, line_at, view, Reached, Seen, LookedAt, Lined, LooksFor, LooksWell, HasOp, Acts, Lines}
 use Rattle.gq_names.proofs.GoingOn.{reached_on}
 
@@ -188,6 +188,9 @@ module _ (v : Setting) (w : World) (past : ℕ → List Page) (s : ℕ) (base : 
       lines_client (Looks j change (and_page s no_page) (and_seen s j.page none_seen)) (knows (Knows j) is) tt (knows_line (Knows j) is)
       (looks_first j change low (let P : Option ℕ → Type 0 = λ z. LooksFor v w s change (and_page s no_page) (and_seen s j.page none_seen) z in subst P (sym none) other))
 
+  pub lines_repeats : (j : Journal) → x.client ≡ Knows j → Lines v w past s base (record x { client = Announces j None })
+  lines_repeats j is = lines_client (Announces j None) (knows (Knows j) is) (knows (Knows j) is).number (knows_line (Knows j) is) (λ k some. absurd (let bad : None ≡ Some k = some in cc))
+
   pub lines_sees : (t : ℕ) (j : Journal) (change : Change) (looked : ℕ → Bool) (seen : ℕ → Page) → x.client ≡ Looks j change looked seen → t ≢ s → Among (w.session t).page (past t) →
       Lines v w past s base (record x { client = Looks j change (and_page t looked) (and_seen t (w.session t).page seen) })
   lines_sees t j change looked seen is other among =
@@ -277,11 +280,14 @@ module _ (v : Setting) (w : World) (past : ℕ → List Page) (s : ℕ) (base : 
       above : j.page.number < line.tag.number
       above = let b = own_high in omega (arith, b)
 
+      beyond : base.page.number < line.tag.number
+      beyond = let n = at_least base.page j.page mine.number in let a = above in omega (arith, n, a)
+
       up : Above v past s base next
       up = record {
         rises = follows_trans v base.page j.page next.page mine.rises (changed_follows v past s goes asks seen j.page change.name line well.within well.own was_seen (let a = above in omega (arith, a)) less
             (λ t low. let a = after_high t low in omega (arith, a)));
-        number = (let n = mine.number in let a = above in omega (arith, n, a));
+        number = inr beyond;
         gone = changed_gone v past s goes asks seen j.page change.name line well.within well.own was_seen (let a = above in omega (arith, a)) mine.gone;
       }
 
@@ -308,7 +314,7 @@ module _ (v : Setting) (w : World) (past : ℕ → List Page) (s : ℕ) (base : 
           over t (inr (i, low, most)) = at_most_less t ((seen i).line v.name).tag line.tag most (less_new s more change high ((seen i).line v.name).tag (line_high i v.name low))
 
       pub lines_chooses : Lines v w past s base (record x { client = Announces next change.op })
-      lines_chooses = lines_client (Announces next change.op) up (let n = mine.number in let a = above in omega (arith, n, a)) (lined change.op refl well.for) (has_op change.op refl)
+      lines_chooses = lines_client (Announces next change.op) up (inr beyond) (lined change.op refl well.for) (has_op change.op refl)
 
   -- ---- writes
 

@@ -117,6 +117,8 @@ pub data Step : Type 0 where
   Begins : (session name : ℕ) (bytes : List ℕ) → Step
   -- it begins a change of no name
   Tidies : (session : ℕ) → Step
+  -- it writes its journal again as it knows it, and carries that
+  Repeats : (session : ℕ) → Step
   -- it reads the page of a session
   Sees : (session other : ℕ) → Step
   -- it has read all: it chooses a number that is greater by one than that of each page that it saw, or still more; which lines are to go, and of
@@ -243,6 +245,10 @@ abbrev pub tidies_by : World → (s : ℕ) → Client → World
 tidies_by w s (Knows journal) = with_session s (looking w s journal tidying) w
 tidies_by w s _ = w
 
+abbrev pub repeats_by : World → (s : ℕ) → Client → World
+repeats_by w s (Knows journal) = with_session s (record (w.session s) { client = Announces journal None }) w
+repeats_by w s _ = w
+
 abbrev pub sees_by : World → (s t : ℕ) → Client → World
 sees_by w s t (Looks journal change looked seen) =
     if t == s
@@ -345,6 +351,7 @@ changes v w (JournalLate s place) = journal_late w s place (slice_get (w.session
 changes v w (PageLate s place) = page_late w s place (slice_get (w.session s).page_pending place)
 changes v w (Begins s name bytes) = if nat_lt s v.sessions then begins_by v w s name bytes (w.session s).client else w
 changes v w (Tidies s) = if nat_lt s v.sessions then tidies_by w s (w.session s).client else w
+changes v w (Repeats s) = repeats_by w s (w.session s).client
 changes v w (Sees s t) = if nat_lt t v.sessions then sees_by w s t (w.session s).client else w
 changes v w (Chooses s more goes asks) = chooses_by v w s more goes asks (w.session s).client
 changes v w (ClientWrites s answered) = writes_by v w s answered (w.session s).client
