@@ -19,3 +19,6 @@ pub mod Alone
 pub mod Clearing
 pub mod WorkedSweep
 pub mod WorkedContents
+pub mod Alike
+pub mod Counts
+pub mod Splitting

@@ -4,3 +4,4 @@ pub mod Laws
 pub mod Completing
 pub mod Sweeping
 pub mod Worked
+pub mod Splitting
