@@ -1,5 +1,5 @@
--- Worked cases, computed: so the laws speak of runs in which something is told, of sweeps in which something is forgotten, and of contents that
--- are replaced.
+-- Worked cases, computed: so the laws speak of runs in which something is told, of sweeps in which something is forgotten, of contents that
+-- are replaced, and of pages that split.
 use Rattle.std.specs.Prelude.{◌≡◌, ℕ, List, [], ◌∷◌, ◌++◌, Bool, true, false, ◌==◌, Some, None}
 use Rattle.std.specs.List.{list_any}
 use Rattle.gq_tag.specs.declared.Tag.{Tag}
@@ -9,6 +9,7 @@ use Rattle.gq_tag.specs.declared.StoredCopy.{StoredCopy}
 use Rattle.gq_names.specs.Names.{Setting, World, Step, Enters, PageLate, Begins, Tidies, Sees, Chooses, ClientWrites, Asks, Finds, Tells, shown, world_after, operations_of}
 use Rattle.gq_names.specs.Contents.{Contents, Deed, Does, Keeps, Forgets, AllMay, new_state, state_after}
 use Rattle.gq_names.specs.Sweeping.{Turn, AreTurns, IsRound, after_turns}
+use Rattle.gq_names.specs.Splitting.{SplitWorld, SplitStep, EntersOld, OldJournalLate, OldPageLate, Puts, SeesOld, SeesNew, ChoosesLine, HandWrites, Signs, EntersNew, Clears, ClearingWrites, AsksFor, FindsOld, FindsNew, TellsOf, split_world_after, split_operations_of}
 
 -- two sessions; the name 7 is watched
 abbrev pub two : Setting
@@ -126,3 +127,44 @@ pub record AreContentsWorked : Type 0 where
   pub may : AllMay two by_number new_state deeds_worked
   pub told : ((state_after two new_state deeds_worked).world.op 2).kind ≡ Reads (Some (66 ∷ []))
   pub forgotten : (state_after two new_state deeds_worked).forgotten 65 ≡ true
+
+-- ---- a page that splits
+
+abbrev pub seven_alone : ℕ → Bool
+seven_alone = λ n. n == 7
+
+abbrev pub steps_split : List SplitStep
+steps_split =
+    -- session 0 puts 65 under the name
+    Puts 0 7 (65 ∷ []) ∷ SeesOld 0 1 ∷ ChoosesLine 0 0 no_one no_one ∷ HandWrites 0 true ∷ HandWrites 0 true
+    -- it is to split its page, gets no answer, and dies; its journal takes effect late. The next client writes it once more, and then the page, of which it
+    -- gets no answer either
+    ∷ Signs 0 ∷ HandWrites 0 false ∷ EntersOld 0 ∷ OldJournalLate 0 0 ∷ EntersOld 0 ∷ Signs 0 ∷ HandWrites 0 true ∷ HandWrites 0 false ∷ OldPageLate 0 0
+    -- one more sees the signpost there, and goes on
+    ∷ EntersOld 0 ∷ Signs 0 ∷ EntersNew 0
+    -- two look at the old page. One finds no new page, and tells 65
+    ∷ AsksFor 4 ∷ FindsOld 4 0 ∷ AsksFor 5 ∷ FindsOld 5 0 ∷ FindsNew 5 0 1 ∷ FindsOld 5 1 ∷ TellsOf 5
+    -- session 0 puts 66: its new page begins with the old line. It takes that out of the old page
+    ∷ Puts 0 7 (66 ∷ []) ∷ SeesOld 0 1 ∷ ChoosesLine 0 0 no_one no_one ∷ HandWrites 0 true ∷ HandWrites 0 true
+    ∷ Clears 0 all_of_them ∷ ClearingWrites 0 true ∷ ClearingWrites 0 true
+    -- the other one finds the new page, and tells 66
+    ∷ FindsNew 4 0 0 ∷ FindsOld 4 1 ∷ TellsOf 4
+    -- session 1, whose page has not split, takes the name away; and somebody finds nothing
+    ∷ Puts 1 7 [] ∷ SeesOld 1 0 ∷ SeesNew 1 0 0 ∷ ChoosesLine 1 0 no_one no_one ∷ HandWrites 1 true ∷ HandWrites 1 true
+    ∷ AsksFor 5 ∷ FindsNew 5 0 0 ∷ FindsOld 5 1 ∷ TellsOf 5 ∷ []
+
+abbrev pub world_split : SplitWorld
+world_split = split_world_after two seven_alone steps_split
+
+pub record IsSplitWorked : Type 0 where
+  pub told : split_operations_of world_split ≡
+      record { kind = Writes (65 ∷ []); session = 0; op = 0; begin = 0; end = Some 4; tag = Some (version 1 0) }
+      ∷ record { kind = Reads (Some (66 ∷ [])); session = 4; op = 1; begin = 17; end = Some 34; tag = Some (version 2 0) }
+      ∷ record { kind = Reads (Some (65 ∷ [])); session = 5; op = 2; begin = 19; end = Some 23; tag = Some (version 1 0) }
+      ∷ record { kind = Writes (66 ∷ []); session = 0; op = 3; begin = 24; end = Some 28; tag = Some (version 2 0) }
+      ∷ record { kind = Writes []; session = 1; op = 4; begin = 35; end = Some 40; tag = Some (version 3 1) }
+      ∷ record { kind = Reads (Some []); session = 5; op = 5; begin = 41; end = Some 44; tag = Some (version 3 1) }
+      ∷ []
+  -- the old page has the signpost, and no line of the name any more
+  pub signed : (world_split.session 0).old_page.signed ≡ true
+  pub cleared : (world_split.session 0).old_page.page.line 7 ≡ first_copy
