@@ -1,9 +1,9 @@
 -- Pages that say the same of the names inside: what is chosen beside them says the same too.
-use Rattle.std.proofs.Common.{◌≡◌, ◌⊎◌, ℕ, zero, suc, Bool, true, false, List, [], ◌∷◌, ◌++◌, refl, sym, ap, ◌∙◌, subst, inl, inr, Option, Some, None, max, eqb, ltb}
-use Rattle.std.specs.Prelude.{not, ◌||◌, ◌&&◌, slice_get, if◌then◌else◌, ⊤}
+use Rattle.std.proofs.Common.{◌≡◌, ◌⊎◌, ℕ, zero, suc, Bool, true, false, List, [], ◌∷◌, ◌++◌, refl, sym, ◌∙◌, subst, inl, inr, Option, Some, None, max, eqb, ltb}
+use Rattle.std.specs.Prelude.{not, ◌||◌, slice_get, if◌then◌else◌, ⊤}
 use Rattle.gq_tag.specs.declared.StoredCopy.{StoredCopy}
-use Rattle.gq_tag.specs.Tag.{first_copy, is_less, newer_of}
-use Rattle.gq_names.specs.Names.{Setting, Page, Journal, Change, Client, Knows, Looks, Announces, Carries, Reader, Idle, Searches, shown, all_below, greatest_of, greatest_number, greatest_shown, greatest_line, greatest_asked, is_beaten, is_nothing, is_past, is_forgotten, goes_now, is_of, changed_after, changed_page, changed, latest_op, new_line, highest, is_closed, has_seen, version_told, and_page, and_seen, behind}
+use Rattle.gq_tag.specs.Tag.{first_copy}
+use Rattle.gq_names.specs.Names.{Setting, Page, Journal, Change, Client, Knows, Looks, Announces, Carries, Reader, Idle, Searches, shown, all_below, greatest_of, greatest_number, greatest_shown, greatest_line, greatest_asked, is_beaten, is_past, is_forgotten, goes_now, is_of, changed_page, changed, latest_op, new_line, highest, is_closed, has_seen, version_told, and_page, and_seen, behind}
 use Rattle.gq_names.specs.Splitting.{part_of, part_of_journal}
 
 -- ---- of all sessions

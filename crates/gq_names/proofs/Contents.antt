@@ -1,15 +1,14 @@
 -- What sessions name, step by step.
-use Rattle.std.proofs.Common.{◌≡◌, ◌≢◌, ◌⊎◌, ◌∙◌, ℕ, ◌<◌, List, [], ◌∷◌, ◌++◌, Bool, true, false, refl, sym, ap, subst, inl, inr, Option, Some, None, rules}
+use Rattle.std.proofs.Common.{◌≡◌, ◌≢◌, ◌⊎◌, ◌∙◌, ℕ, List, [], ◌∷◌, ◌++◌, Bool, true, false, refl, sym, ap, subst, inl, inr, Option, Some, None}
 use Rattle.std.specs.Prelude.{◌==◌, ◌||◌, fold, slice_get, nat_lt, cond, ⊤}
-use Rattle.std.proofs.lemmas.Bool.{cases_Bool, cases_eq, eq-eqb, eqb-true, ne_eqb}
+use Rattle.std.proofs.lemmas.Bool.{cases_Bool, cases_eq, eqb-true, ne_eqb}
 use Rattle.gq_tag.specs.declared.StoredCopy.{StoredCopy}
 use Rattle.gq_tag.specs.Tag.{first_copy}
-use Rattle.gq_laws.specs.declared.ops.Kind.{Kind}
 use Rattle.gq_laws.specs.declared.ops.Kind.TheVariants.{Write as Writes, Read as Reads}
 use Rattle.gq_laws.specs.declared.ops.Op.{Op}
-use Rattle.gq_names.specs.Names.{Setting, Page, Journal, Change, Client, Knows, Looks, Announces, Carries, Session, Reader, Idle, Searches, World, Step, Enters, JournalLate, PageLate, Begins, Tidies, Repeats, Sees, Chooses, ClientWrites, Asks, Finds, Tells, with_session, with_reader, with_op, with_tag, with_end, with_new_op, new_world, new_session, new_page, new_journal, new_put, looking, tidying, shown, is_of, goes_now, changed_page, changed, new_line, highest, has_seen, and_page, and_seen, no_page, none_seen, behind, greatest_of, greatest_shown, journal_late, page_late, begins_by, tidies_by, repeats_by, sees_by, chooses_by, writes_by, asks, new_get, finds_by, told as told_op, version_told, tells_by, changes, tick, after_step}
+use Rattle.gq_names.specs.Names.{Setting, Page, Journal, Client, Knows, Looks, Announces, Carries, Session, Reader, Idle, Searches, World, Step, Enters, JournalLate, PageLate, Begins, Tidies, Repeats, Sees, Chooses, ClientWrites, Asks, Finds, Tells, with_session, with_reader, with_op, with_tag, with_end, with_new_op, new_world, new_session, new_page, new_put, looking, shown, is_of, goes_now, changed_page, changed, new_line, highest, has_seen, and_page, and_seen, no_page, none_seen, behind, greatest_shown, journal_late, page_late, begins_by, tidies_by, repeats_by, sees_by, chooses_by, writes_by, asks, new_get, finds_by, told as told_op, version_told, tells_by, after_step}
 use Rattle.gq_names.specs.Contents.{Contents, ShowsOnly, Each, WritesOnly, HasOnly, IsFree, Deed, Does, Keeps, Forgets, State, new_state, and_content, after_deed, state_after, ChoosesKept, MayPut, MayStep, May, AllMay, IsThere, AllShownAreThere, AllToldWereKept, PutsNot, NonePuts, CarriesWithout, AllStayFree}
-use Rattle.gq_names.proofs.Lists.{each_at, each_behind, each_push, each_map, greatest_is, Chosen}
+use Rattle.gq_names.proofs.Lists.{each_at, each_behind, each_push, greatest_is, Chosen}
 use Rattle.gq_names.proofs.Moves.{with_here, with_away}
 
 -- ---- a page that is changed

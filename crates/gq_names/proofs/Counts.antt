@@ -1,15 +1,15 @@
 -- Pages that split: what counts of a session, as it is for `specs/Names`. *Before* its client has seen the signpost in its own old page, the old files are its
 -- files. *After* that the new ones are, each with what the old one had until it is written.
-use Rattle.std.proofs.Common.{◌≡◌, ◌⊎◌, ℕ, zero, suc, Bool, true, false, List, [], ◌∷◌, ◌++◌, refl, sym, ap, ◌∙◌, subst, inl, inr, Option, Some, None}
+use Rattle.std.proofs.Common.{◌≡◌, ◌⊎◌, ℕ, zero, suc, Bool, true, false, List, [], ◌∷◌, ◌++◌, refl, sym, ◌∙◌, subst, inl, inr, Option, Some, None}
 use Rattle.std.specs.Prelude.{not, ◌||◌, ◌&&◌, slice_get, if◌then◌else◌, ⊤}
 use Rattle.std.proofs.lemmas.Bool.{true≢false}
 use Rattle.gq_tag.specs.declared.StoredCopy.{StoredCopy}
 use Rattle.gq_tag.specs.Tag.{first_copy}
 use Rattle.gq_names.specs.Names.{Page, Journal, Client, Knows, Looks, Announces, Carries, Session, behind}
 use Rattle.gq_names.specs.Contents.{Each}
-use Rattle.gq_names.specs.Splitting.{OldPage, OldJournal, Hand, AtOld, GoesOn, AtNew, Clearing, Rests, ClearsJournal, ClearsPage, Files, is_written, cleared, knowing}
-use Rattle.gq_names.proofs.Lists.{each_at, each_behind, each_push, each_map}
-use Rattle.gq_names.proofs.Alike.{AlikePage, AlikeJournal, AlikeClient, page_on, page_back, journal_turns, journal_on, journal_back, Paired, PairedLast, last_none}
+use Rattle.gq_names.specs.Splitting.{OldPage, OldJournal, Hand, AtOld, GoesOn, AtNew, Clearing, Rests, ClearsJournal, ClearsPage, Files, cleared, knowing}
+use Rattle.gq_names.proofs.Lists.{each_map}
+use Rattle.gq_names.proofs.Alike.{AlikePage, AlikeJournal, AlikeClient, page_on, page_back, Paired, PairedLast, last_none}
 
 module _ (inside : ℕ → Bool) where
   -- ---- before

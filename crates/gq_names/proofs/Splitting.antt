@@ -1,6 +1,6 @@
 -- Where pages split, what counts goes on as `specs/Names` has it: each step is one of those, or it changes nothing that counts.
-use Rattle.std.proofs.Common.{◌≡◌, ◌≢◌, ◌⊎◌, ℕ, zero, suc, ◌+◌, Bool, true, false, List, [], ◌∷◌, ◌++◌, refl, sym, ap, ◌∙◌, subst, inl, inr, Option, Some, None, arith, eqb, ltb}
-use Rattle.std.specs.Prelude.{slice_get, map, fold, if◌then◌else◌, ⊤}
+use Rattle.std.proofs.Common.{◌≡◌, ◌≢◌, ◌⊎◌, ℕ, ◌+◌, Bool, true, false, List, [], ◌∷◌, ◌++◌, refl, sym, ap, ◌∙◌, subst, inl, inr, Option, Some, None, arith, eqb, ltb}
+use Rattle.std.specs.Prelude.{slice_get, map, fold, if◌then◌else◌}
 use Rattle.std.specs.List.{range_with_len}
 use Rattle.std.proofs.lemmas.Bool.{cases_eq, ne_eqb, eq-eqb, ltb-true, true≢false}
 use Rattle.gq_laws.specs.declared.ops.Kind.TheVariants.{Read as Reads}
@@ -9,13 +9,12 @@ use Rattle.gq_laws.specs.Operations.{Tagged}
 use Rattle.gq_laws.specs.Orders.{order}
 use Rattle.gq_laws.proofs.Ordering.{order_legal}
 use Rattle.gq_laws.proofs.Sorting.{order_is}
-use Rattle.gq_names.specs.Names.{Setting, Page, Journal, Change, Client, Knows, Looks, Announces, Carries, Session, Reader, Idle, Searches, World, Step, Enters, JournalLate, PageLate, Begins, Tidies, Repeats, Sees, Chooses, ClientWrites, Asks, Finds, Tells, new_world, new_page, new_journal, with_session, with_reader, with_op, with_new_op, with_tag, with_end, new_put, new_get, looking, tidying, begins_by, tidies_by, repeats_by, sees_by, chooses_by, writes_by, asks, told, finds_by, tells_by, journal_late, page_late, changed, highest, new_line, version_told, no_page, none_seen, and_page, and_seen, greatest_shown, has_seen, behind, tick, changes, after_step, world_after, operations_of}
+use Rattle.gq_names.specs.Names.{Setting, Page, Journal, Change, Client, Knows, Looks, Announces, Carries, Session, Reader, Idle, Searches, World, Step, Enters, JournalLate, PageLate, Begins, Tidies, Repeats, Sees, Chooses, ClientWrites, Asks, Finds, Tells, new_world, new_page, new_journal, with_session, with_reader, with_op, with_new_op, with_tag, with_end, new_put, new_get, looking, tidying, begins_by, tidies_by, repeats_by, sees_by, chooses_by, writes_by, told, finds_by, tells_by, changed, highest, new_line, version_told, no_page, none_seen, and_page, and_seen, greatest_shown, has_seen, behind, tick, after_step, world_after, operations_of}
 use Rattle.gq_names.specs.Contents.{Each}
 use Rattle.gq_names.specs.Splitting.{OldPage, OldJournal, Hand, AtOld, GoesOn, AtNew, Clearing, Rests, ClearsJournal, ClearsPage, Files, SplitWorld, first_world, SplitStep, EntersOld, OldJournalLate, OldPageLate, NewJournalLate, NewPageLate, Puts, TidiesUp, SeesOld, SeesNew, ChoosesLine, HandWrites, Signs, EntersNew, Clears, ClearingWrites, AsksFor, FindsOld, FindsNew, TellsOf, with_files, with_asker, with_split_op, with_next_op, with_version, with_ended, with_sign, with_hand, old_journal_late, old_page_late, new_journal_late, new_page_late, a_put, first_look, begins_as, puts_by, tidies_up_by, looks_more, sees_old_as, sees_old_by, counts, sees_new_as, sees_new_by, chooses_as, chooses_line_by, hand_writes_by, signs_as, signs_by, begun_with, enters_new_by, cleared, clears_as, clears_by, knowing, clearing_writes_by, a_get, asks_for, finds_old_by, finds_new_as, finds_new_by, tells_of_by, splits, tick_of, after_split_step, split_world_after, split_operations_of, AllSplitsLegal}
 use Rattle.gq_names.proofs.Lists.{each_at, each_behind, each_push, each_map}
-use Rattle.gq_names.proofs.Alike.{AlikePage, AlikeJournal, AlikeClient, AlikeReader, Paired, PairedLast, AtPlace, paired_at, paired_push, last_at, last_push, last_all, page_self, page_turns, page_on, page_back, journal_self, journal_turns, journal_on, journal_back, part_alike, part_journal, has_alike, greatest_shown_alike, version_alike, chosen_alike, looked_alike, seen_alike}
-use Rattle.gq_names.proofs.Counts.{HandOld, Quiet, QuietHand, Has, SignedHand, SignedLast, NoneNew, Unsigned, Signed, Before, Fits, OnlyKnows, HandKnows, ClearingHas, HandNew, CarriesNot, NotCarrying, NoPage, After, Counts, SignFits, signed_map, signed_none, signed_at, signed_push, signed_all, cleared_alike, knowing_it, knowing_new, knowing_not, known_map, signed_hand_map, before_hand, quiet_unsigned, clearing_map, goes_on, after_new, after_hand}
-use Rattle.gq_names.proofs.Moves.{with_here, with_away}
+use Rattle.gq_names.proofs.Alike.{AlikePage, AlikeJournal, AlikeClient, AlikeReader, AtPlace, paired_at, paired_push, last_at, last_push, last_all, page_self, page_turns, page_on, page_back, journal_self, journal_turns, journal_on, journal_back, part_alike, part_journal, has_alike, greatest_shown_alike, version_alike, chosen_alike, looked_alike, seen_alike}
+use Rattle.gq_names.proofs.Counts.{HandOld, QuietHand, SignedHand, NoneNew, Unsigned, Signed, Before, Fits, OnlyKnows, HandKnows, ClearingHas, HandNew, CarriesNot, NotCarrying, After, Counts, SignFits, signed_map, signed_none, signed_at, signed_push, signed_all, cleared_alike, knowing_it, knowing_new, knowing_not, known_map, signed_hand_map, before_hand, quiet_unsigned, goes_on, after_new, after_hand}
 use Rattle.gq_names.proofs.Steps.{all_names_tagged}
 
 module _ (inside : ℕ → Bool) where
@@ -699,8 +698,11 @@ module _ (inside : ℕ → Bool) where
 
             keeps : Unsigned inside y ⊎ Signed inside x y → (p : Page) → SignFits inside x y p → SignFits inside next carried_files p
             keeps (inl un) p fits = absurd (true≢false (sym fits.0 ∙ un.page))
-            keeps (inr si) p fits = ((known si).0, λ none. page_turns inside x.journal.page i.page p (page_on inside x.journal.page j.page i.page (known si).1.page (page_back inside i.page j.page like.0.page))
-                (page_on inside x.journal.page x.page p (page_on inside x.journal.page y.old_page.page x.page (signed_all inside (AlikePage inside x.journal.page) y.old_page y.old_page_pending si.pages fits.0).0 (page_back inside x.page y.old_page.page b.page)) (fits.1 none)))
+            keeps (inr si) p fits = (
+              (known si).0,
+              λ none. page_turns inside x.journal.page i.page p (page_on inside x.journal.page j.page i.page (known si).1.page (page_back inside i.page j.page like.0.page))
+                  (page_on inside x.journal.page x.page p (page_on inside x.journal.page y.old_page.page x.page (signed_all inside (AlikePage inside x.journal.page) y.old_page y.old_page_pending si.pages fits.0).0 (page_back inside x.page y.old_page.page b.page)) (fits.1 none)),
+            )
         carries_old false is (Carries i also) at like b = tick_stands _ _ (session_stands w u s next carries_files (inl (record {
           journal = b.journal;
           journals = b.journals;

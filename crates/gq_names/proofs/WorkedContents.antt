@@ -1,9 +1,9 @@
 -- The worked run of contents keeps the rules.
-use Rattle.std.proofs.Common.{◌≡◌, ◌⊎◌, ◌∙◌, ℕ, List, [], ◌∷◌, true, false, refl, sym, ap, subst, inl, inr, eqb}
-use Rattle.std.specs.Prelude.{◌==◌, Bool, ◌||◌}
+use Rattle.std.proofs.Common.{◌≡◌, ◌⊎◌, ◌∙◌, ℕ, [], ◌∷◌, true, false, refl, sym, ap, inl, inr, eqb}
+use Rattle.std.specs.Prelude.{◌==◌, Bool}
 use Rattle.std.proofs.lemmas.Bool.{cases_Bool, eq-eqb, eqb-true, true≢false}
-use Rattle.gq_names.specs.Names.{Page, new_page, shown}
-use Rattle.gq_names.specs.Contents.{AllMay, IsFree, MayPut, ShowsOnly, State, and_content, new_state, state_after}
+use Rattle.gq_names.specs.Names.{shown}
+use Rattle.gq_names.specs.Contents.{AllMay, IsFree, State, and_content, new_state, state_after}
 use Rattle.gq_names.specs.Worked.{two, by_number, puts, deeds_worked}
 
 -- a line of one byte names the content of that number alone

@@ -6,9 +6,9 @@
 -- Clients keep three rules. A change is chosen only once all that its line names is kept. Each content is put by one session alone, and not again
 -- once it is forgotten. And it is forgotten only where that session is *free* of it: neither its page nor its journal shows it, nor a
 -- write to these that is pending, nor what its client is about to write.
-use Rattle.std.specs.Prelude.{◌≡◌, ℕ, List, [], ◌∷◌, ◌++◌, fold, Bool, true, false, ◌==◌, Option, Some, None, ⊤, if◌then◌else◌}
+use Rattle.std.specs.Prelude.{◌≡◌, ℕ, List, [], ◌∷◌, ◌++◌, fold, Bool, true, false, ◌==◌, Some, ⊤, if◌then◌else◌}
 use Rattle.gq_laws.specs.declared.ops.Kind.TheVariants.{Read as Reads}
-use Rattle.gq_names.specs.Names.{Setting, Page, Journal, Change, Client, Knows, Looks, Announces, Carries, Session, World, Step, Begins, Chooses, ClientWrites, after_step, new_world, shown}
+use Rattle.gq_names.specs.Names.{Setting, Page, Client, Knows, Looks, Announces, Carries, Session, World, Step, Begins, Chooses, ClientWrites, after_step, new_world, shown}
 
 -- what bytes name, and which session alone puts it; a removal names nothing
 pub record Contents : Type 0 where
