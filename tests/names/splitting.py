@@ -381,28 +381,25 @@ def cleared_first(client):
     return splitting(client)
 
 
-def unsigned(journal, split):
-    """The new page is written though the old one has no signpost."""
-    tag = yield NEW, WriteJournal(journal)
-    return split.later(tag), split
+def leaving_out(*kinds):
+    """A client that enters, and leaves out these writes of its old files."""
+
+    def entering(split, right=splits.reading_journal):
+        work = right(split)
+        which, asked = next(work)
+        while True:
+            answer = tag_of(asked.page) if which == OLD and isinstance(asked, kinds) else (yield which, asked)
+            try:
+                which, asked = work.send(answer)
+            except StopIteration as end:
+                return end.value
+
+    return entering
 
 
-def not_carried(journal, split):
-    """The signpost is announced and not carried."""
-    if not split.has_signpost(split.session):
-        first = splits.signed(split.journal, split.level)
-        yield OLD, WriteJournal(first)
-        split = replace(split, journal=first)
-    return (yield from unsigned(journal, split))
-
-
-def not_announced(journal, split):
-    """The old page gets the signpost without its journal."""
-    if not split.has_signpost(split.session):
-        first = splits.signed(split.journal, split.level)
-        tag = yield OLD, WritePage(first)
-        split = replace(split.saw(split.session, Known(tag, first)), journal=first)
-    return (yield from unsigned(journal, split))
+unsigned = leaving_out(WriteJournal, WritePage)  # the new page is written though the old one has no signpost
+not_carried = leaving_out(WritePage)  # the signpost is announced and not carried
+not_announced = leaving_out(WriteJournal)  # the old page gets the signpost without its journal
 
 
 def read_late(session, split):
@@ -442,20 +439,19 @@ def numbered_anew(page, is_here):
     return replace(page, number=0, signposts=())
 
 
-def journal_of_before(split):
+def journal_of_before(split, right=splits.reading_journal):
     """The old journal counts though the new one was written."""
-    old = yield OLD, ReadJournal()
-    split = replace(split, journal=old.page)
-    return Known(old.tag, splits.part_of(old.page, split.is_here)), split
+    _, split = yield from right(split)
+    return Known(tag_of(split.journal), splits.part_of(split.journal, split.is_here)), split
 
 
 HERE = sys.modules[__name__]
 ONE, AGAIN, BESIDE = Bounds(1, 1, 1, gets=1), Bounds(1, 1, 2, gets=1, clients=2), Bounds(2, 1, 1, gets=2)
 VARIANTS = {
     "old lines go before they are in a new page": (HERE, "going_on", cleared_first, ONE),
-    "a new page before the signpost": (splits, "announcing", unsigned, AGAIN),
-    "a signpost that is not carried": (splits, "announcing", not_carried, AGAIN),
-    "a signpost that is not announced": (splits, "announcing", not_announced, AGAIN._replace(splits=2)),
+    "a new page before the signpost": (splits, "reading_journal", unsigned, AGAIN),
+    "a signpost that is not carried": (splits, "reading_journal", not_carried, AGAIN),
+    "a signpost that is not announced": (splits, "reading_journal", not_announced, AGAIN._replace(splits=2)),
     "an old page is read behind the new one": (splits, "reading", read_late, ONE),
     "closed by one signpost": (splits.Split, "is_closed", closed_by_one, BESIDE),
     "an old page counts as long as it has lines": (splits, "reading", old_counts, AGAIN),

@@ -107,16 +107,37 @@ def answering(request: core.Request, split: Split) -> Work:
 
 
 def reading_journal(split: Split) -> Work:
-    """The old journal, as long as it has no signpost or the new one was not written."""
+    """The old journal, as long as the new one was not written. Who enters is to change something, so the own old page gets the signpost first, where it isn't there: from
+    then on neither the old journal nor that page gets another line, whatever an earlier client asked for."""
     old = yield OLD, ReadJournal()
     assert isinstance(old, Known)
     split = replace(split, journal=old.page)
-    if is_split(old.page, split.level):
+    if not is_split(old.page, split.level):
+        split = yield from signing(split)  # (so nobody wrote the new journal)
+    else:
         new = yield NEW, ReadJournal()
         assert isinstance(new, Known)
+        if not is_written(new.page) and not split.has_signpost(split.session):
+            known = yield OLD, ReadPage(split.session)  # (a change looks at the other pages alone)
+            assert isinstance(known, Known)
+            split = split.saw(split.session, known)
+            if not split.has_signpost(split.session):
+                split = yield from signing(split)
+            new = yield NEW, ReadJournal()  # what an earlier client wrote may have come meanwhile
+            assert isinstance(new, Known)
         if is_written(new.page):
             return Known(split.later(new.tag), new.page), replace(split, is_new=True)
     return Known(old.tag, part_of(old.page, split.is_here)), split
+
+
+def signing(split: Split) -> Generator[Asked, core.Answer, Split]:
+    """Puts the signpost into the own old journal, and into the own old page once that was answered."""
+    assert split.journal is not None
+    first = signed(split.journal, split.level)
+    yield OLD, WriteJournal(first)
+    tag = yield OLD, WritePage(first)
+    assert isinstance(tag, Tag)
+    return replace(split.saw(split.session, Known(tag, first)), journal=first)
 
 
 def listing(split: Split) -> Work:
@@ -158,19 +179,9 @@ def reading(session: int, split: Split) -> Work:
 
 
 def announcing(journal: Page, split: Split) -> Work:
-    """The signpost is in the own old page, which was carried, before anything is written at the new bucket: so nothing that an earlier client wrote comes into the
-    old one any more."""
-    if not split.is_new and split.journal and is_split(split.journal, split.level) and not split.has_signpost(split.session):
-        known = yield OLD, ReadPage(split.session)  # (a change looks at the other pages alone)
-        assert isinstance(known, Known)
-        split = split.saw(split.session, known)
+    """The signpost is in the own old page, which was carried: the client saw to that when it entered. Older where that page is as it was before."""
     if not split.is_new and not split.has_signpost(split.session):
-        assert split.journal is not None
-        first = signed(split.journal, split.level)
-        yield OLD, WriteJournal(first)
-        tag = yield OLD, WritePage(first)
-        assert isinstance(tag, Tag)
-        split = replace(split.saw(split.session, Known(tag, first)), journal=first)
+        raise core.Older(split.session)
     tag = yield NEW, WriteJournal(journal)
     assert isinstance(tag, Tag)
     return split.later(tag), replace(split, is_new=True)
