@@ -1,9 +1,11 @@
 -- Pages that say the same of the names inside: what is chosen beside them says the same too.
-use Rattle.std.proofs.Common.{◌≡◌, ◌⊎◌, ℕ, zero, suc, Bool, true, false, List, [], ◌∷◌, ◌++◌, refl, sym, ◌∙◌, subst, inl, inr, Option, Some, None, max, eqb, ltb}
+use Rattle.std.proofs.Common.{◌≡◌, ◌⊎◌, ℕ, zero, suc, ◌+◌, Bool, true, false, List, [], ◌∷◌, ◌++◌, refl, sym, ap, ◌∙◌, subst, inl, inr, Option, Some, None, max, eqb, ltb}
 use Rattle.std.specs.Prelude.{not, ◌||◌, slice_get, if◌then◌else◌, ⊤}
 use Rattle.gq_tag.specs.declared.StoredCopy.{StoredCopy}
 use Rattle.gq_tag.specs.Tag.{first_copy}
-use Rattle.gq_names.specs.Names.{Setting, Page, Journal, Change, Client, Knows, Looks, Announces, Carries, Reader, Idle, Searches, shown, all_below, greatest_of, greatest_number, greatest_shown, greatest_line, greatest_asked, is_beaten, is_past, is_forgotten, goes_now, is_of, changed_page, changed, latest_op, new_line, highest, is_closed, has_seen, version_told, and_page, and_seen, behind}
+use Rattle.std.proofs.lemmas.Bool.{ne_eqb, true≢false}
+use Rattle.gq_names.specs.Names.{Setting, tidying, Page, Journal, Change, Client, Knows, Looks, Announces, Carries, Reader, Idle, Searches, shown, all_below, greatest_of, greatest_number, greatest_shown, greatest_line, greatest_asked, is_beaten, is_past, is_forgotten, goes_now, is_of, changed_page, changed, latest_op, new_line, highest, is_closed, has_seen, version_told, and_page, and_seen, behind}
+use Rattle.gq_names.specs.Contents.{Each}
 use Rattle.gq_names.specs.Splitting.{part_of, part_of_journal}
 
 -- ---- of all sessions
@@ -140,6 +142,21 @@ module _ (inside : ℕ → Bool) where
         number = refl;
       }
 
+      -- a change of a name that is not inside says nothing of those that are
+      nameless_at : (n name : ℕ) (line also : StoredCopy) → inside n ≡ true → inside name ≡ false → p.line n ≡ (if eqb n name then line else q.line n)
+      nameless_at n name line also is out = rw (ne_eqb n name (λ same. true≢false (sym is ∙ ap inside same ∙ out))) (one.line n is)
+
+      nameless_gone : (n name : ℕ) → inside n ≡ true → inside name ≡ false → (p.gone n || goes_now v goes asks seen s p n) ≡ (if eqb n name then false else q.gone n || goes_now v goes asks more s q n)
+      nameless_gone n name is out = rw (ne_eqb n name (λ same. true≢false (sym is ∙ ap inside same ∙ out))) (gone_at n is false)
+
+      pub nameless_alike : (name : ℕ) (line also : StoredCopy) → inside name ≡ false → line.tag.number ≡ also.tag.number → AlikePage inside (changed_page v goes asks seen s p None line) (changed_page v goes asks more s q (Some name) also)
+      nameless_alike name line also out number = record {
+        line = λ n is. nameless_at n name also line is out;
+        gone = λ n is. nameless_gone n name is out;
+        after = λ t. after_alike t (asks t);
+        number = number;
+      }
+
     -- the journal that is announced
     pub chosen_alike : (goes asks : ℕ → Bool) (s more_by : ℕ) (change : Change) (i j : Journal) → AlikeJournal inside i j →
         AlikeJournal inside (changed v goes asks seen s i change (new_line s more_by change (highest v i.page seen))) (changed v goes asks more s j change (new_line s more_by change (highest v j.page more)))
@@ -152,11 +169,32 @@ module _ (inside : ℕ → Bool) where
         latest None = one.op
         latest (Some k) = refl
 
+    -- by a change of no name in place of one of a name that is not inside
+    pub chosen_nameless : (goes asks : ℕ → Bool) (s more_by name : ℕ) (bytes : List ℕ) (i j : Journal) → inside name ≡ false → AlikeJournal inside i j →
+        AlikeJournal inside (changed v goes asks seen s i tidying (new_line s more_by tidying (highest v i.page seen)))
+        (changed v goes asks more s j (record { name = Some name; bytes = bytes; op = None }) (new_line s more_by (record { name = Some name; bytes = bytes; op = None }) (highest v j.page more)))
+    chosen_nameless goes asks s more_by name bytes i j out one = record {
+      page = nameless_alike goes asks s i.page j.page one.page name (new_line s more_by tidying (highest v i.page seen)) (new_line s more_by (record { name = Some name; bytes = bytes; op = None }) (highest v j.page more)) out
+          (ap (λ z. z + 1 + more_by) (highest_alike i.page j.page one.page));
+      op = one.op;
+    }
+
 -- ---- clients and readers
+
+-- a change of a name that is not inside is like one of no name
+pub record Nameless (inside : ℕ → Bool) (c d : Change) : Type 0 where
+  pub name : ℕ
+  pub bytes : List ℕ
+  pub out : inside name ≡ false
+  pub none : c ≡ tidying
+  pub other : d ≡ record { name = Some name; bytes = bytes; op = None }
+
+abbrev pub AlikeChange : (inside : ℕ → Bool) → Change → Change → Type 0
+AlikeChange inside c d = (c ≡ d) ⊎ Nameless inside c d
 
 abbrev pub AlikeClient : (inside : ℕ → Bool) → Client → Client → Type 0
 AlikeClient inside (Knows i) (Knows j) = AlikeJournal inside i j
-AlikeClient inside (Looks i change looked seen) (Looks j other did more) = AlikeJournal inside i j × (change ≡ other) × ((t : ℕ) → looked t ≡ did t) × ((t : ℕ) → AlikePage inside (seen t) (more t))
+AlikeClient inside (Looks i change looked seen) (Looks j other did more) = AlikeJournal inside i j × AlikeChange inside change other × ((t : ℕ) → looked t ≡ did t) × ((t : ℕ) → AlikePage inside (seen t) (more t))
 AlikeClient inside (Announces i op) (Announces j other) = AlikeJournal inside i j × (op ≡ other)
 AlikeClient inside (Carries i op) (Carries j other) = AlikeJournal inside i j × (op ≡ other)
 AlikeClient inside _ _ = ⊥
@@ -188,10 +226,10 @@ Paired R [] [] = ⊤
 Paired R (x ∷ xs) (y ∷ ys) = R x y × Paired R xs ys
 Paired R _ _ = ⊥
 
--- the last ones are
-abbrev pub PairedLast : {A B : Type 0} → (A → B → Type 0) → List A → List B → Type 0
-PairedLast R [] ys = Paired R [] ys
-PairedLast R (x ∷ xs) ys = Paired R (x ∷ xs) ys ⊎ PairedLast R xs ys
+-- the last ones are, and those before them are such
+abbrev pub PairedLast : {A B : Type 0} → (G : A → Type 0) → (A → B → Type 0) → List A → List B → Type 0
+PairedLast G R [] ys = Paired R [] ys
+PairedLast G R (x ∷ xs) ys = Paired R (x ∷ xs) ys ⊎ (G x × PairedLast G R xs ys)
 
 -- the one at a place, with those behind
 pub record AtPlace {A B : Type 0} (R : A → B → Type 0) (xs : List A) (y : B) (ys : List B) : Type 0 where
@@ -214,20 +252,32 @@ paired_push R (a ∷ xs) (b ∷ ys) x y all one = (all.0, paired_push R xs ys x 
 paired_push R [] (b ∷ ys) x y all one = absurd all
 paired_push R (a ∷ xs) [] x y all one = absurd all
 
-pub last_at : {A B : Type 0} (R : A → B → Type 0) (xs : List A) (ys : List B) (i : ℕ) (y : B) → PairedLast R xs ys → slice_get ys i ≡ Some y → AtPlace R xs y (behind ys i)
-last_at R [] ys i y all at = paired_at R [] ys i y all at
-last_at R (x ∷ xs) ys i y (inl all) at = paired_at R (x ∷ xs) ys i y all at
-last_at R (x ∷ xs) ys i y (inr all) at = let r = last_at R xs ys i y all at in record { place = suc r.place; x = r.x; at = r.at; fits = r.fits; rest = r.rest }
+pub last_at : {A B : Type 0} (G : A → Type 0) (R : A → B → Type 0) (xs : List A) (ys : List B) (i : ℕ) (y : B) → PairedLast G R xs ys → slice_get ys i ≡ Some y → AtPlace R xs y (behind ys i)
+last_at G R [] ys i y all at = paired_at R [] ys i y all at
+last_at G R (x ∷ xs) ys i y (inl all) at = paired_at R (x ∷ xs) ys i y all at
+last_at G R (x ∷ xs) ys i y (inr all) at = let r = last_at G R xs ys i y all.1 at in record { place = suc r.place; x = r.x; at = r.at; fits = r.fits; rest = r.rest }
 
-pub last_push : {A B : Type 0} (R : A → B → Type 0) (xs : List A) (ys : List B) (x : A) (y : B) → PairedLast R xs ys → R x y → PairedLast R (xs ++ x ∷ []) (ys ++ y ∷ [])
-last_push R [] ys x y all one = inl (paired_push R [] ys x y all one)
-last_push R (a ∷ xs) ys x y (inl all) one = inl (paired_push R (a ∷ xs) ys x y all one)
-last_push R (a ∷ xs) ys x y (inr all) one = inr (last_push R xs ys x y all one)
+pub last_push : {A B : Type 0} (G : A → Type 0) (R : A → B → Type 0) (xs : List A) (ys : List B) (x : A) (y : B) → PairedLast G R xs ys → R x y → PairedLast G R (xs ++ x ∷ []) (ys ++ y ∷ [])
+last_push G R [] ys x y all one = inl (paired_push R [] ys x y all one)
+last_push G R (a ∷ xs) ys x y (inl all) one = inl (paired_push R (a ∷ xs) ys x y all one)
+last_push G R (a ∷ xs) ys x y (inr all) one = inr (all.0, last_push G R xs ys x y all.1 one)
 
-pub last_all : {A B : Type 0} (R : A → B → Type 0) (xs : List A) (ys : List B) → Paired R xs ys → PairedLast R xs ys
-last_all R [] ys all = all
-last_all R (x ∷ xs) ys all = inl all
+pub last_all : {A B : Type 0} (G : A → Type 0) (R : A → B → Type 0) (xs : List A) (ys : List B) → Paired R xs ys → PairedLast G R xs ys
+last_all G R [] ys all = all
+last_all G R (x ∷ xs) ys all = inl all
 
-pub last_none : {A B : Type 0} (R : A → B → Type 0) (xs : List A) → PairedLast R xs []
-last_none R [] = tt
-last_none R (x ∷ xs) = inr (last_none R xs)
+pub last_none : {A B : Type 0} (G : A → Type 0) (R : A → B → Type 0) (xs : List A) → Each G xs → PairedLast G R xs []
+last_none G R [] each = tt
+last_none G R (x ∷ xs) each = inr (each.0, last_none G R xs each.1)
+
+-- what is so of each of them, by that of the other
+pub paired_each : {A B : Type 0} (R : A → B → Type 0) (P : B → Type 0) (Q : A → Type 0) (xs : List A) (ys : List B) → ((x : A) (y : B) → R x y → P y → Q x) → Paired R xs ys → Each P ys → Each Q xs
+paired_each R P Q [] [] f all each = tt
+paired_each R P Q (x ∷ xs) (y ∷ ys) f all each = (f x y all.0 each.0, paired_each R P Q xs ys f all.1 each.1)
+paired_each R P Q [] (y ∷ ys) f all each = absurd all
+paired_each R P Q (x ∷ xs) [] f all each = absurd all
+
+pub last_each : {A B : Type 0} (G : A → Type 0) (R : A → B → Type 0) (P : B → Type 0) (Q : A → Type 0) (xs : List A) (ys : List B) → ((x : A) (y : B) → R x y → P y → Q x) → ((x : A) → G x → Q x) → PairedLast G R xs ys → Each P ys → Each Q xs
+last_each G R P Q [] ys f g all each = paired_each R P Q [] ys f all each
+last_each G R P Q (x ∷ xs) ys f g (inl all) each = paired_each R P Q (x ∷ xs) ys f all each
+last_each G R P Q (x ∷ xs) ys f g (inr all) each = (g x all.0, last_each G R P Q xs ys f g all.1 each)

@@ -9,7 +9,7 @@ use Rattle.gq_names.specs.Names.{Page, Journal, Client, Knows, Looks, Announces,
 use Rattle.gq_names.specs.Contents.{Each}
 use Rattle.gq_names.specs.Splitting.{OldPage, OldJournal, Hand, AtOld, GoesOn, AtNew, Clearing, Rests, ClearsJournal, ClearsPage, Files, cleared, knowing}
 use Rattle.gq_names.proofs.Lists.{each_map}
-use Rattle.gq_names.proofs.Alike.{AlikePage, AlikeJournal, AlikeClient, page_on, page_back, Paired, PairedLast, last_none}
+use Rattle.gq_names.proofs.Alike.{AlikePage, AlikeJournal, AlikeClient, page_on, page_back, journal_on, journal_back, Paired, PairedLast, last_none, paired_each}
 
 module _ (inside : ℕ → Bool) where
   -- ---- before
@@ -119,6 +119,13 @@ module _ (inside : ℕ → Bool) where
   abbrev pub NoPage : Option Page → List Page → Hand → Type 0
   NoPage page pages hand = (page ≡ None) × (pages ≡ []) × NotCarrying hand
 
+  -- one that was written again as it is, before the new file was written at all
+  abbrev pub SpareJournal : Journal → Option Journal → Journal → Type 0
+  SpareJournal now new_journal i = (new_journal ≡ None) × AlikeJournal inside now i
+
+  abbrev pub SparePage : Page → Option Page → Page → Type 0
+  SparePage now new_page p = (new_page ≡ None) × AlikePage inside now p
+
   pub record After (x : Session) (y : Files) : Type 0 where
     pub journal_signed : y.old_journal.signed ≡ true
     pub page_signed : y.old_page.signed ≡ true
@@ -131,8 +138,8 @@ module _ (inside : ℕ → Bool) where
     pub client : HandNew x.client y.hand
     pub journal : (j : Journal) → y.new_journal ≡ Some j → AlikeJournal inside x.journal j
     pub page : (p : Page) → y.new_page ≡ Some p → AlikePage inside x.page p
-    pub journals : PairedLast (AlikeJournal inside) x.journal_pending y.new_journal_pending
-    pub pages : PairedLast (AlikePage inside) x.page_pending y.new_page_pending
+    pub journals : PairedLast (SpareJournal x.journal y.new_journal) (AlikeJournal inside) x.journal_pending y.new_journal_pending
+    pub pages : PairedLast (SparePage x.page y.new_page) (AlikePage inside) x.page_pending y.new_page_pending
     pub none : y.new_journal ≡ None → NoPage y.new_page y.new_page_pending y.hand
 
   abbrev pub Counts : Session → Files → Type 0
@@ -258,8 +265,12 @@ module _ (inside : ℕ → Bool) where
     client = tt;
     journal = λ i some. absurd (let bad : None ≡ Some i = sym b.none.journal ∙ some in cc);
     page = λ p some. absurd (let bad : None ≡ Some p = sym b.none.page ∙ some in cc);
-    journals = subst (λ (z : List Journal). PairedLast (AlikeJournal inside) x.journal_pending z) (sym b.none.journals) (last_none (AlikeJournal inside) x.journal_pending);
-    pages = subst (λ (z : List Page). PairedLast (AlikePage inside) x.page_pending z) (sym b.none.pages) (last_none (AlikePage inside) x.page_pending);
+    journals = subst (λ (z : List Journal). PairedLast (SpareJournal x.journal y.new_journal) (AlikeJournal inside) x.journal_pending z) (sym b.none.journals) (last_none (SpareJournal x.journal y.new_journal) (AlikeJournal inside) x.journal_pending
+        (paired_each (λ i k. AlikeJournal inside i k.journal) (λ (k : OldJournal). (k.signed ≡ true) × AlikeJournal inside x.journal k.journal) (SpareJournal x.journal y.new_journal) x.journal_pending y.old_journal_pending
+        (λ i k like so. (b.none.journal, journal_on inside x.journal k.journal i so.1 (journal_back inside i k.journal like))) b.journals s.journals));
+    pages = subst (λ (z : List Page). PairedLast (SparePage x.page y.new_page) (AlikePage inside) x.page_pending z) (sym b.none.pages) (last_none (SparePage x.page y.new_page) (AlikePage inside) x.page_pending
+        (paired_each (λ p q. AlikePage inside p q.page) (λ (q : OldPage). (q.signed ≡ true) × AlikePage inside x.journal.page q.page) (SparePage x.page y.new_page) x.page_pending y.old_page_pending
+        (λ p q like so. (b.none.page, page_on inside x.page x.journal.page p same (page_on inside x.journal.page q.page p so.1 (page_back inside p q.page like)))) b.pages all.1));
     none = λ none. (b.none.page, b.none.pages, tt);
   }
     where
@@ -280,7 +291,7 @@ module _ (inside : ℕ → Bool) where
       ((p : Page) → (y.new_page ≡ None → AlikePage inside x.page p) → page ≡ None → AlikePage inside z.page p) →
       HandKnows (Fits z.journal z.page journal page) hand → HandNew z.client hand →
       ((j : Journal) → journal ≡ Some j → AlikeJournal inside z.journal j) → ((p : Page) → page ≡ Some p → AlikePage inside z.page p) →
-      PairedLast (AlikeJournal inside) z.journal_pending journals → PairedLast (AlikePage inside) z.page_pending pages → (journal ≡ None → NoPage page pages hand) →
+      PairedLast (SpareJournal z.journal journal) (AlikeJournal inside) z.journal_pending journals → PairedLast (SparePage z.page page) (AlikePage inside) z.page_pending pages → (journal ≡ None → NoPage page pages hand) →
       After z (record y { new_journal = journal; new_journal_pending = journals; new_page = page; new_page_pending = pages; hand = hand })
   after_new x z y hand journal journals page pages a fits fits_page known client journal_is page_is journals_are pages_are none = record {
     journal_signed = a.journal_signed;

@@ -1,6 +1,6 @@
 -- Where pages split, what counts goes on as `specs/Names` has it: each step is one of those, or it changes nothing that counts.
 use Rattle.std.proofs.Common.{◌≡◌, ◌≢◌, ◌⊎◌, ℕ, ◌+◌, Bool, true, false, List, [], ◌∷◌, ◌++◌, refl, sym, ap, ◌∙◌, subst, inl, inr, Option, Some, None, arith, eqb, ltb}
-use Rattle.std.specs.Prelude.{slice_get, map, fold, if◌then◌else◌}
+use Rattle.std.specs.Prelude.{slice_get, map, fold, if◌then◌else◌, ⊤}
 use Rattle.std.specs.List.{range_with_len}
 use Rattle.std.proofs.lemmas.Bool.{cases_eq, ne_eqb, eq-eqb, ltb-true, true≢false}
 use Rattle.gq_laws.specs.declared.ops.Kind.TheVariants.{Read as Reads}
@@ -13,8 +13,8 @@ use Rattle.gq_names.specs.Names.{Setting, Page, Journal, Change, Client, Knows, 
 use Rattle.gq_names.specs.Contents.{Each}
 use Rattle.gq_names.specs.Splitting.{OldPage, OldJournal, Hand, AtOld, GoesOn, AtNew, Clearing, Rests, ClearsJournal, ClearsPage, Files, SplitWorld, first_world, SplitStep, EntersOld, OldJournalLate, OldPageLate, NewJournalLate, NewPageLate, Puts, TidiesUp, SeesOld, SeesNew, ChoosesLine, HandWrites, Signs, EntersNew, Clears, ClearingWrites, AsksFor, FindsOld, FindsNew, TellsOf, with_files, with_asker, with_split_op, with_next_op, with_version, with_ended, with_sign, with_hand, old_journal_late, old_page_late, new_journal_late, new_page_late, a_put, first_look, begins_as, puts_by, tidies_up_by, looks_more, sees_old_as, sees_old_by, counts, sees_new_as, sees_new_by, chooses_as, chooses_line_by, hand_writes_by, signs_as, signs_by, begun_with, enters_new_by, cleared, clears_as, clears_by, knowing, clearing_writes_by, a_get, asks_for, finds_old_by, finds_new_as, finds_new_by, tells_of_by, splits, tick_of, after_split_step, split_world_after, split_operations_of, AllSplitsLegal}
 use Rattle.gq_names.proofs.Lists.{each_at, each_behind, each_push, each_map}
-use Rattle.gq_names.proofs.Alike.{AlikePage, AlikeJournal, AlikeClient, AlikeReader, AtPlace, paired_at, paired_push, last_at, last_push, last_all, page_self, page_turns, page_on, page_back, journal_self, journal_turns, journal_on, journal_back, part_alike, part_journal, has_alike, greatest_shown_alike, version_alike, chosen_alike, looked_alike, seen_alike}
-use Rattle.gq_names.proofs.Counts.{HandOld, QuietHand, SignedHand, NoneNew, Unsigned, Signed, Before, Fits, OnlyKnows, HandKnows, ClearingHas, HandNew, CarriesNot, NotCarrying, After, Counts, SignFits, signed_map, signed_none, signed_at, signed_push, signed_all, cleared_alike, knowing_it, knowing_new, knowing_not, known_map, signed_hand_map, before_hand, quiet_unsigned, goes_on, after_new, after_hand}
+use Rattle.gq_names.proofs.Alike.{AlikePage, AlikeJournal, AlikeChange, Nameless, AlikeClient, AlikeReader, AtPlace, paired_at, paired_push, last_at, last_push, last_all, page_self, page_turns, page_on, page_back, journal_self, journal_turns, journal_on, journal_back, part_alike, part_journal, has_alike, greatest_shown_alike, version_alike, chosen_alike, chosen_nameless, looked_alike, seen_alike}
+use Rattle.gq_names.proofs.Counts.{SpareJournal, SparePage, HandOld, QuietHand, SignedHand, NoneNew, Unsigned, Signed, Before, Fits, OnlyKnows, HandKnows, ClearingHas, HandNew, CarriesNot, NotCarrying, After, Counts, SignFits, signed_map, signed_none, signed_at, signed_push, signed_all, cleared_alike, knowing_it, knowing_new, knowing_not, known_map, signed_hand_map, before_hand, quiet_unsigned, goes_on, after_new, after_hand}
 use Rattle.gq_names.proofs.Steps.{all_names_tagged}
 
 module _ (inside : ℕ → Bool) where
@@ -99,10 +99,23 @@ module _ (inside : ℕ → Bool) where
   both true w x u y one other = one
   both false w x u y one other = other
 
-  module _ (v : Setting) (watched : inside v.name ≡ true) where
-    -- a step of `specs/Names` does the same
+  -- steps of which nothing is asked: all but those that begin to put a name, or choose
+  abbrev pub IsEasy : Step → Type 0
+  IsEasy (Begins s name bytes) = ⊥
+  IsEasy (Chooses s more goes asks) = ⊥
+  IsEasy _ = ⊤
+
+  -- the client of a session is like that of its hand
+  abbrev pub ClientOf : Client → Hand → Type 0
+  ClientOf c (AtOld signed d) = AlikeClient inside c d
+  ClientOf c (GoesOn old) = ⊥
+  ClientOf c (AtNew old d) = AlikeClient inside c d
+
+  module _ (v : Setting) (watched : inside v.name ≡ true) (Q : Step → Type 0) (easy : (step : Step) → IsEasy step → Q step) where
+    -- a step of `specs/Names` does the same, and is such
     pub record Goes (w : World) (u : SplitWorld) : Type 0 where
       pub plain : Step
+      pub may : Q plain
       pub stands : Stands (after_step v w plain) (tick_of u)
 
     not_less : (n : ℕ) → ltb n n ≡ false
@@ -114,7 +127,7 @@ module _ (inside : ℕ → Bool) where
 
     -- one that does not fit
     rests : (w : World) (u : SplitWorld) → Stands w u → Goes w u
-    rests w u st = record { plain = Tidies v.sessions; stands = rw (not_less v.sessions) (tick_stands w u st) }
+    rests w u st = record { plain = Tidies v.sessions; may = easy (Tidies v.sessions) tt; stands = rw (not_less v.sessions) (tick_stands w u st) }
 
     module _ (w : World) (u : SplitWorld) (st : Stands w u) (s : ℕ) where
       abbrev x : Session
@@ -144,6 +157,7 @@ module _ (inside : ℕ → Bool) where
           by : Counts inside x y → Goes w (with_files s entered u)
           by (inl b) = record {
             plain = Enters s;
+            may = easy (Enters s) tt;
             stands = tick_stands (with_session s (record x { client = Knows x.journal }) w) (with_files s entered u) (session_stands w u s (record x { client = Knows x.journal }) entered (inl (record {
               journal = b.journal;
               journals = b.journals;
@@ -186,6 +200,7 @@ module _ (inside : ℕ → Bool) where
               of : AtPlace (λ i k. AlikeJournal inside i k.journal) x.journal_pending j (behind y.old_journal_pending place) → Goes w (with_files s (record y { old_journal = j; old_journal_pending = behind y.old_journal_pending place }) u)
               of r = record {
                 plain = JournalLate s r.place;
+                may = easy (JournalLate s r.place) tt;
                 stands = rw r.at (tick_stands (with_session s next w) (with_files s then_files u) (session_stands w u s next then_files (inl (record {
                   journal = r.fits;
                   journals = r.rest;
@@ -251,6 +266,7 @@ module _ (inside : ℕ → Bool) where
               of : AtPlace (λ p k. AlikePage inside p k.page) x.page_pending q (behind y.old_page_pending place) → Goes w (with_files s (record y { old_page = q; old_page_pending = behind y.old_page_pending place }) u)
               of r = record {
                 plain = PageLate s r.place;
+                may = easy (PageLate s r.place) tt;
                 stands = rw r.at (tick_stands (with_session s next w) (with_files s then_files u) (session_stands w u s next then_files (inl (record {
                   journal = b.journal;
                   journals = b.journals;
@@ -313,15 +329,16 @@ module _ (inside : ℕ → Bool) where
         where
           by : Counts inside x y → Goes w (with_files s (record y { new_journal = Some j; new_journal_pending = behind y.new_journal_pending place }) u)
           by (inl b) = absurd (no_late y.new_journal_pending place j b.none.journals at)
-          by (inr a) = of (last_at (AlikeJournal inside) x.journal_pending y.new_journal_pending place j a.journals at)
+          by (inr a) = of (last_at (SpareJournal inside x.journal y.new_journal) (AlikeJournal inside) x.journal_pending y.new_journal_pending place j a.journals at)
             where
               of : AtPlace (AlikeJournal inside) x.journal_pending j (behind y.new_journal_pending place) → Goes w (with_files s (record y { new_journal = Some j; new_journal_pending = behind y.new_journal_pending place }) u)
               of r = record {
                 plain = JournalLate s r.place;
+                may = easy (JournalLate s r.place) tt;
                 stands = rw r.at (tick_stands (with_session s next w) (with_files s then_files u) (session_stands w u s next then_files
                     (inr (after_new inside x next y y.hand (Some j) (behind y.new_journal_pending place) y.new_page y.new_page_pending a (λ k one. (λ none. absurd (no_some none), one.1)) (λ p one. one)
                     (known_map inside (Fits inside x.journal x.page y.new_journal y.new_page) (Fits inside r.x x.page (Some j) y.new_page) (λ k one. (λ none. absurd (no_some none), one.1)) y.hand a.known) a.client
-                    (λ k is. let same : j ≡ k = cc in subst (λ z. AlikeJournal inside r.x z) same r.fits) a.page (last_all (AlikeJournal inside) (behind x.journal_pending r.place) (behind y.new_journal_pending place) r.rest) a.pages (λ none. absurd (no_some none))))
+                    (λ k is. let same : j ≡ k = cc in subst (λ z. AlikeJournal inside r.x z) same r.fits) a.page (last_all (SpareJournal inside r.x (Some j)) (AlikeJournal inside) (behind x.journal_pending r.place) (behind y.new_journal_pending place) r.rest) a.pages (λ none. absurd (no_some none))))
                     (λ p fits. fits) st));
               }
                 where
@@ -340,15 +357,16 @@ module _ (inside : ℕ → Bool) where
         where
           by : Counts inside x y → Goes w (with_files s (record y { new_page = Some q; new_page_pending = behind y.new_page_pending place }) u)
           by (inl b) = absurd (no_late y.new_page_pending place q b.none.pages at)
-          by (inr a) = of (last_at (AlikePage inside) x.page_pending y.new_page_pending place q a.pages at)
+          by (inr a) = of (last_at (SparePage inside x.page y.new_page) (AlikePage inside) x.page_pending y.new_page_pending place q a.pages at)
             where
               of : AtPlace (AlikePage inside) x.page_pending q (behind y.new_page_pending place) → Goes w (with_files s (record y { new_page = Some q; new_page_pending = behind y.new_page_pending place }) u)
               of r = record {
                 plain = PageLate s r.place;
+                may = easy (PageLate s r.place) tt;
                 stands = rw r.at (tick_stands (with_session s next w) (with_files s then_files u) (session_stands w u s next then_files
                     (inr (after_new inside x next y y.hand y.new_journal y.new_journal_pending (Some q) (behind y.new_page_pending place) a (λ k one. (one.0, λ none. absurd (no_some none))) (λ p one none. absurd (no_some none))
                     (known_map inside (Fits inside x.journal x.page y.new_journal y.new_page) (Fits inside x.journal r.x y.new_journal (Some q)) (λ k one. (one.0, λ none. absurd (no_some none))) y.hand a.known) a.client
-                    a.journal (λ p is. let same : q ≡ p = cc in subst (λ z. AlikePage inside r.x z) same r.fits) a.journals (last_all (AlikePage inside) (behind x.page_pending r.place) (behind y.new_page_pending place) r.rest)
+                    a.journal (λ p is. let same : q ≡ p = cc in subst (λ z. AlikePage inside r.x z) same r.fits) a.journals (last_all (SparePage inside r.x (Some q)) (AlikePage inside) (behind x.page_pending r.place) (behind y.new_page_pending place) r.rest)
                     (λ none. absurd (no_late y.new_page_pending place q (a.none none).1 at))))
                     (λ p fits. (fits.0, λ none. absurd (no_some none))) st));
               }
@@ -400,17 +418,18 @@ module _ (inside : ℕ → Bool) where
 
       -- ---- it begins
 
-      first_alike : (i j : Journal) (change : Change) → AlikeJournal inside i j → AlikeClient inside (Looks i change (and_page s no_page) (and_seen s i.page none_seen)) (first_look s j change)
-      first_alike i j change like = (like, refl, λ t. refl, seen_alike inside s i.page j.page none_seen none_seen like.page (λ t. page_self inside (none_seen t)))
+      first_alike : (i j : Journal) (change other : Change) → AlikeChange inside change other → AlikeJournal inside i j → AlikeClient inside (Looks i change (and_page s no_page) (and_seen s i.page none_seen)) (first_look s j other)
+      first_alike i j change other same like = (like, same, λ t. refl, seen_alike inside s i.page j.page none_seen none_seen like.page (λ t. page_self inside (none_seen t)))
 
-      begins : ltb s v.sessions ≡ true → (name : ℕ) (bytes : List ℕ) (at : Client → Hand) (j : Journal) → Turns at → (c : Client) → x.client ≡ c → AlikeClient inside c (Knows j) → Goes w (begins_as v u s name bytes at j)
-      begins low name bytes at j turns (Knows i) is like = record {
+      begins : ltb s v.sessions ≡ true → (name : ℕ) (bytes : List ℕ) → Q (Begins s name bytes) → (at : Client → Hand) (j : Journal) → Turns at → (c : Client) → x.client ≡ c → AlikeClient inside c (Knows j) → Goes w (begins_as v u s name bytes at j)
+      begins low name bytes may at j turns (Knows i) is like = record {
         plain = Begins s name bytes;
+        may = may;
         stands = rw low (subst (λ c. Stands (tick (begins_by v w s name bytes c)) (tick_of (begins_as v u s name bytes at j))) (sym is) (tick_stands _ _ (both (eqb name v.name) _ _ _ _ watches others)));
       }
         where
           fits : (change : Change) → Counts inside (looking w s i change) (record y { hand = at (first_look s j change) })
-          fits change = turns (Looks i change (and_page s no_page) (and_seen s i.page none_seen)) (first_look s j change) (first_alike i j change like) tt
+          fits change = turns (Looks i change (and_page s no_page) (and_seen s i.page none_seen)) (first_look s j change) (first_alike i j change change (inl refl) like) tt
 
           put : new_put w s bytes ≡ a_put u s bytes
           put = rw st.begun (rw st.now refl)
@@ -423,44 +442,49 @@ module _ (inside : ℕ → Bool) where
 
           others : Stands (with_session s (looking w s i (record { name = Some name; bytes = bytes; op = None })) w) (with_hand s (at (first_look s j (record { name = Some name; bytes = bytes; op = None }))) u)
           others = hand_stands (Looks i (record { name = Some name; bytes = bytes; op = None }) (and_page s no_page) (and_seen s i.page none_seen)) (at (first_look s j (record { name = Some name; bytes = bytes; op = None }))) (fits (record { name = Some name; bytes = bytes; op = None }))
-      begins low name bytes at j turns (Looks i change looked seen) is like = absurd like
-      begins low name bytes at j turns (Announces i op) is like = absurd like
-      begins low name bytes at j turns (Carries i op) is like = absurd like
+      begins low name bytes may at j turns (Looks i change looked seen) is like = absurd like
+      begins low name bytes may at j turns (Announces i op) is like = absurd like
+      begins low name bytes may at j turns (Carries i op) is like = absurd like
 
-      puts : ltb s v.sessions ≡ true → (name : ℕ) (bytes : List ℕ) (hand : Hand) → y.hand ≡ hand → Goes w (puts_by v inside u s name bytes hand)
-      puts low name bytes (AtOld true d) is = rests w u st
-      puts low name bytes (AtOld false (Knows j)) is = begins low name bytes (AtOld false) j (old_turns (Knows j) is) x.client refl (old_like (Knows j) is)
-      puts low name bytes (AtOld false (Looks j change looked seen)) is = rests w u st
-      puts low name bytes (AtOld false (Announces j op)) is = rests w u st
-      puts low name bytes (AtOld false (Carries j op)) is = rests w u st
-      puts low name bytes (GoesOn old) is = rests w u st
-      puts low name bytes (AtNew old (Knows j)) is = by (inside name)
-        where
-          by : (b : Bool) → Goes w (if b then begins_as v u s name bytes (AtNew old) j else u)
-          by true = begins low name bytes (AtNew old) j (new_turns old (Knows j) is) x.client refl (new_like old (Knows j) is)
-          by false = rests w u st
-      puts low name bytes (AtNew old (Looks j change looked seen)) is = rests w u st
-      puts low name bytes (AtNew old (Announces j op)) is = rests w u st
-      puts low name bytes (AtNew old (Carries j op)) is = rests w u st
-
-      tidies_as : ltb s v.sessions ≡ true → (at : Client → Hand) (j : Journal) → Turns at → (c : Client) → x.client ≡ c → AlikeClient inside c (Knows j) → Goes w (with_hand s (at (first_look s j tidying)) u)
-      tidies_as low at j turns (Knows i) is like = record {
+      tidies_as : ltb s v.sessions ≡ true → (at : Client → Hand) (j : Journal) (change : Change) → AlikeChange inside tidying change → Turns at → (c : Client) → x.client ≡ c → AlikeClient inside c (Knows j) → Goes w (with_hand s (at (first_look s j change)) u)
+      tidies_as low at j change nameless turns (Knows i) is like = record {
         plain = Tidies s;
-        stands = rw low (subst (λ c. Stands (tick (tidies_by w s c)) (tick_of (with_hand s (at (first_look s j tidying)) u))) (sym is)
-            (tick_stands _ _ (hand_stands (Looks i tidying (and_page s no_page) (and_seen s i.page none_seen)) (at (first_look s j tidying)) (turns _ _ (first_alike i j tidying like) tt))));
+        may = easy (Tidies s) tt;
+        stands = rw low (subst (λ c. Stands (tick (tidies_by w s c)) (tick_of (with_hand s (at (first_look s j change)) u))) (sym is)
+            (tick_stands _ _ (hand_stands (Looks i tidying (and_page s no_page) (and_seen s i.page none_seen)) (at (first_look s j change)) (turns _ _ (first_alike i j tidying change nameless like) tt))));
       }
-      tidies_as low at j turns (Looks i change looked seen) is like = absurd like
-      tidies_as low at j turns (Announces i op) is like = absurd like
-      tidies_as low at j turns (Carries i op) is like = absurd like
+      tidies_as low at j change nameless turns (Looks i also looked seen) is like = absurd like
+      tidies_as low at j change nameless turns (Announces i op) is like = absurd like
+      tidies_as low at j change nameless turns (Carries i op) is like = absurd like
+
+      puts : ltb s v.sessions ≡ true → (name : ℕ) (bytes : List ℕ) → (inside name ≡ true → Q (Begins s name bytes)) → (hand : Hand) → y.hand ≡ hand → Goes w (puts_by v inside u s name bytes hand)
+      puts low name bytes hard (AtOld true d) is = rests w u st
+      puts low name bytes hard (AtOld false (Knows j)) is = by (inside name) refl
+        where
+          by : (b : Bool) → inside name ≡ b → Goes w (begins_as v u s name bytes (AtOld false) j)
+          by true e = begins low name bytes (hard e) (AtOld false) j (old_turns (Knows j) is) x.client refl (old_like (Knows j) is)
+          by false e = rw (ne_eqb name v.name (λ same. true≢false (sym watched ∙ ap inside (sym same) ∙ e))) (tidies_as low (AtOld false) j (record { name = Some name; bytes = bytes; op = None }) (inr (record { name = name; bytes = bytes; out = e; none = refl; other = refl })) (old_turns (Knows j) is) x.client refl (old_like (Knows j) is))
+      puts low name bytes hard (AtOld false (Looks j change looked seen)) is = rests w u st
+      puts low name bytes hard (AtOld false (Announces j op)) is = rests w u st
+      puts low name bytes hard (AtOld false (Carries j op)) is = rests w u st
+      puts low name bytes hard (GoesOn old) is = rests w u st
+      puts low name bytes hard (AtNew old (Knows j)) is = by (inside name) refl
+        where
+          by : (b : Bool) → inside name ≡ b → Goes w (if b then begins_as v u s name bytes (AtNew old) j else u)
+          by true e = begins low name bytes (hard e) (AtNew old) j (new_turns old (Knows j) is) x.client refl (new_like old (Knows j) is)
+          by false e = rests w u st
+      puts low name bytes hard (AtNew old (Looks j change looked seen)) is = rests w u st
+      puts low name bytes hard (AtNew old (Announces j op)) is = rests w u st
+      puts low name bytes hard (AtNew old (Carries j op)) is = rests w u st
 
       tidies : ltb s v.sessions ≡ true → (hand : Hand) → y.hand ≡ hand → Goes w (tidies_up_by u s hand)
       tidies low (AtOld true d) is = rests w u st
-      tidies low (AtOld false (Knows j)) is = tidies_as low (AtOld false) j (old_turns (Knows j) is) x.client refl (old_like (Knows j) is)
+      tidies low (AtOld false (Knows j)) is = tidies_as low (AtOld false) j tidying (inl refl) (old_turns (Knows j) is) x.client refl (old_like (Knows j) is)
       tidies low (AtOld false (Looks j change looked seen)) is = rests w u st
       tidies low (AtOld false (Announces j op)) is = rests w u st
       tidies low (AtOld false (Carries j op)) is = rests w u st
       tidies low (GoesOn old) is = rests w u st
-      tidies low (AtNew old (Knows j)) is = tidies_as low (AtNew old) j (new_turns old (Knows j) is) x.client refl (new_like old (Knows j) is)
+      tidies low (AtNew old (Knows j)) is = tidies_as low (AtNew old) j tidying (inl refl) (new_turns old (Knows j) is) x.client refl (new_like old (Knows j) is)
       tidies low (AtNew old (Looks j change looked seen)) is = rests w u st
       tidies low (AtNew old (Announces j op)) is = rests w u st
       tidies low (AtNew old (Carries j op)) is = rests w u st
@@ -487,6 +511,7 @@ module _ (inside : ℕ → Bool) where
           t ≢ s → (page : Page) → AlikePage inside (w.session t).page page → Goes w (with_hand s (at (looks_more j change looked seen t page)) u)
       sees_page t low at j change looked seen turns (Looks i also did more) is like ne page one = record {
         plain = Sees s t;
+        may = easy (Sees s t) tt;
         stands = rw low (subst (λ c. Stands (tick (sees_by w s t c)) (tick_of (with_hand s (at (looks_more j change looked seen t page)) u))) (sym is)
             (rw (ne_eqb t s ne) (tick_stands _ _ (hand_stands (Looks i also (and_page t did) (and_seen t (w.session t).page more)) (at (looks_more j change looked seen t page))
             (turns (Looks i also (and_page t did) (and_seen t (w.session t).page more)) (looks_more j change looked seen t page) (like.0, like.1, looked_alike t did looked like.2, seen_alike inside t (w.session t).page page more seen one like.3) tt)))));
@@ -543,10 +568,11 @@ module _ (inside : ℕ → Bool) where
 
       -- ---- it chooses
 
-      chooses : (more_by : ℕ) (goes ask : ℕ → Bool) (at : Client → Hand) (j : Journal) (change : Change) (looked : ℕ → Bool) (seen : ℕ → Page) → Turns at → (c : Client) → x.client ≡ c → AlikeClient inside c (Looks j change looked seen) →
+      chooses : (more_by : ℕ) (goes ask : ℕ → Bool) → Q (Chooses s more_by goes ask) → (at : Client → Hand) (j : Journal) (change : Change) (looked : ℕ → Bool) (seen : ℕ → Page) → Turns at → (c : Client) → x.client ≡ c → AlikeClient inside c (Looks j change looked seen) →
           Goes w (chooses_as v u s more_by goes ask at j change looked seen)
-      chooses more_by goes ask at j change looked seen turns (Looks i also did more) is like = record {
+      chooses more_by goes ask may at j change looked seen turns (Looks i also did more) is like = record {
         plain = Chooses s more_by goes ask;
+        may = may;
         stands = subst (λ c. Stands (tick (chooses_by v w s more_by goes ask c)) (tick_of (chooses_as v u s more_by goes ask at j change looked seen))) (sym is)
             (rw (has_alike inside v more seen like.3 did looked like.2) (tick_stands _ _ (both (has_seen v looked seen) _ _ _ _ (hand_stands (announced also) (at (Announces (changed v goes ask seen s j change (new_line s more_by change (highest v j.page seen))) change.op)) fits) st)));
       }
@@ -554,29 +580,35 @@ module _ (inside : ℕ → Bool) where
           announced : Change → Client
           announced ch = Announces (changed v goes ask more s i ch (new_line s more_by ch (highest v i.page more))) ch.op
 
-          one : AlikeClient inside (announced also) (Announces (changed v goes ask seen s j change (new_line s more_by change (highest v j.page seen))) change.op)
-          one = subst (λ ch. AlikeClient inside (announced ch) (Announces (changed v goes ask seen s j change (new_line s more_by change (highest v j.page seen))) change.op)) (sym like.1)
-              (chosen_alike inside v more seen like.3 goes ask s more_by change i j like.0, refl)
+          chosen : Change → Client
+          chosen ch = Announces (changed v goes ask seen s j ch (new_line s more_by ch (highest v j.page seen))) ch.op
+
+          same : AlikeChange inside also change → AlikeClient inside (announced also) (chosen change)
+          same (inl is_it) = subst (λ ch. AlikeClient inside (announced ch) (chosen change)) (sym is_it) (chosen_alike inside v more seen like.3 goes ask s more_by change i j like.0, refl)
+          same (inr n) = subst (λ ch. AlikeClient inside (announced ch) (chosen change)) (sym n.none) (subst (λ ch. AlikeClient inside (announced tidying) (chosen ch)) (sym n.other) (chosen_nameless inside v more seen like.3 goes ask s more_by n.name n.bytes i j n.out like.0, refl))
+
+          one : AlikeClient inside (announced also) (chosen change)
+          one = same like.1
 
           fits : Counts inside (record x { client = announced also }) (record y { hand = at (Announces (changed v goes ask seen s j change (new_line s more_by change (highest v j.page seen))) change.op) })
           fits = turns (announced also) (Announces (changed v goes ask seen s j change (new_line s more_by change (highest v j.page seen))) change.op) one tt
-      chooses more_by goes ask at j change looked seen turns (Knows i) is like = absurd like
-      chooses more_by goes ask at j change looked seen turns (Announces i op) is like = absurd like
-      chooses more_by goes ask at j change looked seen turns (Carries i op) is like = absurd like
+      chooses more_by goes ask may at j change looked seen turns (Knows i) is like = absurd like
+      chooses more_by goes ask may at j change looked seen turns (Announces i op) is like = absurd like
+      chooses more_by goes ask may at j change looked seen turns (Carries i op) is like = absurd like
 
-      chooses_hand : (more_by : ℕ) (goes ask : ℕ → Bool) (hand : Hand) → y.hand ≡ hand → Goes w (chooses_line_by v u s more_by goes ask hand)
-      chooses_hand more_by goes ask (AtOld true d) is = rests w u st
-      chooses_hand more_by goes ask (AtOld false (Knows j)) is = rests w u st
-      chooses_hand more_by goes ask (AtOld false (Looks j change looked seen)) is =
-          chooses more_by goes ask (AtOld false) j change looked seen (old_turns (Looks j change looked seen) is) x.client refl (old_like (Looks j change looked seen) is)
-      chooses_hand more_by goes ask (AtOld false (Announces j op)) is = rests w u st
-      chooses_hand more_by goes ask (AtOld false (Carries j op)) is = rests w u st
-      chooses_hand more_by goes ask (GoesOn old) is = rests w u st
-      chooses_hand more_by goes ask (AtNew old (Knows j)) is = rests w u st
-      chooses_hand more_by goes ask (AtNew old (Looks j change looked seen)) is =
-          chooses more_by goes ask (AtNew old) j change looked seen (new_turns old (Looks j change looked seen) is) x.client refl (new_like old (Looks j change looked seen) is)
-      chooses_hand more_by goes ask (AtNew old (Announces j op)) is = rests w u st
-      chooses_hand more_by goes ask (AtNew old (Carries j op)) is = rests w u st
+      chooses_hand : (more_by : ℕ) (goes ask : ℕ → Bool) → (ClientOf x.client y.hand → Q (Chooses s more_by goes ask)) → (hand : Hand) → y.hand ≡ hand → Goes w (chooses_line_by v u s more_by goes ask hand)
+      chooses_hand more_by goes ask hard (AtOld true d) is = rests w u st
+      chooses_hand more_by goes ask hard (AtOld false (Knows j)) is = rests w u st
+      chooses_hand more_by goes ask hard (AtOld false (Looks j change looked seen)) is =
+          chooses more_by goes ask (hard (subst (ClientOf x.client) (sym is) (old_like (Looks j change looked seen) is))) (AtOld false) j change looked seen (old_turns (Looks j change looked seen) is) x.client refl (old_like (Looks j change looked seen) is)
+      chooses_hand more_by goes ask hard (AtOld false (Announces j op)) is = rests w u st
+      chooses_hand more_by goes ask hard (AtOld false (Carries j op)) is = rests w u st
+      chooses_hand more_by goes ask hard (GoesOn old) is = rests w u st
+      chooses_hand more_by goes ask hard (AtNew old (Knows j)) is = rests w u st
+      chooses_hand more_by goes ask hard (AtNew old (Looks j change looked seen)) is =
+          chooses more_by goes ask (hard (subst (ClientOf x.client) (sym is) (new_like old (Looks j change looked seen) is))) (AtNew old) j change looked seen (new_turns old (Looks j change looked seen) is) x.client refl (new_like old (Looks j change looked seen) is)
+      chooses_hand more_by goes ask hard (AtNew old (Announces j op)) is = rests w u st
+      chooses_hand more_by goes ask hard (AtNew old (Carries j op)) is = rests w u st
 
       -- ---- it writes
 
@@ -755,7 +787,7 @@ module _ (inside : ℕ → Bool) where
             then_files : Files
             then_files = record y { new_journal = Some j; new_journal_pending = []; hand = AtNew old (Carries j op) }
         announces_new false is (Announces i also) at like a = tick_stands _ _ (session_stands w u s next then_files (inr (after_new inside x next y y.hand y.new_journal (y.new_journal_pending ++ j ∷ []) y.new_page y.new_page_pending a
-            (λ k one. one) (λ p one. one) a.known a.client a.journal a.page (last_push (AlikeJournal inside) x.journal_pending y.new_journal_pending i j a.journals like.0) a.pages a.none)) (λ p one. one) st)
+            (λ k one. one) (λ p one. one) a.known a.client a.journal a.page (last_push (SpareJournal inside x.journal y.new_journal) (AlikeJournal inside) x.journal_pending y.new_journal_pending i j a.journals like.0) a.pages a.none)) (λ p one. one) st)
           where
             next : Session
             next = record x { journal_pending = x.journal_pending ++ i ∷ [] }
@@ -782,7 +814,7 @@ module _ (inside : ℕ → Bool) where
             then_files : Files
             then_files = record y { new_page = Some j.page; new_page_pending = []; hand = AtNew old (Knows j) }
         carries_new false is (Carries i also) at like a = tick_stands _ _ (session_stands w u s next then_files (inr (after_new inside x next y y.hand y.new_journal y.new_journal_pending y.new_page (y.new_page_pending ++ j.page ∷ []) a
-            (λ k one. one) (λ p one. one) a.known a.client a.journal a.page a.journals (last_push (AlikePage inside) x.page_pending y.new_page_pending i.page j.page a.pages like.0.page) (λ none. absurd (some_journal is a none)))) (λ p one. one) st)
+            (λ k one. one) (λ p one. one) a.known a.client a.journal a.page a.journals (last_push (SparePage inside x.page y.new_page) (AlikePage inside) x.page_pending y.new_page_pending i.page j.page a.pages like.0.page) (λ none. absurd (some_journal is a none)))) (λ p one. one) st)
           where
             next : Session
             next = record x { page_pending = x.page_pending ++ i.page ∷ [] }
@@ -796,16 +828,16 @@ module _ (inside : ℕ → Bool) where
       writes : (answered : Bool) (hand : Hand) → y.hand ≡ hand → Goes w (hand_writes_by v u s answered hand)
       writes answered (AtOld signed (Announces j op)) is =
           let b = not_after signed j op (Announces j op) is (λ bad. bad) in
-          record { plain = ClientWrites s answered; stands = announces_old signed j op answered is x.client refl (subst (HandOld inside x.client) is b.hand) b }
+          record { plain = ClientWrites s answered; may = easy (ClientWrites s answered) tt; stands = announces_old signed j op answered is x.client refl (subst (HandOld inside x.client) is b.hand) b }
       writes answered (AtOld signed (Carries j op)) is =
           let b = not_after signed j op (Carries j op) is (λ bad. bad) in
-          record { plain = ClientWrites s answered; stands = carries_old signed j op answered is x.client refl (subst (HandOld inside x.client) is b.hand) b }
+          record { plain = ClientWrites s answered; may = easy (ClientWrites s answered) tt; stands = carries_old signed j op answered is x.client refl (subst (HandOld inside x.client) is b.hand) b }
       writes answered (AtNew old (Announces j op)) is =
           let a = not_before old j op (Announces j op) is in
-          record { plain = ClientWrites s answered; stands = announces_new old j op answered is x.client refl (subst (HandNew inside x.client) is a.client) a }
+          record { plain = ClientWrites s answered; may = easy (ClientWrites s answered) tt; stands = announces_new old j op answered is x.client refl (subst (HandNew inside x.client) is a.client) a }
       writes answered (AtNew old (Carries j op)) is =
           let a = not_before old j op (Carries j op) is in
-          record { plain = ClientWrites s answered; stands = carries_new old j op answered is x.client refl (subst (HandNew inside x.client) is a.client) a }
+          record { plain = ClientWrites s answered; may = easy (ClientWrites s answered) tt; stands = carries_new old j op answered is x.client refl (subst (HandNew inside x.client) is a.client) a }
       writes true (AtOld signed (Knows j)) is = rests w u st
       writes false (AtOld signed (Knows j)) is = rests w u st
       writes true (AtOld signed (Looks j change looked seen)) is = rests w u st
@@ -828,6 +860,7 @@ module _ (inside : ℕ → Bool) where
               of : (c : Client) → x.client ≡ c → AlikeClient inside c (Knows j) → Goes w (with_hand s (AtOld true (Announces j None)) u)
               of (Knows i) at like = record {
                 plain = Repeats s;
+                may = easy (Repeats s) tt;
                 stands = subst (λ c. Stands (tick (repeats_by w s c)) (tick_of (with_hand s (AtOld true (Announces j None)) u))) (sym at)
                     (tick_stands _ _ (hand_stands (Announces i None) (AtOld true (Announces j None)) (inl (before_hand inside x y (Announces i None) (AtOld true (Announces j None)) b (like, refl) tt (λ si. (refl, (subst (SignedHand inside (AlikeJournal inside x.journal)) is si.hand).1))))));
               }
@@ -862,6 +895,7 @@ module _ (inside : ℕ → Bool) where
           by (inl b) = absurd (subst (HandOld inside x.client) is b.hand)
           by (inr a) = record {
             plain = Enters s;
+            may = easy (Enters s) tt;
             stands = tick_stands _ _ (hand_stands (Knows x.journal) (AtNew old (Knows (begun_with inside y.new_journal old)))
                 (inr (after_hand inside x y (Knows x.journal) (AtNew old (Knows (begun_with inside y.new_journal old))) a (subst (HandKnows inside (Fits inside x.journal x.page y.new_journal y.new_page)) is a.known) (read y.new_journal refl a) tt)));
           }
@@ -1019,6 +1053,7 @@ module _ (inside : ℕ → Bool) where
       asks_on : Goes w (asks_for u r)
       asks_on = record {
         plain = Asks r;
+        may = easy (Asks r) tt;
         stands = tick_stands _ _ (reader_stands (with_new_op (new_get w r) w) (with_next_op (a_get u r) u) r (Searches w.begun no_page none_seen) (Searches u.begun no_page none_seen) (st.begun, (λ t. refl), λ t. page_self inside (none_seen t))
             (new_op_stands w u (new_get w r) (a_get u r) (rw st.begun (rw st.now refl)) st));
       }
@@ -1027,6 +1062,7 @@ module _ (inside : ℕ → Bool) where
           Goes w (with_asker r (Searches k (and_page t looked) (and_seen t page seen)) u)
       finds_page t low k looked seen page one (Searches also did more) is like = record {
         plain = Finds r t;
+        may = easy (Finds r t) tt;
         stands = rw low (subst (λ z. Stands (tick (finds_by w r t z)) (tick_of (with_asker r (Searches k (and_page t looked) (and_seen t page seen)) u))) (sym is)
             (tick_stands _ _ (reader_stands w u r (Searches also (and_page t did) (and_seen t (w.session t).page more)) (Searches k (and_page t looked) (and_seen t page seen))
             (like.0, looked_alike t did looked like.1, seen_alike inside t (w.session t).page page more seen one like.2) st)));
@@ -1058,6 +1094,7 @@ module _ (inside : ℕ → Bool) where
           by Idle is none = absurd none
           by (Searches also did more) is both_like = record {
             plain = Tells r;
+            may = easy (Tells r) tt;
             stands = subst (λ z. Stands (tick (tells_by v w r z)) (tick_of (tells_of_by v u r (Searches k looked seen)))) (sym is)
                 (rw (has_alike inside v more seen both_like.2 did looked both_like.1) (tick_stands _ _ (both (has_seen v looked seen) _ _ _ _ (rw both_like.0 ended) st)));
           }
@@ -1073,19 +1110,25 @@ module _ (inside : ℕ → Bool) where
     low_or true w u also st goes = goes refl
     low_or false w u also st goes = rests w u st
 
-    pub goes_step : (w : World) (u : SplitWorld) (step : SplitStep) → Stands w u → Goes w (splits v inside u step)
-    goes_step w u (EntersOld s) st = enters w u st s
-    goes_step w u (OldJournalLate s place) st = old_journal_comes w u st s place (slice_get (u.session s).old_journal_pending place) refl
-    goes_step w u (OldPageLate s place) st = old_page_comes w u st s place (slice_get (u.session s).old_page_pending place) refl
-    goes_step w u (NewJournalLate s place) st = new_journal_comes w u st s place (slice_get (u.session s).new_journal_pending place) refl
-    goes_step w u (NewPageLate s place) st = new_page_comes w u st s place (slice_get (u.session s).new_page_pending place) refl
-    goes_step w u (Puts s name bytes) st = low_or (ltb s v.sessions) w u (puts_by v inside u s name bytes (u.session s).hand) st (λ low. puts w u st s low name bytes (u.session s).hand refl)
-    goes_step w u (TidiesUp s) st = low_or (ltb s v.sessions) w u (tidies_up_by u s (u.session s).hand) st (λ low. tidies w u st s low (u.session s).hand refl)
-    goes_step w u (SeesOld s t) st = low_or (ltb t v.sessions) w u (sees_old_by u s t (u.session s).hand) st (λ low. sees_old_hand w u st s t low (u.session s).hand refl)
-    goes_step w u (SeesNew s t sign) st = low_or (ltb t v.sessions) w u (sees_new_by inside u s t sign (u.session s).hand) st (λ low. sees_new_hand w u st s t sign low (u.session s).hand refl)
-    goes_step w u (ChoosesLine s more goes ask) st = chooses_hand w u st s more goes ask (u.session s).hand refl
-    goes_step w u (HandWrites s answered) st = writes w u st s answered (u.session s).hand refl
-    goes_step w u (Signs s) st = by (u.session s).hand refl
+    -- what is asked of a step
+    abbrev pub Hard : World → SplitWorld → SplitStep → Type 0
+    Hard w u (Puts s name bytes) = inside name ≡ true → Q (Begins s name bytes)
+    Hard w u (ChoosesLine s more goes ask) = ClientOf (w.session s).client (u.session s).hand → Q (Chooses s more goes ask)
+    Hard w u _ = ⊤
+
+    pub goes_step : (w : World) (u : SplitWorld) (step : SplitStep) → Hard w u step → Stands w u → Goes w (splits v inside u step)
+    goes_step w u (EntersOld s) hard st = enters w u st s
+    goes_step w u (OldJournalLate s place) hard st = old_journal_comes w u st s place (slice_get (u.session s).old_journal_pending place) refl
+    goes_step w u (OldPageLate s place) hard st = old_page_comes w u st s place (slice_get (u.session s).old_page_pending place) refl
+    goes_step w u (NewJournalLate s place) hard st = new_journal_comes w u st s place (slice_get (u.session s).new_journal_pending place) refl
+    goes_step w u (NewPageLate s place) hard st = new_page_comes w u st s place (slice_get (u.session s).new_page_pending place) refl
+    goes_step w u (Puts s name bytes) hard st = low_or (ltb s v.sessions) w u (puts_by v inside u s name bytes (u.session s).hand) st (λ low. puts w u st s low name bytes hard (u.session s).hand refl)
+    goes_step w u (TidiesUp s) hard st = low_or (ltb s v.sessions) w u (tidies_up_by u s (u.session s).hand) st (λ low. tidies w u st s low (u.session s).hand refl)
+    goes_step w u (SeesOld s t) hard st = low_or (ltb t v.sessions) w u (sees_old_by u s t (u.session s).hand) st (λ low. sees_old_hand w u st s t low (u.session s).hand refl)
+    goes_step w u (SeesNew s t sign) hard st = low_or (ltb t v.sessions) w u (sees_new_by inside u s t sign (u.session s).hand) st (λ low. sees_new_hand w u st s t sign low (u.session s).hand refl)
+    goes_step w u (ChoosesLine s more goes ask) hard st = chooses_hand w u st s more goes ask hard (u.session s).hand refl
+    goes_step w u (HandWrites s answered) hard st = writes w u st s answered (u.session s).hand refl
+    goes_step w u (Signs s) hard st = by (u.session s).hand refl
       where
         by : (hand : Hand) → (u.session s).hand ≡ hand → Goes w (signs_by u s hand)
         by (AtOld signed (Knows j)) is = signs_page w u st s signed (u.session s).old_page.signed j is refl
@@ -1094,28 +1137,15 @@ module _ (inside : ℕ → Bool) where
         by (AtOld signed (Carries j op)) is = rests w u st
         by (GoesOn old) is = rests w u st
         by (AtNew old d) is = rests w u st
-    goes_step w u (EntersNew s) st = enters_new w u st s (u.session s).hand refl
-    goes_step w u (Clears s goes) st = clears w u st s goes (u.session s).hand refl
-    goes_step w u (ClearingWrites s answered) st = clearing_writes w u st s answered (u.session s).clearing refl
-    goes_step w u (AsksFor r) st = asks_on w u st r
-    goes_step w u (FindsOld r t) st = low_or (ltb t v.sessions) w u (finds_old_by u r t (u.reader r)) st (λ low. finds_old w u st r t low (u.reader r) refl (st.readers r))
-    goes_step w u (FindsNew r t sign) st = low_or (ltb t v.sessions) w u (finds_new_by inside u r t sign (u.reader r)) st (λ low. finds_new w u st r t sign low (u.reader r) refl (st.readers r))
-    goes_step w u (TellsOf r) st = tells_all w u st r (u.reader r) (st.readers r)
+    goes_step w u (EntersNew s) hard st = enters_new w u st s (u.session s).hand refl
+    goes_step w u (Clears s goes) hard st = clears w u st s goes (u.session s).hand refl
+    goes_step w u (ClearingWrites s answered) hard st = clearing_writes w u st s answered (u.session s).clearing refl
+    goes_step w u (AsksFor r) hard st = asks_on w u st r
+    goes_step w u (FindsOld r t) hard st = low_or (ltb t v.sessions) w u (finds_old_by u r t (u.reader r)) st (λ low. finds_old w u st r t low (u.reader r) refl (st.readers r))
+    goes_step w u (FindsNew r t sign) hard st = low_or (ltb t v.sessions) w u (finds_new_by inside u r t sign (u.reader r)) st (λ low. finds_new w u st r t sign low (u.reader r) refl (st.readers r))
+    goes_step w u (TellsOf r) hard st = tells_all w u st r (u.reader r) (st.readers r)
 
-    -- ---- a whole run
-
-    pub record Run (w : World) (u : SplitWorld) : Type 0 where
-      pub steps : List Step
-      pub stands : Stands (fold (after_step v) w steps) u
-
-    pub goes_all : (steps : List SplitStep) (w : World) (u : SplitWorld) → Stands w u → Run w (fold (after_split_step v inside) u steps)
-    goes_all [] w u st = record { steps = []; stands = st }
-    goes_all (step ∷ steps) w u st =
-        let one = goes_step w u step st in
-        let rest = goes_all steps (after_step v w one.plain) (after_split_step v inside u step) one.stands in
-        record { steps = one.plain ∷ rest.steps; stands = rest.stands }
-
-    first_stands : Stands new_world first_world
+    pub first_stands : Stands new_world first_world
     first_stands = record {
       now = refl;
       begun = refl;
@@ -1133,6 +1163,47 @@ module _ (inside : ℕ → Bool) where
       readers = λ r. tt;
     }
 
+  -- ---- a whole run, of which nothing is asked
+
+  module _ (v : Setting) (watched : inside v.name ≡ true) where
+    abbrev Any : Step → Type 0
+    Any step = ⊤
+
+    any : (step : Step) → IsEasy step → Any step
+    any step is = tt
+
+    hard_any : (w : World) (u : SplitWorld) (step : SplitStep) → Hard v watched Any any w u step
+    hard_any w u (Puts s name bytes) = λ is. tt
+    hard_any w u (ChoosesLine s more goes ask) = λ is. tt
+    hard_any w u (EntersOld s) = tt
+    hard_any w u (OldJournalLate s place) = tt
+    hard_any w u (OldPageLate s place) = tt
+    hard_any w u (NewJournalLate s place) = tt
+    hard_any w u (NewPageLate s place) = tt
+    hard_any w u (TidiesUp s) = tt
+    hard_any w u (SeesOld s t) = tt
+    hard_any w u (SeesNew s t sign) = tt
+    hard_any w u (HandWrites s answered) = tt
+    hard_any w u (Signs s) = tt
+    hard_any w u (EntersNew s) = tt
+    hard_any w u (Clears s goes) = tt
+    hard_any w u (ClearingWrites s answered) = tt
+    hard_any w u (AsksFor r) = tt
+    hard_any w u (FindsOld r t) = tt
+    hard_any w u (FindsNew r t sign) = tt
+    hard_any w u (TellsOf r) = tt
+
+    record Run (w : World) (u : SplitWorld) : Type 0 where
+      steps : List Step
+      stands : Stands (fold (after_step v) w steps) u
+
+    goes_all : (steps : List SplitStep) (w : World) (u : SplitWorld) → Stands w u → Run w (fold (after_split_step v inside) u steps)
+    goes_all [] w u st = record { steps = []; stands = st }
+    goes_all (step ∷ steps) w u st =
+        let one = goes_step v watched Any any w u step (hard_any w u step) st in
+        let rest = goes_all steps (after_step v w one.plain) (after_split_step v inside u step) one.stands in
+        record { steps = one.plain ∷ rest.steps; stands = rest.stands }
+
     map_alike : (f g : ℕ → Op) → ((i : ℕ) → f i ≡ g i) → (xs : List ℕ) → map f xs ≡ map g xs
     map_alike f g same [] = refl
     map_alike f g same (i ∷ xs) = rw (same i) (rw (map_alike f g same xs) refl)
@@ -1141,7 +1212,7 @@ module _ (inside : ℕ → Bool) where
     all_tagged steps = subst Tagged same (all_names_tagged v run.steps)
       where
         run : Run new_world (split_world_after v inside steps)
-        run = goes_all steps new_world first_world first_stands
+        run = goes_all steps new_world first_world (first_stands v watched Any any)
 
         same : operations_of (world_after v run.steps) ≡ split_operations_of (split_world_after v inside steps)
         same = rw run.stands.begun (map_alike (world_after v run.steps).op (split_world_after v inside steps).op run.stands.ops (range_with_len 0 (split_world_after v inside steps).begun))
