@@ -77,7 +77,7 @@ module _ (inside : ℕ → Bool) where
   pub part_journal : (i j : Journal) → AlikeJournal inside i j → AlikeJournal inside i (part_of_journal inside j)
   part_journal i j one = record { page = part_alike i.page j.page one.page; op = one.op }
 
-  shown_alike : (p q : Page) (name : ℕ) → inside name ≡ true → AlikePage inside p q → shown p name ≡ shown q name
+  pub shown_alike : (p q : Page) (name : ℕ) → inside name ≡ true → AlikePage inside p q → shown p name ≡ shown q name
   shown_alike p q name is one = rw (one.gone name is) (rw (one.line name is) refl)
 
   -- ---- what is chosen

@@ -22,3 +22,4 @@ pub mod WorkedContents
 pub mod Alike
 pub mod Counts
 pub mod Splitting
+pub mod SplitContents

@@ -5,3 +5,4 @@ pub mod Completing
 pub mod Sweeping
 pub mod Worked
 pub mod Splitting
+pub mod SplitContents
