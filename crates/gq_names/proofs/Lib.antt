@@ -23,3 +23,4 @@ pub mod Alike
 pub mod Counts
 pub mod Splitting
 pub mod SplitContents
+pub mod WorkedSplits

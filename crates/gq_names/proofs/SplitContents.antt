@@ -1,12 +1,12 @@
 -- Where pages split, a content that a page shows is there: by the run of `specs/Names` that does the same, in which only names inside are put.
-use Rattle.std.proofs.Common.{◌≡◌, ◌≢◌, ◌⊎◌, ℕ, Bool, true, false, List, [], ◌∷◌, ◌++◌, refl, sym, ap, ◌∙◌, subst, inl, inr, Option, Some, None, eqb, ltb}
-use Rattle.std.specs.Prelude.{slice_get, fold, ◌==◌, ◌||◌, ⊤, if◌then◌else◌}
-use Rattle.std.proofs.lemmas.Bool.{cases_eq, ne_eqb, eq-eqb, true≢false}
+use Rattle.std.proofs.Common.{◌≡◌, ℕ, Bool, true, false, List, [], ◌∷◌, ◌++◌, refl, sym, ap, ◌∙◌, subst, inl, inr, Option, Some, None, eqb, ltb}
+use Rattle.std.specs.Prelude.{slice_get, ◌==◌, ⊤, if◌then◌else◌}
+use Rattle.std.proofs.lemmas.Bool.{ne_eqb, true≢false}
 use Rattle.gq_tag.specs.declared.StoredCopy.{StoredCopy}
 use Rattle.gq_tag.specs.Tag.{first_copy}
-use Rattle.gq_names.specs.Names.{Setting, Page, Journal, Change, Client, Knows, Looks, Announces, Carries, Session, Reader, Idle, Searches, World, new_world, new_page, Step, Enters, JournalLate, PageLate, Begins, Tidies, Repeats, Sees, Chooses, ClientWrites, Asks, Finds, Tells, with_session, with_tag, with_end, with_new_op, new_put, looking, tidying, begins_by, tidies_by, repeats_by, sees_by, chooses_by, writes_by, finds_by, tells_by, journal_late, page_late, changed, highest, new_line, is_of, shown, has_seen, no_page, none_seen, and_page, and_seen, behind, after_step}
-use Rattle.gq_names.specs.Contents.{Contents, Each, ShowsOnly, WritesOnly, HasOnly, IsFree, Deed, Does, Keeps, Forgets, State, new_state, and_content, after_deed, state_after, ChoosesKept, MayPut, MayStep, May, AllMay, IsThere}
-use Rattle.gq_names.specs.Splitting.{OldPage, OldJournal, Hand, AtOld, GoesOn, AtNew, Files, SplitStep, EntersOld, OldJournalLate, OldPageLate, NewJournalLate, NewPageLate, Puts, TidiesUp, SeesOld, SeesNew, ChoosesLine, HandWrites, Signs, EntersNew, Clears, ClearingWrites, AsksFor, FindsOld, FindsNew, TellsOf, counts, after_split_step}
+use Rattle.gq_names.specs.Names.{Setting, Page, Journal, Change, Client, Knows, Looks, Announces, Carries, Session, Reader, Idle, Searches, World, Step, Enters, JournalLate, PageLate, Begins, Tidies, Repeats, Sees, Chooses, ClientWrites, Asks, Finds, Tells, with_session, with_tag, with_end, with_new_op, new_put, looking, tidying, begins_by, tidies_by, repeats_by, sees_by, chooses_by, writes_by, finds_by, tells_by, journal_late, page_late, changed, highest, new_line, is_of, has_seen, no_page, none_seen, and_page, and_seen, behind, after_step}
+use Rattle.gq_names.specs.Contents.{Contents, Each, ShowsOnly, WritesOnly, IsFree, Deed, Does, Keeps, Forgets, State, new_state, and_content, after_deed, state_after, ChoosesKept, MayStep, May, AllMay, IsThere}
+use Rattle.gq_names.specs.Splitting.{OldPage, OldJournal, Hand, AtOld, GoesOn, AtNew, Files, SplitStep, EntersOld, OldJournalLate, OldPageLate, NewJournalLate, NewPageLate, Puts, TidiesUp, SeesOld, SeesNew, ChoosesLine, HandWrites, Signs, EntersNew, Clears, ClearingWrites, AsksFor, FindsOld, FindsNew, TellsOf, counts}
 use Rattle.gq_names.specs.SplitContents.{ShowsInside, ShowsOther, WritesOther, OldAreFree, NewAreFree, IsFreeBy, SplitDeed, DoesStep, KeepsContent, ForgetsContent, SplitState, first_state, after_split_deed, split_state_after, ChoosesOnly, MaySplit, AllSplitMay, page_of, AllSplitShownAreThere}
 use Rattle.gq_names.proofs.Lists.{each_at, each_behind, each_push}
 use Rattle.gq_names.proofs.Alike.{AlikePage, AlikeJournal, AlikeChange, AlikeClient, page_back, part_alike, shown_alike, paired_each, last_each}

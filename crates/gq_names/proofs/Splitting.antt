@@ -13,7 +13,7 @@ use Rattle.gq_names.specs.Names.{Setting, Page, Journal, Change, Client, Knows, 
 use Rattle.gq_names.specs.Contents.{Each}
 use Rattle.gq_names.specs.Splitting.{OldPage, OldJournal, Hand, AtOld, GoesOn, AtNew, Clearing, Rests, ClearsJournal, ClearsPage, Files, SplitWorld, first_world, SplitStep, EntersOld, OldJournalLate, OldPageLate, NewJournalLate, NewPageLate, Puts, TidiesUp, SeesOld, SeesNew, ChoosesLine, HandWrites, Signs, EntersNew, Clears, ClearingWrites, AsksFor, FindsOld, FindsNew, TellsOf, with_files, with_asker, with_split_op, with_next_op, with_version, with_ended, with_sign, with_hand, old_journal_late, old_page_late, new_journal_late, new_page_late, a_put, first_look, begins_as, puts_by, tidies_up_by, looks_more, sees_old_as, sees_old_by, counts, sees_new_as, sees_new_by, chooses_as, chooses_line_by, hand_writes_by, signs_as, signs_by, begun_with, enters_new_by, cleared, clears_as, clears_by, knowing, clearing_writes_by, a_get, asks_for, finds_old_by, finds_new_as, finds_new_by, tells_of_by, splits, tick_of, after_split_step, split_world_after, split_operations_of, AllSplitsLegal}
 use Rattle.gq_names.proofs.Lists.{each_at, each_behind, each_push, each_map}
-use Rattle.gq_names.proofs.Alike.{AlikePage, AlikeJournal, AlikeChange, Nameless, AlikeClient, AlikeReader, AtPlace, paired_at, paired_push, last_at, last_push, last_all, page_self, page_turns, page_on, page_back, journal_self, journal_turns, journal_on, journal_back, part_alike, part_journal, has_alike, greatest_shown_alike, version_alike, chosen_alike, chosen_nameless, looked_alike, seen_alike}
+use Rattle.gq_names.proofs.Alike.{AlikePage, AlikeJournal, AlikeChange, AlikeClient, AlikeReader, AtPlace, paired_at, paired_push, last_at, last_push, last_all, page_self, page_turns, page_on, page_back, journal_self, journal_turns, journal_on, journal_back, part_alike, part_journal, has_alike, greatest_shown_alike, version_alike, chosen_alike, chosen_nameless, looked_alike, seen_alike}
 use Rattle.gq_names.proofs.Counts.{SpareJournal, SparePage, HandOld, QuietHand, SignedHand, NoneNew, Unsigned, Signed, Before, Fits, OnlyKnows, HandKnows, ClearingHas, HandNew, CarriesNot, NotCarrying, After, Counts, SignFits, signed_map, signed_none, signed_at, signed_push, signed_all, cleared_alike, knowing_it, knowing_new, knowing_not, known_map, signed_hand_map, before_hand, quiet_unsigned, goes_on, after_new, after_hand}
 use Rattle.gq_names.proofs.Steps.{all_names_tagged}
 

@@ -7,14 +7,14 @@ use Rattle.gq_names.specs.Contents.{AllMay, IsFree, State, and_content, new_stat
 use Rattle.gq_names.specs.Worked.{two, by_number, puts, deeds_worked}
 
 -- a line of one byte names the content of that number alone
-named_alone : (byte content : ℕ) → by_number.names (byte ∷ []) content ≡ true → byte ≡ content
+pub named_alone : (byte content : ℕ) → by_number.names (byte ∷ []) content ≡ true → byte ≡ content
 named_alone byte content named = by (cases_Bool (byte == content))
   where
     by : ((byte == content) ≡ true) ⊎ ((byte == content) ≡ false) → byte ≡ content
     by (inl is) = eqb-true byte content is
     by (inr other) = absurd (true≢false (sym named ∙ rw other refl))
 
-kept_now : (byte content : ℕ) (before : ℕ → Bool) → by_number.names (byte ∷ []) content ≡ true → and_content byte before content ≡ true
+pub kept_now : (byte content : ℕ) (before : ℕ → Bool) → by_number.names (byte ∷ []) content ≡ true → and_content byte before content ≡ true
 kept_now byte content before named = rw (eq-eqb content byte (sym (named_alone byte content named))) refl
 
 abbrev replaced : State

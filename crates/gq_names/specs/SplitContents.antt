@@ -3,10 +3,10 @@
 -- Clients keep the rules of `specs/Contents`, here of the names inside. What a session is to be *free* of before it is forgotten are the files that count, or may
 -- yet. Its client acts at the old files: none of these shows the content. Or it acts at the new ones: none of those does; and, as long as the new page was not
 -- written, neither the old journal nor the old page. (One that is on its way from the old files to the new ones forgets nothing.)
-use Rattle.std.specs.Prelude.{◌≡◌, ℕ, List, [], ◌∷◌, fold, Bool, true, false, ◌==◌, Option, Some, None, ⊤}
+use Rattle.std.specs.Prelude.{◌≡◌, ℕ, List, [], ◌∷◌, fold, Bool, true, false, ◌==◌, Some, None, ⊤}
 use Rattle.gq_names.specs.Names.{Setting, Page, Journal, Client, Knows, Looks, Announces, Carries, shown}
 use Rattle.gq_names.specs.Contents.{Contents, Each, and_content}
-use Rattle.gq_names.specs.Splitting.{OldPage, OldJournal, Hand, AtOld, GoesOn, AtNew, Files, SplitWorld, SplitStep, Puts, ChoosesLine, first_world, counts, after_split_step}
+use Rattle.gq_names.specs.Splitting.{Hand, AtOld, AtNew, Files, SplitWorld, SplitStep, Puts, ChoosesLine, first_world, counts, after_split_step}
 
 -- all that the page shows under names inside is such
 abbrev pub ShowsInside : Contents → (inside : ℕ → Bool) → (P : ℕ → Type 0) → Page → Type 0

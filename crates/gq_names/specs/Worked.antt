@@ -9,6 +9,7 @@ use Rattle.gq_tag.specs.declared.StoredCopy.{StoredCopy}
 use Rattle.gq_names.specs.Names.{Setting, World, Step, Enters, PageLate, Begins, Tidies, Sees, Chooses, ClientWrites, Asks, Finds, Tells, shown, world_after, operations_of}
 use Rattle.gq_names.specs.Contents.{Contents, Deed, Does, Keeps, Forgets, AllMay, new_state, state_after}
 use Rattle.gq_names.specs.Sweeping.{Turn, AreTurns, IsRound, after_turns}
+use Rattle.gq_names.specs.SplitContents.{SplitDeed, DoesStep, KeepsContent, ForgetsContent, AllSplitMay, first_state, split_state_after}
 use Rattle.gq_names.specs.Splitting.{SplitWorld, SplitStep, EntersOld, OldJournalLate, OldPageLate, Puts, SeesOld, SeesNew, ChoosesLine, HandWrites, Signs, EntersNew, Clears, ClearingWrites, AsksFor, FindsOld, FindsNew, TellsOf, split_world_after, split_operations_of}
 
 -- two sessions; the name 7 is watched
@@ -168,3 +169,20 @@ pub record IsSplitWorked : Type 0 where
   -- the old page has the signpost, and no line of the name any more
   pub signed : (world_split.session 0).old_page.signed ≡ true
   pub cleared : (world_split.session 0).old_page.page.line 7 ≡ first_copy
+
+-- session 0 puts a content under the name, at its old files or at its new ones
+abbrev pub puts_split : (content : ℕ) → List SplitDeed
+puts_split content = KeepsContent content ∷ DoesStep (Puts 0 7 (content ∷ [])) ∷ DoesStep (SeesOld 0 1) ∷ DoesStep (ChoosesLine 0 0 no_one no_one) ∷ DoesStep (HandWrites 0 true) ∷ DoesStep (HandWrites 0 true) ∷ []
+
+-- it puts a content, splits its page, and puts another one. Then the first one is forgotten, though the old page still shows it; and somebody gets the other one
+abbrev pub deeds_split : List SplitDeed
+deeds_split =
+    puts_split 65 ++ ((DoesStep (Signs 0) ∷ DoesStep (HandWrites 0 true) ∷ DoesStep (HandWrites 0 true) ∷ DoesStep (Signs 0) ∷ DoesStep (EntersNew 0) ∷ []) ++ (puts_split 66
+    ++ ForgetsContent 65 ∷ DoesStep (AsksFor 5) ∷ DoesStep (FindsOld 5 0) ∷ DoesStep (FindsNew 5 0 0) ∷ DoesStep (FindsOld 5 1) ∷ DoesStep (TellsOf 5) ∷ []))
+
+pub record AreSplitContentsWorked : Type 0 where
+  -- all keep the rules
+  pub may : AllSplitMay two by_number seven_alone first_state deeds_split
+  pub told : ((split_state_after two seven_alone first_state deeds_split).world.op 2).kind ≡ Reads (Some (66 ∷ []))
+  pub forgotten : (split_state_after two seven_alone first_state deeds_split).forgotten 65 ≡ true
+  pub shows : (shown ((split_state_after two seven_alone first_state deeds_split).world.session 0).old_page.page 7).bytes ≡ 65 ∷ []
