@@ -217,6 +217,23 @@ class Splitting(unittest.TestCase):
             files.put(f"{count:02}", b"x" * 30)
         self.assertEqual(len(held(memory.client(2))), 40)
 
+    def test_a_put_that_failed(self):
+        """One that was to go on to more pages, and found no room for its content, leaves nothing behind: what is removed after it stays so."""
+        memory = Memory(levels=(2,), slots=1)
+        files = memory.client(1)
+        names = [f"{number:02}" for number in range(100)]
+        with self.assertRaises(NoRoom):
+            for name in names:
+                files.put(name, b"x" * 30)
+        files.may_grow = lambda: True
+        self.assertRaises(NoRoom, files.put, "new", b"x" * 5_000)
+        self.assertEqual(page_in(memory, 1, 0).signposts, ())
+        gone = next(name for name in names if memory.layout.page_of(name, 1) == memory.layout.page_of("new", 1))
+        files.remove(gone)
+        files.put("new", b"y" * 90)
+        self.assertTrue(splits.is_split(page_in(memory, 1, 0), 1))
+        self.assertNotIn(gone, held(memory.client(1)))
+
     def test_tags_of_both(self):
         """Tags of an old and a new page may be the same: they are two files."""
 
