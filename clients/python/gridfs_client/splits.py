@@ -39,7 +39,7 @@ def splits_only(page: Page) -> bool:
 
 def part_of(page: Page, is_here: Callable[[str], bool]) -> Page:
     """What a page says of some of its names."""
-    return replace(page, lines=tuple(line for line in page.lines if is_here(line.name)), signposts=())
+    return Page(tuple(line for line in page.lines if is_here(line.name)), page.after, page.number)
 
 
 def signed(journal: Page, level: int) -> Page:

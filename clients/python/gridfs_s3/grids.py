@@ -167,7 +167,7 @@ class Grids:
 
     def is_settled(self, name: str) -> bool:
         """Whether all sessions of the tenant are here, and nothing is under way into the pages of a name but changes of this gateway that are asked for now."""
-        return all(pool.is_settled(pool.layout.page_of(name)) for pool in self.pools_of(name))
+        return all(pool.is_settled(pool.page_of(name)) for pool in self.pools_of(name))
 
     # Taking workers
 
