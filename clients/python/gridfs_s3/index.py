@@ -24,11 +24,10 @@ from typing import Final, NamedTuple, Protocol
 
 from gridfs_client.answers import Tag
 from gridfs_client.buckets import Held
-from gridfs_client.core import Known, Line, Page, Version, version_of
-from gridfs_client.errors import ClientError
+from gridfs_client.core import BEYOND, Known, Line, Page, Version, version_of
+from gridfs_client.errors import BadSettings, ClientError
 from gridfs_client.layout import Layout
 from gridfs_client.pages import FIRST_WORDS, HEAD, parse_line, parse_page, text_of
-from gridfs_client.splits import BEYOND
 from gridfs_client.ways import Found, version_in
 
 from .errors import tell
@@ -432,10 +431,12 @@ class Index:
         return next((each for each in self.and_before(page) if (each, session) in self.tags), page)
 
     def page_of(self, layout: Layout, name: str) -> int:
-        """The page of a name at the last level to which names of its bucket went on, as far as is known."""
+        """The page of a name at the last level to which names of its bucket went on, as far as is known. BadSettings where this plan lacks that."""
         level, page = 0, layout.page_of(name)
-        while page in self.split and level + 1 < len(layout.levels):
+        while page in self.split:
             level += 1
+            if level == len(layout.levels):
+                raise BadSettings(f"page {page} has split, and its names went on to pages of a later plan")
             page = layout.page_of(name, level)
         return page
 

@@ -260,8 +260,10 @@ class Pool:
     def pages_lacking(self, move: Move) -> list[tuple[int, int]]:
         """The sessions that are here, each with its pages that may not be yet as a move wants them, as they were seen last."""
         numbers = [number for number, worker in self.workers.items() if not worker.is_lent and not worker.is_silent]
-        pages = [(number, page, self.shared.index.known(page, number)) for number in numbers for page in range(self.layout.pages)]
-        return [(number, page) for number, page, known in pages if known is None or not is_shared(known.page, move)]
+        index = self.shared.index
+        whole = [page for page in self.layout.page_numbers if index.is_begun(self.layout, page) and page not in index.split]
+        pages = [(number, page, index.known(index.counting(page, number), number)) for number in numbers for page in whole]
+        return [(number, page) for number, page, known in pages if known is None or not is_shared(known.page, move, lambda name, page=page: self.page_of(name) == page)]  # type: ignore[misc]
 
     # All names
 
@@ -492,6 +494,8 @@ class Pool:
                     pool.release(each)
 
         every: list[tuple[Pool, Worker]] = [(self, worker), *others]
+        for pool, each in every:
+            pool.go_by_plan(each)
         future = self.loop.run_in_executor(self.threads, begin)
         future.add_done_callback(end)
         return await asyncio.shield(future)
@@ -619,11 +623,16 @@ class Pool:
                 worker = await self.lease(number)
             except Unanswered:
                 continue  # (it is renewed once its home answers)
+            self.go_by_plan(worker)
+            self.release(worker)
+        self.shared.may_grow = True
+
+    def go_by_plan(self, worker: Worker) -> None:
+        """Has a worker that is leased go by the last plan."""
+        if worker.store.layout is not self.layout:
             carried = worker.store.writer.carried  # (its pages stay where they are)
             self.renew(worker)
             worker.store.writer.has_more_pages(carried)
-            self.release(worker)
-        self.shared.may_grow = True
 
     async def split_on(self) -> None:
         """Has pages split wholly that have begun to, by each session that is here: else each look at their names is one at the old pages, too."""
@@ -757,9 +766,9 @@ class Pool:
             self.carrier.close()
 
 
-def is_shared(page: Page, move: Move) -> bool:
-    """Whether a page of the old grid is as a move wants it."""
-    return not any(move.has(slice_of(line.name)) for line in page.lines) if move.is_there else move.signpost in page.signposts
+def is_shared(page: Page, move: Move, is_here: Callable[[str], bool]) -> bool:
+    """Whether a page of the old grid is as a move wants it, for these names."""
+    return not any(move.has(slice_of(line.name)) and is_here(line.name) for line in page.lines) if move.is_there else move.signpost in page.signposts
 
 
 def now_ms() -> int:

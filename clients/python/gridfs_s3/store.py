@@ -169,7 +169,7 @@ class Store(Reader):
 
     def with_more_pages(self, bucket: Bucket, name: str, values: Callable[[], Values]) -> Bucket:
         """The bucket at which a name is put that was looked for at this one: that of the next level where the page has no room for it, and all nodes have that."""
-        while self.shared.may_grow and self.writer.has_parts(bucket) and self.writer.announcement(bucket, replace(self.shortest_line(bucket, name, values), content=LONG_LINE)) is None:
+        while self.shared.may_grow and not self.trip and self.writer.has_parts(bucket) and self.writer.announcement(bucket, replace(self.shortest_line(bucket, name, values), content=LONG_LINE)) is None:
             bucket = self.writer.part_for(bucket, name)
             bucket.look(own=True)
             self.make_room(bucket, self.shortest_line(bucket, name, values))
@@ -179,14 +179,15 @@ class Store(Reader):
         """What a name holds, for a change by this session, and the bucket at which that is made. Elsewhere where the change is another grid's."""
         if self.trip:
             held = self.trip.look_for_change(name, self.grid)
-            return self.bucket(name), held
+            return self.trip.bucket(self.grid, name), held
         bucket = self.writer.looked_at(name, lambda bucket, is_fresh: bucket.look(own=True, is_fresh=is_fresh))
         return bucket, bucket.held(name)
 
     def look_again(self, bucket: Bucket, name: str, is_wanted: bool) -> tuple[Bucket, Held | None]:
         """The same right before the change, of a bucket that was looked at for it; where that is wanted, by one more look."""
         if self.trip:
-            return bucket, self.trip.look_again(name, self.grid, is_wanted)
+            held = self.trip.look_again(name, self.grid, is_wanted)
+            return self.trip.bucket(self.grid, name), held
         if is_wanted:
             bucket.look(own=True)
         return self.look_for_change(name) if bucket.has_split() else (bucket, bucket.held(name))
