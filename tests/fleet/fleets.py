@@ -10,6 +10,7 @@ one goes on is drawn at each step. A session has one client at a time; a client 
 import argparse
 import collections
 import contextlib
+import dataclasses
 import functools
 import itertools
 import os
@@ -26,7 +27,9 @@ from histories import History, Killed
 from maps import Maps
 from memory import Memory, MemorySession
 
-from gridfs_client import ClientError, NamedFiles, NoRoom, OneByOne, core, ways
+from gridfs_client import ClientError, NamedFiles, NoRoom, OneByOne, core, moving, splits, ways
+from gridfs_client.buckets import Bucket
+from gridfs_client.core import Page
 from gridfs_client.fleet import FleetFiles, sign
 from gridfs_client.moving import Mover, moves_to_end
 from gridfs_client.ways import SLICES, slice_of
@@ -247,6 +250,44 @@ BUGS = {
     "uncopied": (Mover, "copy_all", uncopied),
     "any-line": (Mover, "is_there", any_line),
 }
+# And of pages that split.
+def without_signposts(page, is_here):
+    """A new page begins without the signposts of the old one."""
+    return Page(tuple(line for line in page.lines if is_here(line.name)), page.after, page.number)
+
+
+def carries(walk, client):
+    """A signpost that the own journal has is carried into the new page, which was not announced."""
+    state = looked(walk, client)
+    return dataclasses.replace(state, state=core.Carries(client, client.journal)) if isinstance(state.state, core.Announces) else state
+
+
+def never(self):
+    return False
+
+
+def at_once(files, bucket, signpost):
+    """A mover puts a signpost into an old page that has split."""
+    bucket.look(own=True)
+    journal = ways.signed(bucket.client, signpost, bucket.keeps)
+    if journal:
+        files.writer.change(bucket, journal)
+    return bool(journal)
+
+
+def as_it_was(self, is_change):
+    """A walk goes on from what the journal of the new page was, whatever came into the old one since."""
+    return self.client
+
+
+looked = ways.looked
+SPLITTING = {
+    "without-signposts": (splits, "part_of", without_signposts),
+    "carries": (ways, "looked", carries),
+    "never-split": (Bucket, "has_split", never),
+    "at-once": (moving, "sign", at_once),
+    "as-it-was": (Bucket, "to_look", as_it_was),
+}
 SEEDS = {"stays": 6, "new-alone": 0, "unsigned": 3, "uncopied": 91, "any-line": 210}  # of the history that finds each
 
 
@@ -258,7 +299,7 @@ def is_found(seed, operations=60, splits=0.0):
 
 
 def planted(bug):
-    where, what, how = BUGS[bug]
+    where, what, how = (BUGS | SPLITTING)[bug]
     return mock.patch.object(where, what, how)
 
 
@@ -267,12 +308,12 @@ def main():
     parser.add_argument("first", type=int, nargs="?", default=0)
     parser.add_argument("count", type=int, nargs="?", default=20)
     parser.add_argument("--operations", type=int, default=60)
-    parser.add_argument("--bug", choices=BUGS)
+    parser.add_argument("--bug", choices=[*BUGS, *SPLITTING])
     parser.add_argument("--bugs", action="store_true")
     parser.add_argument("--splitting", action="store_const", const=SPLITS, default=0.0)
     args = parser.parse_args()
     if args.bugs:
-        for bug in BUGS:
+        for bug in SPLITTING if args.splitting else BUGS:
             with planted(bug):
                 seed = next((seed for seed in range(args.first, args.first + args.count) if is_found(seed, splits=args.splitting)), None)
             print(bug, "NOT FOUND" if seed is None else seed, flush=True)

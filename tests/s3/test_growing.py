@@ -1,11 +1,13 @@
 """Pages that split before a gateway: what its index tells of them, what it sees while another session grows, step by step, and what it does itself once a page is full."""
 
+import asyncio
 import os
 import random
 import signal
 import sys
 import tempfile
 import time
+import types
 import unittest
 
 HERE = os.path.dirname(os.path.abspath(__file__))
@@ -23,6 +25,7 @@ from gridfs_client.contents import Inline
 from gridfs_client.core import Known, Line, Page
 from gridfs_client.pages import parse_page
 from gridfs_s3.index import Index
+from gridfs_s3.sessions import Pool
 from gridfs_s3.shared import Shared
 
 NAMES = [f"bucket/{number}" for number in range(12)]
@@ -193,7 +196,7 @@ class Steps(unittest.TestCase):
 
     def test_at_each_step(self):
         """What it sees is right, by a look at all and at each name; a look at one name takes nothing from what the index has of others; and it puts and removes."""
-        for kind in ("looks", "looks at one", "puts", "looks at last"):
+        for kind in ("looks", "looks at one", "puts"):
             for step in range(1, 400):
                 memory, (one, two) = self.filled()
                 steps = []
@@ -212,11 +215,24 @@ class Steps(unittest.TestCase):
                             self.assertEqual(content_of(two, NAMES[1]), b"amid")
 
                 memory.client(3, amid).grow()
+                if kind == "looks at one":
+                    one.look(NAMES[0])
+                    self.assertEqual({row.name for row in one.shared.index.names("")}, truth(memory).keys(), step)
                 for store in (one, two, client(memory, 1)):
                     self.seen(store, memory, (kind, step))
                 if not steps:
                     break
             self.assertGreater(step, 10)
+
+    def test_another_session(self):
+        """One whose page has not split yet, as was seen, may have done so since, and have put."""
+        memory, stores = self.filled(sessions=4)
+        memory.client(3).grow()
+        self.seen(stores[0], memory, "grown")
+        memory.client(4).put(NAMES[5], b"by the fourth one")
+        for store in stores:
+            self.assertEqual(content_of(store, NAMES[5]), b"by the fourth one")
+        self.seen(stores[1], memory, "put")
 
     def test_splits_wholly(self):
         """Each of its sessions does, once one has begun; and then no look is at the old pages, and no slower than before."""
@@ -267,6 +283,7 @@ class Steps(unittest.TestCase):
             for store in stores:
                 for page in memory.layout.page_numbers:
                     store.settle(page)
+                    self.assertEqual(store.writer.has_settled_all(), set(store.writer.carried) == set(memory.layout.page_numbers), step)
                 self.assertTrue(store.writer.has_settled_all(), step)
             before = {row.name: row.size for row in shared.index.names("")}
             memory.surface()
@@ -309,6 +326,34 @@ class Steps(unittest.TestCase):
         self.assertTrue(one.writer.has_settled_all())
 
 
+class Looks(unittest.TestCase):
+    def test_levels_one_after_another(self):
+        """For a listing the new pages are looked at once all old ones were, of those that have split as was seen by then."""
+        pool, told = Pool.__new__(Pool), []
+        pool.layout = Memory(sessions=1, pages=2, levels=(2, 2)).layout
+        first, second, third = (list(range(level.volume, level.volume + level.volumes)) for level in pool.layout.levels)
+        index = Index()
+        index.layout = pool.layout
+        pool.shared, pool.sessions, pool.looks, pool.looked = types.SimpleNamespace(index=index), 2, asyncio.Lock(), 0.0
+        pool.workers = {number: types.SimpleNamespace(store=types.SimpleNamespace(settled=()), is_silent=False, is_lent=False) for number in (1, 2)}
+
+        async def lease():
+            return None
+
+        async def run(worker, work, is_soon=False):
+            work(types.SimpleNamespace(look_at=told.append))
+            await asyncio.sleep(0)
+            if told[-1] == first:
+                index.split[0] = {1}
+            told.append("ended")
+
+        pool.lease, pool.run = lease, run
+        asyncio.run(pool.look_at_all())
+        new = [volume for volume in second if any(pool.layout.before(page) == 0 for page in pool.layout.pages_in(volume))]
+        self.assertEqual(told, [first, "ended", new, "ended"])
+        self.assertFalse(set(third) & set(new))
+
+
 def truth_by(memory, number):
     files = memory.client(number)
     return {entry.name: files.get(entry.name)[0] for entry in files.names()}
@@ -333,7 +378,7 @@ class Running(unittest.TestCase):
                     out.write("\n".join([*GROWS, ""]))
                 processes[folder].send_signal(signal.SIGHUP)
                 self.wait(lambda: "the plan has 12 volumes now" in found.told(), found)
-                keys = [f"{number:03}" for number in range(put_until + 60)]
+                keys = [f"{number:03}" for number in range(put_until + 9)]
                 for number, key in enumerate(keys[put_until:], put_until):
                     s3.put_object(Key=key, Body=b"x" * number, **words)
                     with self.subTest(key):
@@ -347,7 +392,16 @@ class Running(unittest.TestCase):
                     s3.list_objects_v2(Bucket="one")
                     return sum(endpoint.counts(folder).get(kind, 0) for kind in ("look", "list", "read")) <= 1
 
+                def is_quick():
+                    """A get takes one look, but for one at the bucket now and then."""
+                    s3.get_object(Bucket="one", Key=keys[0])
+                    endpoint.counts(folder)
+                    for key in keys:
+                        s3.get_object(Bucket="one", Key=key)
+                    return endpoint.counts(folder).get("look", 0) < 1.4 * len(keys)
+
                 self.wait(is_quiet, found)
+                self.wait(is_quick, found)
                 self.assertNotIn("Traceback", found.told())
 
     def wait(self, is_so, gateway):

@@ -118,7 +118,7 @@ class FleetFiles:
                 if isinstance(asked, Opens):
                     state = ways.told(state, bucket.to_look(state.is_change))
                 else:
-                    if isinstance(asked, core.WritePage):
+                    if isinstance(asked, core.WriteJournal | core.WritePage):
                         bucket.forget()  # until the answer is there
                     assert state.state
                     state = ways.told(state, bucket.known(state.state) or bucket.answer(asked, None))

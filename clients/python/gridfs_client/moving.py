@@ -91,9 +91,14 @@ class Mover:
         """BadSettings where the settings of both grids lead to the same one: there a page of one shows each time what was just written at the other."""
         for _ in range(2):  # (once more, should the other grid have been written to by chance)
             with self.files(self.move.source) as source:
-                bucket = whole_bucket(source)
-                place = source.layout.page(source.me, bucket.number)
+                page = whole_bucket(source).number
+            with self.files(self.move.source) as source:
+                place = source.layout.page(source.me, page)
                 before = self.tag_at(self.move.target, place)
+                bucket = source.writer.bucket(page)
+                bucket.look(own=True)
+                if bucket.has_split():
+                    continue
                 source.writer.change(bucket, core.changed(bucket.client, None, keeps=bucket.keeps))
                 written = source.session.read(*place).tag
             after = self.tag_at(self.move.target, place)
