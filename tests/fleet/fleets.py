@@ -27,7 +27,7 @@ from histories import History, Killed
 from maps import Maps
 from memory import Memory, MemorySession
 
-from gridfs_client import ClientError, NamedFiles, NoRoom, OneByOne, core, moving, splits, ways
+from gridfs_client import ClientError, NamedFiles, NoRoom, OneByOne, core, splits, ways
 from gridfs_client.buckets import Bucket
 from gridfs_client.core import Page
 from gridfs_client.fleet import FleetFiles, sign
@@ -250,7 +250,7 @@ BUGS = {
     "uncopied": (Mover, "copy_all", uncopied),
     "any-line": (Mover, "is_there", any_line),
 }
-# And of pages that split.
+# And of pages that split; test_fleet.py finds the second one.
 def without_signposts(page, is_here):
     """A new page begins without the signposts of the old one."""
     return Page(tuple(line for line in page.lines if is_here(line.name)), page.after, page.number)
@@ -266,28 +266,13 @@ def never(self):
     return False
 
 
-def at_once(files, bucket, signpost):
-    """A mover puts a signpost into an old page that has split."""
-    bucket.look(own=True)
-    journal = ways.signed(bucket.client, signpost, bucket.keeps)
-    if journal:
-        files.writer.change(bucket, journal)
-    return bool(journal)
-
-
-def as_it_was(self, is_change):
-    """A walk goes on from what the journal of the new page was, whatever came into the old one since."""
-    return self.client
-
-
 looked = ways.looked
 SPLITTING = {
     "without-signposts": (splits, "part_of", without_signposts),
     "carries": (ways, "looked", carries),
     "never-split": (Bucket, "has_split", never),
-    "at-once": (moving, "sign", at_once),
-    "as-it-was": (Bucket, "to_look", as_it_was),
 }
+SPLIT_SEEDS = {"without-signposts": 22, "never-split": 0}
 SEEDS = {"stays": 6, "new-alone": 0, "unsigned": 3, "uncopied": 91, "any-line": 210}  # of the history that finds each
 
 

@@ -257,11 +257,9 @@ class Index:
 
     def is_closed(self, page: int) -> bool:
         """Whether each page of a bucket is there with the number that the others ask for."""
-        if self.split:
-            asks = [self.asks.get((self.counting(page, session), session), ()) for session in range(1, 17)]
-            return all(self.numbers.get((self.counting(page, session), session), 0) >= number for after in asks for session, number in enumerate(after, 1))
-        asks = [self.asks.get((page, session), ()) for session in range(1, 17)]
-        return all(self.numbers.get((page, session), 0) >= number for after in asks for session, number in enumerate(after, 1))
+        pages = [(self.counting(page, session) if self.split else page, session) for session in range(1, 17)]
+        asks = [self.asks[each] for each in pages if each in self.asks]
+        return all(self.numbers.get(pages[session - 1], 0) >= number for after in asks for session, number in enumerate(after, 1))
 
     def close(self) -> None:
         """Writes down what is known, for a later process."""
@@ -428,6 +426,8 @@ class Index:
 
     def counting(self, page: int, session: int) -> int:
         """The page of a session that counts for a bucket, as far as is known."""
+        if (page, session) in self.tags:
+            return page
         return next((each for each in self.and_before(page) if (each, session) in self.tags), page)
 
     def page_of(self, layout: Layout, name: str) -> int:
