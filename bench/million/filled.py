@@ -134,6 +134,8 @@ class Filled:
         if words[0] == "look":
             self.counts["look"] += 1
             return f"looked {words[1]} {words[2]} 0 {self.rows(int(words[2]))}"
+        if words[0] not in ("read", "write", "list", "abandon"):  # (it keeps no chunks)
+            return "refused bad"
         kind, session, operation, *rest = words
         session, operation = int(session), int(operation)
         last = self.last.get(session, 0)

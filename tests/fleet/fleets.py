@@ -1,7 +1,7 @@
 """Random histories over grids in memory, whose files are perfect registers: clients by any map that there ever was, and movers, with kills.
 
-    fleets.py FIRST COUNT [--operations N] [--bug NAME]      so many histories from a seed on
-    fleets.py --bugs                                         each planted bug, by the history that finds it
+    fleets.py FIRST COUNT [--operations N] [--splitting] [--bug NAME]      so many histories from a seed on, or such in which pages split besides
+    fleets.py --bugs [--splitting]                                         each planted bug, by the history that finds it
 
 Whoever is killed leaves its write pending: it takes effect at some later moment, or never, and not once a later write of its session to the file has. Which
 one goes on is drawn at each step. A session has one client at a time; a client has its sessions for a few operations. Some moves find no room, and are taken back.
@@ -10,7 +10,9 @@ one goes on is drawn at each step. A session has one client at a time; a client 
 import argparse
 import collections
 import contextlib
+import dataclasses
 import functools
+import itertools
 import os
 import random
 import sys
@@ -25,12 +27,15 @@ from histories import History, Killed
 from maps import Maps
 from memory import Memory, MemorySession
 
-from gridfs_client import ClientError, NamedFiles, NoRoom, OneByOne, core, ways
+from gridfs_client import ClientError, NamedFiles, NoRoom, OneByOne, core, splits, ways
+from gridfs_client.buckets import Bucket
+from gridfs_client.core import Page
 from gridfs_client.fleet import FleetFiles, sign
 from gridfs_client.moving import Mover, moves_to_end
 from gridfs_client.ways import SLICES, slice_of
 
 LABELS = ("east", "west", "south")
+SPLITS = 0.25  # of the operations, where pages split
 
 
 class Actor:
@@ -86,10 +91,10 @@ class Actor:
 
 
 class Fleet(Maps):
-    def __init__(self, draw, labels, sessions, pages, slots, page_blocks):
+    def __init__(self, draw, labels, sessions, pages, slots, page_blocks, levels=itertools.repeat(())):
         super().__init__(labels)
         self.draw, self.sessions, self.held = draw, sessions, set()
-        self.memories = {label: Memory(sessions, pages, page_blocks, slots, 2) for label in labels}
+        self.memories = {label: Memory(sessions, pages, page_blocks, slots, 2, more) for label, more in zip(labels, levels)}
         self.counts = collections.Counter()
 
     def all(self):
@@ -130,12 +135,21 @@ def plain(fleet_map, actor, _):
     return FleetFiles(fleet_map, lambda grid, ground: actor.files(grid, actor.fleet.all(), ground))
 
 
-def try_fleet(seed, operations=60, client_of=plain, page_blocks=40, slots=(8, 12)):
-    """A history of clients that `client_of` makes, of a map, an actor and what is drawn."""
-    draw = random.Random(seed)
+def split(files, draw):
+    """A page of a session at some grid splits, or all of them."""
+    some = files.grid(draw.choice(list(files.map.grids)))
+    if (levels := some.layout.levels)[1:]:
+        with contextlib.suppress(NoRoom):
+            some.grow() if draw.random() < 0.3 else some.writer.split(some.writer.bucket(draw.randrange(levels[-1].first)))
+
+
+def try_fleet(seed, operations=60, client_of=plain, page_blocks=40, slots=(8, 12), splits=0.0):
+    """A history of clients that `client_of` makes, of a map, an actor and what is drawn. `splits` of the operations are that a page splits."""
+    draw, splitting = random.Random(seed), random.Random(f"splits {seed}")
     labels = LABELS[: draw.choice((2, 2, 3))]
     clients = draw.choice((2, 3))
-    fleet = Fleet(draw, labels, clients + draw.choice((1, 2)), draw.choice((1, 1, 2)), draw.choice(slots), page_blocks)
+    levels = [splitting.choice(((2,), (3,), (2, 2), ())) if splits else () for _ in labels]
+    fleet = Fleet(draw, labels, clients + draw.choice((1, 2)), draw.choice((1, 1, 2)), draw.choice(slots), page_blocks, levels)
     names = ["a", "b b", "ç"][: draw.choice((1, 2, 3))]
     history = History(names, (3, 45, 150), weights=draw.choice(((4, 5, 2, 1), (4, 4, 4, 0), (2, 6, 1, 0))))
     returns = random.Random(-seed)
@@ -149,6 +163,9 @@ def try_fleet(seed, operations=60, client_of=plain, page_blocks=40, slots=(8, 12
                 files = client_of(fleet_map, actor, draw)
                 for _ in range(draw.choice((1, 2, 5))):
                     left[0] -= 1
+                    if splits and splitting.random() < splits:
+                        split(files, splitting)
+                        fleet.counts["splits"] += 1
                     history.do(actor, files, draw)
                 for grid, number in list(actor.held):
                     actor.leave(grid, number)
@@ -233,18 +250,41 @@ BUGS = {
     "uncopied": (Mover, "copy_all", uncopied),
     "any-line": (Mover, "is_there", any_line),
 }
+# And of pages that split; test_fleet.py finds the second one.
+def without_signposts(page, is_here):
+    """A new page begins without the signposts of the old one."""
+    return Page(tuple(line for line in page.lines if is_here(line.name)), page.after, page.number)
+
+
+def carries(walk, client):
+    """A signpost that the own journal has is carried into the new page, which was not announced."""
+    state = looked(walk, client)
+    return dataclasses.replace(state, state=core.Carries(client, client.journal)) if isinstance(state.state, core.Announces) else state
+
+
+def never(self):
+    return False
+
+
+looked = ways.looked
+SPLITTING = {
+    "without-signposts": (splits, "part_of", without_signposts),
+    "carries": (ways, "looked", carries),
+    "never-split": (Bucket, "has_split", never),
+}
+SPLIT_SEEDS = {"without-signposts": 22, "never-split": 0}
 SEEDS = {"stays": 6, "new-alone": 0, "unsigned": 3, "uncopied": 91, "any-line": 210}  # of the history that finds each
 
 
-def is_found(seed, operations=60):
+def is_found(seed, operations=60, splits=0.0):
     try:
-        return bool(try_fleet(seed, operations)[0].wrong()[0])
+        return bool(try_fleet(seed, operations, splits=splits)[0].wrong()[0])
     except (ClientError, AssertionError):
         return True
 
 
 def planted(bug):
-    where, what, how = BUGS[bug]
+    where, what, how = (BUGS | SPLITTING)[bug]
     return mock.patch.object(where, what, how)
 
 
@@ -253,19 +293,20 @@ def main():
     parser.add_argument("first", type=int, nargs="?", default=0)
     parser.add_argument("count", type=int, nargs="?", default=20)
     parser.add_argument("--operations", type=int, default=60)
-    parser.add_argument("--bug", choices=BUGS)
+    parser.add_argument("--bug", choices=[*BUGS, *SPLITTING])
     parser.add_argument("--bugs", action="store_true")
+    parser.add_argument("--splitting", action="store_const", const=SPLITS, default=0.0)
     args = parser.parse_args()
     if args.bugs:
-        for bug in BUGS:
+        for bug in SPLITTING if args.splitting else BUGS:
             with planted(bug):
-                seed = next((seed for seed in range(args.first, args.first + args.count) if is_found(seed)), None)
+                seed = next((seed for seed in range(args.first, args.first + args.count) if is_found(seed, splits=args.splitting)), None)
             print(bug, "NOT FOUND" if seed is None else seed, flush=True)
         return
     total, start = collections.Counter(), time.monotonic()
     with planted(args.bug) if args.bug else contextlib.nullcontext():
         for seed in range(args.first, args.first + args.count):
-            history, fleet = try_fleet(seed, args.operations)
+            history, fleet = try_fleet(seed, args.operations, splits=args.splitting)
             total.update(history.counts)
             total.update(fleet.counts)
             wrong, unknown = history.wrong()

@@ -14,6 +14,7 @@ from unittest import mock
 
 HERE = os.path.dirname(os.path.abspath(__file__))
 sys.path[:0] = [os.path.join(HERE, "..", "names"), os.path.join(HERE, "..", "s3")]
+import fleets
 from endpoint import stand_in
 from histories import Killed
 from maps import Maps
@@ -38,9 +39,9 @@ SETTINGS = "[gridfs]\ntenant = ann\nsocket = none\n"
 class Grids(Maps):
     """Grids of memory, and a map by which all names are at `east`, or go from there to `west`."""
 
-    def __init__(self, sessions=2, slots=8, pages=1, labels=("east", "west"), page_blocks=16):
+    def __init__(self, sessions=2, slots=8, pages=1, labels=("east", "west"), page_blocks=16, levels=()):
         super().__init__(labels)
-        self.memories = {label: Memory(sessions, pages, page_blocks, slots, 2) for label in labels}
+        self.memories = {label: Memory(sessions, pages, page_blocks, slots, 2, levels) for label in labels}
         self.steps, self.at_step = 0, lambda _: None
         self.held = []  # sessions that the mover has
 
@@ -162,6 +163,51 @@ class Moves(unittest.TestCase):
             self.assertFalse([line for copy in memory.registers.values() if copy.content.startswith(b"names") for line in parse_page(copy.content, "").lines])
         with self.assertRaises(BadSettings):
             grids.named("east", 1, None).get("short")
+
+    def split_amid(self, who, step):
+        """A mover dies at a step, and pages split; or they begin to, whoever does so dies at the step, and the move goes on. Whether there was such a step."""
+        grids, held = self.filled(levels=(2,))
+        grids.begin(0, SLICES - 1, "west")
+
+        def dies(now):
+            if now == step:
+                raise Killed
+
+        grids.at_step = dies
+        try:
+            if who == "mover":
+                grids.mover(watched=True).run()
+            else:
+                grids.files(2, watched=True).grid("east").grow()
+                grids.files(1, watched=True).grid("west").grow()
+            return False
+        except Killed:
+            pass
+        grids.files(2).grid("east").grow()
+        self.expect(grids, held)
+        held["short"] = b"once more"
+        grids.files(1, grids.maps[0]).put("short", held["short"])
+        self.expect(grids, held)
+        grids.files(1).grid("west").grow()
+        grids.surface()
+        grids.end()
+        self.expect(grids, held)
+        held["long"] = b"l"
+        grids.files(2).put("long", held["long"])
+        self.expect(grids, held)
+        return True
+
+    def test_pages_that_split(self):
+        for who in ("mover", "grow"):
+            for step in (*range(1, 70), *range(70, 2_000, 5)):
+                if not self.split_amid(who, step):
+                    break
+            self.assertGreater(step, 9)
+
+    def test_pages_that_split_wrongly(self):
+        for bug in ("without-signposts", "carries", "never-split"):
+            with fleets.planted(bug):
+                self.assertRaises((AssertionError, NoSuchName), lambda: [self.split_amid("mover", step) for step in (44, *range(45, 200, 10))])
 
     def refuse(self, grids, fleet_map, why):
         """A move by a map is refused, and nothing is another one than before."""

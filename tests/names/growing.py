@@ -1,5 +1,7 @@
-"""A tenant that gets more pages, over real nodes: a later plan, `grow` amid puts and gets and killed now and then, and what commands of before say."""
+"""A tenant that gets more pages, over real nodes: a later plan, a put that finds its page full, `grow` amid puts and gets and killed now and then, and what commands
+of before say."""
 
+import itertools
 import os
 import signal
 import subprocess
@@ -11,7 +13,7 @@ from commands import PYTHON, TOP
 from with_room import Seen, run
 
 PLANNED = os.path.join(TOP, "tools", "plan")
-MOST = 30  # names
+MOST, FULL = 30, 400  # names, and those that fill a page at the most
 MOMENTS = (0.6, 0.9, 1.3, 2.0)  # seconds after which `grow` is killed
 
 
@@ -60,6 +62,8 @@ def growing(program):
         seen.held("rm", run("rm", gone)[0], 0)
     with with_room.grid_of(program, "later"):
         held(seen, contents, "with the later plan")
+        full(seen, contents)
+        held(seen, contents, "once a put found its page full")
         beside = [Beside(f"beside {number}") for number in range(2)]
         for moment in MOMENTS:
             grows = with_room.begin("grow")
@@ -83,6 +87,29 @@ def growing(program):
         seen.held("sweep", run("sweep")[0], 0)
         held(seen, contents, "at last")
     return f"more pages: {seen.count} compared; {sum(each.count for each in beside)} puts beside `grow`, {len(MOMENTS)} kills of it", seen.wrong
+
+
+def full(seen, contents):
+    """A page gets as many names as it has room for, and one more: that splits it."""
+    number, layout = 0, looked_at()[0]
+    for name in (f"full {each} {'x' * 150}" for each in itertools.count()):
+        if layout.page_of(name):
+            continue
+        number, contents[name] = number + 1, os.urandom(40)
+        seen.held("a put into a page that fills", run("put", "-", name, given=contents[name])[0], 0)
+        if number % 8 == 0 and looked_at()[1] or number == FULL:
+            break
+    seen.held("a put has split its page", (number > 8, looked_at()[1]), (True, True))
+
+
+def looked_at():
+    """The tenant's layout, and whether a page of the first bucket shows that it has split."""
+    client = with_room.Lasting()
+    try:
+        files = [client.layout.page(session, 0) for session in range(1, client.layout.sessions + 1)]
+        return client.layout, any(b"level1" in client.sessions[0].read(*file).content for file in files)
+    finally:
+        client.carrier.close()
 
 
 def held(seen, contents, when):

@@ -35,7 +35,7 @@ LONG, MOST_MEMORY = 100, 84  # MiB of a content, and of a process that moves it 
 ATTEMPTS, LEAST_OPERATIONS, MOST_OPERATIONS = 10, 50, 2_000  # of trials over nodes; a bug has to be found within the most
 GROUPS = {"broker": "broker", "package": "checkers"}  # of tests/packages, which these parts want
 SHAPES = ("MIXED", "CROWDED", "LENDING", "REMOVING", "DYING", "SWEEPING", "UNSURE", "LOOKING", "SPLITTING", "DIVIDED", "PARTED")
-LISTED = ("LISTING", "MIXED", "UNSURE")  # with listings that skim pages
+LISTED = ("LISTING", "MIXED", "UNSURE", "SPLITTING")  # with listings that skim pages
 
 
 def steps():

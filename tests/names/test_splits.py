@@ -8,11 +8,9 @@ from histories import HERE, Killed
 from memory import Memory, Write
 
 from gridfs_client import BadSettings, Copy, Damaged, Layout, NoRoom, Tag, Unanswered, Volume, core, splits
-from gridfs_client.buckets import Bucket
 from gridfs_client.layout import MARK
 from gridfs_client.pages import parse_page, text_of
 from gridfs_client.usage import usage_of
-from gridfs_client.ways import Ground
 
 assert HERE
 NAMES = [f"name {number}" for number in range(8)]
@@ -23,7 +21,9 @@ def page_in(memory, session, number):
 
 
 def held(files):
-    return {entry.name: files.get(entry.name)[0] for entry in files.names()}
+    names = sorted(entry.name for entry in files.names())
+    assert sorted(files.skimmed(lambda found: found.name)) == names
+    return {name: files.get(name)[0] for name in names}
 
 
 def filled(**words):
@@ -217,6 +217,23 @@ class Splitting(unittest.TestCase):
             files.put(f"{count:02}", b"x" * 30)
         self.assertEqual(len(held(memory.client(2))), 40)
 
+    def test_a_put_that_failed(self):
+        """One that was to go on to more pages, and found no room for its content, leaves nothing behind: what is removed after it stays so."""
+        memory = Memory(levels=(2,), slots=1)
+        files = memory.client(1)
+        names = [f"{number:02}" for number in range(100)]
+        with self.assertRaises(NoRoom):
+            for name in names:
+                files.put(name, b"x" * 30)
+        files.may_grow = lambda: True
+        self.assertRaises(NoRoom, files.put, "new", b"x" * 5_000)
+        self.assertEqual(page_in(memory, 1, 0).signposts, ())
+        gone = next(name for name in names if memory.layout.page_of(name, 1) == memory.layout.page_of("new", 1))
+        files.remove(gone)
+        files.put("new", b"y" * 90)
+        self.assertTrue(splits.is_split(page_in(memory, 1, 0), 1))
+        self.assertNotIn(gone, held(memory.client(1)))
+
     def test_tags_of_both(self):
         """Tags of an old and a new page may be the same: they are two files."""
 
@@ -242,7 +259,7 @@ class Splitting(unittest.TestCase):
         self.assertEqual(two.get("a"), one.get("a"))
 
     def test_a_later_plan(self):
-        """Who knows an earlier plan stops at a signpost, and who has a map."""
+        """Who knows an earlier plan stops at a signpost."""
         memory, contents = filled(levels=(2,))
         before = memory.client(2)
         before.layout = before.writer.layout = Layout(2, memory.layout.volumes[:4])
@@ -253,8 +270,6 @@ class Splitting(unittest.TestCase):
         self.assertRaises(BadSettings, before.names)
         self.assertRaises(BadSettings, before.sweep)
         self.assertRaisesRegex(BadSettings, "no more pages", before.grow)
-        bucket = Bucket(memory.client(2).session, memory.layout, 0, Ground("east", lambda _: 0))
-        self.assertRaisesRegex(BadSettings, "a map can't", bucket.refresh)
         self.assertEqual(held(memory.client(2)), contents)
 
     def test_catch_up(self):

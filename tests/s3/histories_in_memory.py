@@ -1,7 +1,8 @@
 #!/usr/bin/python3
 """Random histories of objects over perfect registers, by gateways that are killed and writes that take effect late: each key has to be one register.
 
-    histories_in_memory.py FIRST COUNT      so many from a seed on; the status is 1 where one has no order
+    histories_in_memory.py FIRST COUNT              so many from a seed on; the status is 1 where one has no order
+    histories_in_memory.py --splitting FIRST COUNT  the same with pages that split meanwhile
 
 A client of these histories is a gateway with some sessions, of which it takes any for each operation. What they share, and what they keep, is shared.
 """
@@ -11,6 +12,7 @@ import hashlib
 import os
 import random
 import sys
+import types
 from typing import NamedTuple
 
 sys.path.insert(0, os.path.dirname(os.path.abspath(__file__)))
@@ -31,6 +33,18 @@ SHAPES = [
     registers.Shape(names=(1,), sessions=(2, 3), pages=(1,), slots=(8,), kills=(0.01,), gone=(0,), late=(0.02, 0.005), many_sessions=(1,), unanswered=(0, 0.02)),
     registers.Shape(names=(2, 3), sessions=(2, 3), pages=(1, 2), slots=(6, 9), sizes=(45, 150, 250), kills=(0, 0.01), gone=(0,), late=(0.1, 0.005), many_sessions=(0.5, 1), unanswered=(0, 0.01)),
 ]
+SPLITTING = [
+    registers.Shape(
+        names=(2, 3), sessions=(2, 3), sizes=(3, 45, 150), kills=(0, 0.005, 0.02), gone=(0,), late=(0.1, 0.02, 0.005), many_sessions=(0, 0.6, 0.9), unanswered=(0, 0, 0.01),
+        weights=((4, 5, 3, 3), (4, 5, 1, 4)), levels=((2,), (3,), (2, 2)), splits=0.15,
+    ),
+    registers.Shape(
+        names=(1, 2), sessions=(2,), pages=(1,), sizes=(3,), kills=(0.02, 0.05), gone=(0,), late=(0.01, 0.05), many_sessions=(0, 1), weights=((4, 6, 4, 2),), levels=((2,),), splits=0.25,
+    ),
+    registers.Shape(
+        names=(2, 3), sessions=(2, 3), pages=(1, 2), slots=(6, 9), sizes=(3, 45), kills=(0, 0.01), gone=(0,), late=(0.1, 0.005), many_sessions=(1,), weights=((4, 4, 3, 6),), levels=((2,), (2, 2)), splits=0.2,
+    ),
+]  # fmt: skip
 ALONE = 2  # in the last shape there is one gateway at a time, which has all sessions: it settles a page before its first change
 
 
@@ -51,6 +65,7 @@ class Objects:
         self.draw, self.is_settled = random.Random(session.number), False
         self.stores = [Store(each, layout, shared) for each in (session, *helpers())]
         self.times = {}
+        shared.may_grow, self.layout = True, layout
         for store in self.stores:
             store.many_pieces, store.team = 2, team
 
@@ -64,7 +79,7 @@ class Objects:
         if not self.is_settled and len(self.stores) == self.stores[0].layout.sessions:
             self.is_settled = True
             for store in self.stores:
-                for page in range(store.layout.pages):
+                for page in store.layout.page_numbers:
                     with contextlib.suppress(Unanswered):
                         store.settle(page)
 
@@ -146,11 +161,24 @@ class Objects:
         """By the index, as a gateway's listings: after a look at all pages, but where this has all sessions, and nothing that others wrote comes into a page."""
         store = self.store()
         if not all(each.writer.has_settled_all() for each in self.stores) or len(self.stores) < store.layout.sessions:
-            store.look_at(range(store.layout.pages_volumes))
+            store.look_at(store.layout.all_pages_volumes)
         rows = store.shared.index.names("")
         if self.draw.random() < 0.5:
             return [Entry(row.key, Objects.digests[row.etag]) for row in rows if row.etag in Objects.digests]
         return [Entry(held.name, of_words(held.words).get("s")) for held in self.store().all()]
+
+    @property
+    def writer(self):
+        """For one call: that of one session."""
+        writer = self.store().writer
+        return types.SimpleNamespace(bucket=lambda page: page, split=lambda page: writer.split(writer.bucket(page)))
+
+    def grow(self):
+        """As a gateway splits pages wholly that have begun to."""
+        store = self.store()
+        for page, sessions in store.shared.index.to_split(self.layout).items():
+            if store.me in sessions:
+                store.split(page)
 
     def sweep(self):
         pass
@@ -169,14 +197,14 @@ def absent(name):
     raise NoSuchName(name)
 
 
-def wrong_in(seed):
+def wrong_in(seed, shapes=SHAPES):
     """Why a history is wrong; None where it is right."""
-    shape = SHAPES[seed % len(SHAPES)]
+    shape = shapes[seed % len(shapes)]
     Objects.times = {}
     try:
         history, _ = registers.try_registers(seed, Objects, 50, shape)
     except WentBack as fault:
-        if seed % len(SHAPES) == ALONE:
+        if shapes is SHAPES and seed % len(SHAPES) == ALONE:
             return str(fault)
         return None  # (of several gateways the times of changes side by side need not be in the order of these)
     except (ClientError, S3Error, AssertionError) as fault:
@@ -185,10 +213,10 @@ def wrong_in(seed):
     return f"no order of {wrong}" if wrong else None
 
 
-def main(first, count):
+def main(first, count, shapes=SHAPES):
     wrong = 0
     for seed in range(first, first + count):
-        if told := wrong_in(seed):
+        if told := wrong_in(seed, shapes):
             wrong += 1
             print(f"history {seed}: {told}", flush=True)
     print(f"{count} histories, {wrong} wrong")
@@ -196,4 +224,5 @@ def main(first, count):
 
 
 if __name__ == "__main__":
-    sys.exit(main(*map(int, sys.argv[1:])))
+    is_splitting = sys.argv[1] == "--splitting"
+    sys.exit(main(*map(int, sys.argv[1 + is_splitting :]), SPLITTING if is_splitting else SHAPES))

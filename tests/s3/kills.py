@@ -4,6 +4,8 @@
     kills.py SETTINGS SECONDS KILLS GATEWAYS        puts, gets, heads, removals, uploads in parts and listings, by so many gateways, each with some of eight sessions
     kills.py --indexed SETTINGS SECONDS KILLS       the same by one gateway that has all sessions, and goes on with the index of the one that was killed
     kills.py --indexed SECONDS KILLS                the same over a stand-in for a grid; it is tried up to ten times, until something is wrong
+    kills.py --growing SETTINGS SECONDS KILLS       the same of a tenant with more pages, to which names go on meanwhile: by `gridfs-client grow`, which is killed too, and by full pages
+    kills.py --growing SECONDS KILLS                the same over a stand-in for a grid
     kills.py --conditional SETTINGS SECONDS KILLS   puts with If-None-Match and If-Match, by one gateway that has all sessions: links of a chain
 
 SETTINGS is a file as for gridfs-client, of the tenant carol. The status is 1 where something is wrong.
@@ -11,15 +13,18 @@ SETTINGS is a file as for gridfs-client, of the tenant carol. The status is 1 wh
 
 import collections
 import hashlib
+import itertools
 import math
 import os
 import random
+import subprocess
 import sys
 import tempfile
 import threading
 import time
 
 sys.path.insert(0, os.path.dirname(os.path.abspath(__file__)))
+import code_of_s3
 import endpoint
 from linearizability import Operation, is_linearizable
 
@@ -29,6 +34,7 @@ NEVER = math.inf  # the end of what was not answered
 SIZES = (20, 20, 700, 5_000, 40_000)
 CLIENTS, KEYS, SESSIONS = 6, 4, 8
 FAULTS = (ClientError, BotoCoreError, OSError)
+PLAN_THAT_GROWS = os.path.join(os.path.dirname(os.path.abspath(__file__)), "plan-that-grows")
 
 
 def code_of(fault):
@@ -199,6 +205,56 @@ class Indexed(Trial):
         self.list(self.gateways[0].client())
 
 
+class Growing(Indexed):
+    """One gateway before a tenant whose pages split: its gets and listings have to be right all the time."""
+
+    weights = {"put": 30, "get": 20, "head": 10, "remove": 10, "upload": 5, "list": 25}
+
+    def run(self):
+        self.fillers, self.until = itertools.count(), time.monotonic() + self.seconds
+        grows = threading.Thread(target=self.grow)
+        grows.start()
+        wrong = super().run()
+        grows.join()
+        return wrong
+
+    def ask(self, s3, draw, word):
+        if draw.random() < 0.1:
+            try:
+                s3.put_object(Bucket=self.bucket, Key=f"full/{next(self.fillers)}", Body=b"", Metadata={"word": "x" * 1_000})
+            except FAULTS as fault:
+                self.fault(fault)
+        super().ask(s3, draw, word)
+
+    def grow(self):
+        while time.monotonic() < self.until:
+            time.sleep(self.draw.uniform(0, self.seconds / 8))
+            self.grow_for(self.draw.uniform(0.5, self.seconds))
+
+    def grow_for(self, seconds):
+        """Whether the command came to its end in so many seconds."""
+        gateway = self.gateways[0]
+        words = [sys.executable, "-B", os.path.join(code_of_s3.CLIENT, "gridfs-client"), "--config", gateway.settings, "--locks", os.path.join(gateway.room, "locks"), "grow"]
+        command = subprocess.Popen(words, stdin=subprocess.DEVNULL, stdout=subprocess.PIPE, stderr=subprocess.PIPE)
+        try:
+            told = command.communicate(timeout=seconds)
+            self.faults[f"grow: {command.returncode}"] += 1
+            if command.returncode not in (0, 4, 7):
+                self.wrong.append(f"grow: {command.returncode}: {told}")
+            return command.returncode == 0
+        except subprocess.TimeoutExpired:
+            command.kill()
+            command.communicate()
+            self.faults["grow: killed"] += 1
+            return False
+
+    def look_at_last(self):
+        super().look_at_last()
+        if not self.grow_for(120):
+            self.wrong.append("not all pages split at last")
+        super().look_at_last()
+
+
 class Conditional(Trial):
     """Each client puts the successor of what it read, if that is there still. So those that were told to have succeeded are links of one chain."""
 
@@ -267,21 +323,21 @@ def tried(kind, settings, seconds, kills, count, seed, room):
             gateway.kill()
 
 
-def over_a_stand_in(seconds, kills):
+def over_a_stand_in(kind, seconds, kills):
     """Trials of listings behind kills, until one is wrong; what was done."""
     for turn in range(10):
-        with endpoint.stand_in() as room:
-            wrong, told = tried(Indexed, os.path.join(room, "carol.ini"), seconds, kills, 1, turn, room)
+        with endpoint.stand_in(*[PLAN_THAT_GROWS] * (kind is Growing)) as room:
+            wrong, told = tried(kind, os.path.join(room, "carol.ini"), seconds, kills, 1, turn, room)
         if wrong:
             break
     return wrong, told
 
 
 def main(words):
-    kind = {"--conditional": Conditional, "--indexed": Indexed}.get(words[0], Trial)
+    kind = {"--conditional": Conditional, "--indexed": Indexed, "--growing": Growing}.get(words[0], Trial)
     words = words[kind is not Trial :]
-    if kind is Indexed and len(words) == 2:
-        wrong, told = over_a_stand_in(float(words[0]), int(words[1]))
+    if kind in (Indexed, Growing) and len(words) == 2:
+        wrong, told = over_a_stand_in(kind, float(words[0]), int(words[1]))
     else:
         settings, seconds, kills, *count = words
         with tempfile.TemporaryDirectory(prefix="gridfs-s3-") as room:

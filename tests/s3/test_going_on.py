@@ -365,7 +365,7 @@ class HowFar(unittest.TestCase):
 
         store = Store.__new__(Store)
         store.session, store.me = Began(), 1
-        store.layout = types.SimpleNamespace(pages=3, page_at=Layout(2, (Volume(4, 1), Volume(4, 1), Volume(4, 1), Volume(4, 1), Volume(4, 2))).page_at)
+        store.layout = types.SimpleNamespace(page_numbers=range(3), page_at=Layout(2, (Volume(4, 1), Volume(4, 1), Volume(4, 1), Volume(4, 1), Volume(4, 2))).page_at)
         store.writer = types.SimpleNamespace(carried={})
         store.shared = types.SimpleNamespace(index=types.SimpleNamespace(tag=lambda page, _: Tag(page + 5, 1)))
         return store

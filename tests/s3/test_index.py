@@ -268,8 +268,9 @@ class FewTests(unittest.TestCase):
 
 def pool_of(settled, looks):
     """A pool whose sessions have settled these pages, each with what a look does."""
-    layout = types.SimpleNamespace(pages_volumes=len(looks), pages=len(looks), pages_in=lambda volume: range(volume, volume + 1))
+    layout = types.SimpleNamespace(levels=[types.SimpleNamespace(volume=0, volumes=len(looks))], pages=len(looks), pages_in=lambda volume: range(volume, volume + 1))
     pool = Pool.__new__(Pool)
+    pool.shared = types.SimpleNamespace(index=types.SimpleNamespace(is_begun=lambda *_: True))
     pool.layout, pool.sessions, pool.looks, pool.looked = layout, len(settled), asyncio.Lock(), 0.0
     writer = lambda pages: types.SimpleNamespace(has_settled_all=lambda: len(pages) == layout.pages)
     pool.workers = {number: types.SimpleNamespace(store=types.SimpleNamespace(settled=pages, writer=writer(pages)), is_silent=False, is_lent=False) for number, pages in enumerate(settled, 1)}

@@ -8,7 +8,6 @@ import os
 import random
 import sys
 import unittest
-from dataclasses import replace
 from unittest import mock
 
 HERE = os.path.dirname(os.path.abspath(__file__))
@@ -18,7 +17,7 @@ from bodies_in_memory import Body
 from histories import Killed
 from memory import Memory
 
-from gridfs_client import BadSettings, OneByOne, Unanswered
+from gridfs_client import BadSettings, Layout, OneByOne, Unanswered
 from gridfs_client.contents import Joined
 from gridfs_s3.errors import S3Error, error_of
 from gridfs_s3.places import of_words, parts_of, upload_name
@@ -41,9 +40,9 @@ def client(memory, number=1, at_step=None, shared=None):
 
 class MorePages(unittest.TestCase):
     def test_a_page_that_has_split(self):
-        """A gateway follows no names to more pages: it tells so, whatever it knew before, and nothing else; and nothing is changed."""
+        """A gateway that knows an earlier plan follows no names to the pages of a later one: it tells so, whatever it knew before, and nothing else; and nothing is changed."""
         memory = Memory(sessions=3, page_blocks=64, slots=24, slot_blocks=4, levels=(2,))
-        whole, memory.layout = memory.layout, replace(memory.layout, most_levels=1)
+        whole, memory.layout = memory.layout, Layout(3, memory.layout.volumes[:3])
         shared = Shared()
         one, two = client(memory, 1, shared=shared), client(memory, 2, shared=shared)
         put(one, NAME, OLD)
@@ -51,7 +50,7 @@ class MorePages(unittest.TestCase):
         self.assertEqual(content_of(two, NAME), OLD)
         memory.layout = whole
         memory.client(3).grow()
-        memory.layout = replace(whole, most_levels=1)
+        memory.layout = Layout(3, whole.volumes[:3])
         before = dict(memory.registers)
         for store in (one, two, client(memory, 1), client(memory, 2)):
             for call in (store.look, store.latest, lambda name, store=store: put(store, name, b"new"), lambda _, store=store: store.look_at(range(store.layout.pages_volumes)),

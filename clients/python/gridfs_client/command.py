@@ -120,10 +120,7 @@ class Opened:
 
     def of_before(self, seconds: float) -> list[int]:
         """The nodes that answer, and have not told the plan that others did. (One that is silent so long has to begin with the last one.)"""
-        nodes = ask_all(self.carrier, seconds, None)
-        told = self.carrier.volumes
-        standing = [] if nodes is None else [node for place in range(nodes.told.nodes) if (node := nodes.told.node_at(place)) not in nodes.silent]
-        return [node for node in standing if told.get(node, 0) < max([len(self.told.volumes), *told.values()])]
+        return of_before(self.carrier, self.told, seconds)
 
     def by_sessions(self, call: Callable[[NamedFiles], Result], again: Callable[[], None] | None = nothing) -> Result:
         """What a call gives. Where the home of its session dies of it, or is silent, it is begun anew by another session, if that is as if it had not begun:
@@ -191,6 +188,11 @@ class OpenedFleet:
     def prepare(self) -> None:
         self.grids.take_latest_map()
 
+    def of_before(self, seconds: float) -> list[int]:
+        """The same of the first grid that has such nodes."""
+        grids = map(self.grids.grid, self.grids.map.grids)
+        return next(filter(None, (of_before(grid.carrier, grid.told, seconds) for grid in grids)), [])
+
     def one_by_one(self) -> Iterator[tuple[str, NamedFiles | None]]:
         return self.grids.one_by_one()
 
@@ -199,6 +201,13 @@ class OpenedFleet:
 
     def names_for(self, name: str) -> AbstractContextManager[FleetFiles]:
         return self.grids.files_for(name)
+
+
+def of_before(carrier: Carrier, plan: PlanTold, seconds: float) -> list[int]:
+    nodes = ask_all(carrier, seconds, None)
+    told = carrier.volumes
+    standing = [] if nodes is None else [node for place in range(nodes.told.nodes) if (node := nodes.told.node_at(place)) not in nodes.silent]
+    return [node for node in standing if told.get(node, 0) < max([len(plan.volumes), *told.values()])]
 
 
 def number_of(word: str) -> int:
@@ -398,15 +407,15 @@ def renew(opened: Opened | OpenedFleet, args: argparse.Namespace) -> None:
     tell(args, vars(told) | {"absent": absent}, text + (f"; {'sessions' if len(absent) > 1 else 'session'} {listed(absent)} could not be had" if absent else ""))
 
 
-def grow(opened: Opened, args: argparse.Namespace) -> None:
+def grow(opened: Opened | OpenedFleet, args: argparse.Namespace) -> None:
     if before := opened.of_before(SILENCE):
         raise BadSettings(f"{'nodes' if len(before) > 1 else 'node'} {listed(before)} told an earlier plan: start all nodes with the last one, and then begin anew")
     told, absent = Grown(), []
     for session, names in opened.one_by_one():
-        if names:
-            told += names.grow()
-        else:
+        if names is None:
             absent.append(session)
+        elif isinstance(opened, Opened) or len(names.layout.levels) > 1:
+            told += names.grow()
     text = f"pages: {told.pages} have split, and {told.lines} lines went to others by that"
     tell(args, vars(told) | {"absent": absent}, text + (f"; {'sessions' if len(absent) > 1 else 'session'} {listed(absent)} could not be had" if absent else ""))
 
@@ -570,7 +579,7 @@ def stop_at_signals(carriers: Carrier | OpenGrids) -> None:
 
 def run_over_grids(args: argparse.Namespace, settings: Settings) -> None:
     """A command about the names of several grids."""
-    if args.call not in (put, get, ls, rm, stat, mirror, status, sweep, renew):
+    if args.call not in (put, get, ls, rm, stat, mirror, status, sweep, renew, grow):
         raise BadSettings(f"{args.word} is about one grid: leave `map` out, and name the settings of that grid")
     name = vars(args).get("name") or vars(args).get("names", [""])[0]
     is_shown = sys.stderr is not None and sys.stderr.isatty() and not args.quiet

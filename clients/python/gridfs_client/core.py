@@ -60,6 +60,9 @@ class Line:
         return self.copied.since if self.copied else self.version
 
 
+BEYOND = 999_999_999_999  # the number of a signpost to more pages of the same grid, above those of all moves
+
+
 @dataclass(frozen=True)
 class Signpost:
     """Names of these slices went on to this grid, by a move of this number."""
@@ -70,8 +73,8 @@ class Signpost:
     grid: str
 
     def leads(self, slice_number: int, move: int) -> bool:
-        """Whether it leads on who came to a name of this slice by that move."""
-        return self.first <= slice_number <= self.last and self.move > move
+        """Whether it leads on who came to a name of this slice by that move. (One to more pages of the same grid leads to no other one: splits.py.)"""
+        return self.first <= slice_number <= self.last and move < self.move < BEYOND
 
 
 @dataclass(frozen=True)

@@ -11,11 +11,11 @@ from typing import IO
 from . import core, ways
 from .buckets import OLDER, Bucket, Held, held_of
 from .contents import Content, Inline
-from .core import Knows, Line, Version
+from .core import Line, Version
 from .errors import BadName, BadSettings, ClientError, Damaged, NoRoom, NoSuchName, Replaced
 from .fleet_map import FleetMap
 from .layout import Layout
-from .listing import Listing
+from .listing import Listing, Looked
 from .names import Entry, Listed, NamedFiles, Swept, copied_whole, entry_of, listed_of, no_words
 from .pages import check_name, check_words, text_of
 from .streams import Source
@@ -46,15 +46,20 @@ class Names:
     silent: dict[str, ClientError]
 
 
-Look = Callable[[str], "Sequence[Knows] | ClientError"]
-SideBySide = Callable[[Look, Sequence[str]], "list[Sequence[Knows] | ClientError]"]
+Look = Callable[[str], "Looked | ClientError"]
+SideBySide = Callable[[Look, Sequence[str]], "list[Looked | ClientError]"]
 
 
-def one_by_one(look: Look, grids: Sequence[str]) -> "list[Sequence[Knows] | ClientError]":
+def looked_at(files: NamedFiles) -> Looked:
+    """What is seen of each bucket of a grid, those in place of such as have split."""
+    return Looked(files.layout, {bucket.number: bucket.client for bucket, _ in files.buckets()})
+
+
+def one_by_one(look: Look, grids: Sequence[str]) -> "list[Looked | ClientError]":
     return list(map(look, grids))
 
 
-def in_threads(look: Look, grids: Sequence[str]) -> "list[Sequence[Knows] | ClientError]":
+def in_threads(look: Look, grids: Sequence[str]) -> "list[Looked | ClientError]":
     with ThreadPoolExecutor(max(1, len(grids))) as threads:
         return list(threads.map(look, grids))
 
@@ -66,6 +71,7 @@ class FleetFiles:
     def __init__(self, fleet_map: FleetMap, open_grid: Callable[[str, Ground], NamedFiles], side_by_side: "SideBySide" = one_by_one):
         self.map, self.open_grid, self.side_by_side = fleet_map, open_grid, side_by_side
         self.grids: dict[str, NamedFiles] = {}
+        self.walked_at: tuple[str, dict[str, Bucket]] = "", {}  # the buckets at which the last walk was gone, and of which name
 
     def grid(self, grid: str) -> NamedFiles:
         if grid not in self.grids:
@@ -88,7 +94,12 @@ class FleetFiles:
         return any(files.is_bound for files in self.grids.values())
 
     def bucket(self, grid: str, name: str) -> Bucket:
-        return self.grid(grid).bucket(name)
+        """The bucket of a name: that at which the last walk looked, though others may have seen since that it has split."""
+        if self.walked_at[0] != name:
+            self.walked_at = name, {}
+        if grid not in self.walked_at[1]:
+            self.walked_at[1][grid] = self.grid(grid).bucket(name)
+        return self.walked_at[1][grid]
 
     # Walks
 
@@ -96,24 +107,29 @@ class FleetFiles:
         return self.drive(ways.walk(name, self.map.stop(slice_of(name)), is_change, with_own))
 
     def drive(self, state: Walk) -> Walk:
+        """A walk to its end. Where a page is seen to have split, to more of the same grid, it begins anew, and goes by those."""
+        first = state
         while request := ways.request_of(state):
             grid, asked = request
+            if isinstance(asked, Opens) and self.walked_at[0] == state.name:
+                self.walked_at[1].pop(grid, None)
             bucket = self.bucket(grid, state.name)
             try:
                 if isinstance(asked, Opens):
-                    state = ways.told(state, bucket.client)
+                    state = ways.told(state, bucket.to_look(state.is_change))
                 else:
-                    if isinstance(asked, core.WritePage):
+                    if isinstance(asked, core.WriteJournal | core.WritePage):
                         bucket.forget()  # until the answer is there
                     assert state.state
                     state = ways.told(state, bucket.known(state.state) or bucket.answer(asked, None))
                     bucket.is_carried |= isinstance(asked, core.WritePage)
             except core.Older as fault:
                 raise Damaged(f"{grid}: {bucket.where(*fault.args)} {OLDER}") from None
-            for each, client in state.clients:
-                known = self.bucket(each, state.name)
-                if known.client is not client:
-                    known.client, known.index = client, None
+            client = dict(state.clients).get(grid, bucket.client)
+            if bucket.client is not client:
+                bucket.client, bucket.index = client, None
+            if bucket.has_split():
+                state = first
         return state
 
     def walk_for_change(self, name: str, with_own: bool) -> Walk:
@@ -181,6 +197,7 @@ class FleetFiles:
             if self.is_as_walked(walk):
                 return entry_of(files.commit(bucket, name, placed, words()))
             walk = self.walk_for_change(name, with_own=False)
+            bucket = self.bucket(grid, name)
             if walk.last.grid != grid:
                 # The name went on while its content was placed. It stands here already, and is read from here.
                 placed = self.replaced(Held(name, Version(1, files.me), placed, words()), grid, walk.last.grid)
@@ -231,10 +248,10 @@ class FleetFiles:
         entries = [listed_of(told.held, moments[told.first - 1], moments[told.last]) for told in listing.told()]
         return Names(entries, listing.silent)
 
-    def all_buckets(self, grid: str) -> "Sequence[Knows] | ClientError":
+    def all_buckets(self, grid: str) -> "Looked | ClientError":
         """What is seen of each bucket of a grid, or why it was silent."""
         try:
-            return [bucket.client for bucket, _ in self.grid(grid).buckets()]
+            return looked_at(self.grid(grid))
         except ClientError as fault:
             return fault
 
@@ -257,8 +274,10 @@ def spool() -> "tempfile.SpooledTemporaryFile[bytes]":
 
 
 def sign(files: NamedFiles, bucket: Bucket, signpost: core.Signpost) -> bool:
-    """Puts a signpost into a page of this session; whether it had to be."""
+    """Puts a signpost into a page of this session; whether it had to be. (Of one that has split those that took its place are to have it.)"""
     bucket.look(own=True)
+    if bucket.has_split():
+        return False
     journal = ways.signed(bucket.client, signpost, bucket.keeps)
     if journal is None:
         return False

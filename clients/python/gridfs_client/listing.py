@@ -9,7 +9,7 @@ again, for all such names together. Ways that go through the same grids in other
         listing.looked({grid: .. for grid in grids})       # what a client knows of each bucket, or why the grid was silent
 """
 
-from collections.abc import Callable, Collection, Iterator, Mapping, Sequence
+from collections.abc import Callable, Collection, Iterable, Iterator, Mapping, Sequence
 from dataclasses import dataclass
 
 from . import core, ways
@@ -17,7 +17,7 @@ from .buckets import Held, held_of
 from .core import Knows, Signpost
 from .errors import BadSettings, ClientError, Replaced
 from .fleet_map import FleetMap
-from .layout import page_among
+from .layout import Layout
 from .ways import Found, Stop, slice_of
 
 MOST_LOOKS = 1_000  # while names go on and on
@@ -32,6 +32,19 @@ class Told:
     last: int
 
 
+@dataclass(frozen=True)
+class Looked:
+    """What a client knows of each bucket of a grid, by its number; of those that have split nothing, but of the ones in their place."""
+
+    layout: Layout
+    buckets: Mapping[int, Knows]
+
+    def pages_for(self, name: str) -> Iterable[core.Known]:
+        """The pages that may have lines of a name."""
+        numbers = (self.layout.page_of(name, level) for level in range(len(self.layout.levels)))
+        return next(self.buckets[number].seen for number in numbers if number in self.buckets)
+
+
 class Listing:
     """Names that begin so. `wanted` are the grids that are to be looked at next, `silent` those that gave no answer."""
 
@@ -40,7 +53,7 @@ class Listing:
         self.wanted = {each.grid for each in fleet_map.ranges}
         self.needs: dict[tuple[str, ...], str] = {}  # of each way that is not followed yet the grid that is to be looked at next
         self.silent: dict[str, ClientError] = {}
-        self.seen: dict[str, Sequence[Knows]] = {}  # what was seen last of each grid's buckets
+        self.seen: dict[str, Looked] = {}  # what was seen last of each grid's buckets
         self.latest: dict[str, int] = {}  # in which look
         self.count = 0
         self.signposts: dict[str, set[Signpost]] = {}  # of all pages of a grid
@@ -48,7 +61,7 @@ class Listing:
         self.confirms: dict[str, tuple[Found, int]] = {}  # lines that are looked for once more, after this look
         self.done: dict[str, Told | None] = {}
 
-    def looked(self, found: Mapping[str, Sequence[Knows] | ClientError]) -> None:
+    def looked(self, found: Mapping[str, Looked | ClientError]) -> None:
         """What came of the looks at the grids that were wanted."""
         self.count += 1
         self.needs = {}
@@ -57,7 +70,7 @@ class Listing:
                 self.silent[grid] = seen
             else:
                 self.seen[grid], self.latest[grid] = seen, self.count
-        self.signposts = {grid: {each for client in seen for known in client.seen for each in known.page.signposts} for grid, seen in self.seen.items()}
+        self.signposts = {grid: {each for client in seen.buckets.values() for known in client.seen for each in known.page.signposts} for grid, seen in self.seen.items()}
         for first in self.firsts() - self.followed:
             if self.is_in_order(list(self.way(first, self.signposts.__getitem__))):
                 self.followed.add(first)
@@ -94,8 +107,8 @@ class Listing:
 
     def by_name(self) -> dict[str, list[Found]]:
         found: dict[str, list[Found]] = {}
-        for grid, buckets in self.seen.items():
-            for session, known in ((session, known) for client in buckets for session, known in enumerate(client.seen, 1)):
+        for grid, looked in self.seen.items():
+            for session, known in ((session, known) for client in looked.buckets.values() for session, known in enumerate(client.seen, 1)):
                 for line in known.page.lines:
                     if line.name.startswith(self.prefix):
                         found.setdefault(line.name, []).append(Found(core.version_of(line, session, grid), session, grid, line))
@@ -119,8 +132,7 @@ class Listing:
 
     def shown_to(self, name: str, grid: str) -> set[Signpost]:
         """The signposts of the pages where the name has its lines."""
-        buckets = self.seen[grid]
-        return {each for known in buckets[page_among(name, len(buckets))].seen for each in known.page.signposts}
+        return {each for known in self.seen[grid].pages_for(name) for each in known.page.signposts}
 
     def way(self, slice_number: int, signposts: Callable[[str], Collection[Signpost]]) -> Iterator[str]:
         """The grids of a way, as far as they were seen, each once: as it was come to last."""

@@ -91,10 +91,14 @@ class Mover:
         """BadSettings where the settings of both grids lead to the same one: there a page of one shows each time what was just written at the other."""
         for _ in range(2):  # (once more, should the other grid have been written to by chance)
             with self.files(self.move.source) as source:
-                place = source.layout.page(source.me, 0)
+                page = whole_bucket(source).number
+            with self.files(self.move.source) as source:
+                place = source.layout.page(source.me, page)
                 before = self.tag_at(self.move.target, place)
-                bucket = source.writer.bucket(0)
+                bucket = source.writer.bucket(page)
                 bucket.look(own=True)
+                if bucket.has_split():
+                    continue
                 source.writer.change(bucket, core.changed(bucket.client, None, keeps=bucket.keeps))
                 written = source.session.read(*place).tag
             after = self.tag_at(self.move.target, place)
@@ -152,8 +156,10 @@ class Mover:
     def sessions(self, grid: str) -> range:
         return range(1, self.layout_of(grid).sessions + 1)
 
-    def pages(self, grid: str) -> range:
-        return range(self.layout_of(grid).pages)
+    def pages(self, grid: str) -> list[int]:
+        """The numbers of its pages, of each session; those in place of such as have split."""
+        with self.files(grid) as files:
+            return [bucket.number for bucket, _ in files.buckets()]
 
     def files(self, grid: str, numbers: Collection[int] = ()) -> AbstractContextManager[NamedFiles]:
         return self.open_session(grid, numbers, ground_of(self.map, grid))
@@ -163,14 +169,15 @@ class Mover:
     def sign_all(self) -> None:
         """In each page that doesn't show it, by its session; SessionTaken where some sessions can't be had, and don't have it by themselves."""
         lacking, count, taken = self.lacking(), 0, set[int]()
-        for session, page in lacking:
-            if session in taken:
-                continue
-            try:
-                with self.files(self.move.source, [session]) as files:
-                    count += sign(files, files.writer.bucket(page), self.move.signpost)
-            except SessionTaken:
-                taken.add(session)
+        for turn, _ in enumerate(self.layout_of(self.move.source).levels):  # (pages may split meanwhile)
+            for session, page in self.lacking() if turn else lacking:
+                if session in taken:
+                    continue
+                try:
+                    with self.files(self.move.source, [session]) as files:
+                        count += sign(files, files.writer.bucket(page), self.move.signpost)
+                except SessionTaken:
+                    taken.add(session)
         left = sorted({session for session, _ in self.waited(self.lacking)}) if lacking else []
         if left:
             raise SessionTaken(f"sessions {listed(left)} of {self.move.source} lack signposts: run it where they are used, or once they are free")
@@ -194,20 +201,24 @@ class Mover:
     # Copies
 
     def copy_all(self) -> None:
-        highest = 0
-        for page in self.pages(self.move.source):
-            with self.files(self.move.source) as source:
-                bucket = source.writer.bucket(page)
-                bucket.refresh()
-                highest = max([highest, *(known.page.number for known in bucket.client.seen)])
-                names = [name for name in bucket.by_name() if self.move.has(slice_of(name))]
-                turns = {name: self.turn(bucket, name) for name in names}
-                for turn in sorted(set(turns.values())):
-                    self.copy_some(source, turn, [name for name in names if turns[name] == turn])
+        highest = max(map(self.copy_page, self.pages(self.move.source)))
         for page in self.pages(self.move.target):
             with self.files(self.move.target) as target:
                 raise_number(target, page, highest)
         self.tell(f"{self.copied} names copied")
+
+    def copy_page(self, page: int) -> int:
+        """Copies the names of a bucket; the highest number of its pages."""
+        with self.files(self.move.source) as source:
+            bucket = source.writer.bucket(page)
+            bucket.refresh()
+            parts = source.layout.parts_of(page) if bucket.has_split() else ()
+            highest = max(known.page.number for known in bucket.client.seen)
+            names = [name for name in bucket.by_name() if self.move.has(slice_of(name))] if not parts else []
+            turns = {name: self.turn(bucket, name) for name in names}
+            for turn in sorted(set(turns.values())):
+                self.copy_some(source, turn, [name for name in names if turns[name] == turn])
+        return max([highest, *map(self.copy_page, parts)])
 
     def turn(self, bucket: Bucket, name: str) -> int:
         """Whose turn it is for a name: the session's that has it at the old grid; of another count of sessions the one's that clients try first."""
@@ -235,7 +246,8 @@ class Mover:
 
     def copy(self, fleet: FleetFiles, name: str) -> None:
         """Has the new grid a line at least as great as that of the old one."""
-        target = fleet.grid(self.move.target)
+        target_grid = self.move.target
+        target = fleet.grid(target_grid)
         while True:
             walk = fleet.drive(ways.walk(name, self.start(name), True))
             found = ways.greatest(walk)
@@ -243,7 +255,7 @@ class Mover:
                 return
             if walk.last.grid != self.move.target:
                 raise Damaged(f"{name}: a later move leads to {walk.last.grid}")
-            bucket, held = target.bucket(name), held_of(found)
+            bucket, held = fleet.bucket(target_grid, name), held_of(found)
             content = None
             if held:
                 content = self.placed(fleet.grid(found.grid), target, bucket, held)
@@ -253,10 +265,10 @@ class Mover:
                 if ways.greatest(again) != found:
                     target.unplace(bucket, content)
                     continue
-                walk = again
+                walk, bucket = again, fleet.bucket(target_grid, name)
             journal = ways.copied(walk, content, bucket.keeps)
             assert journal
-            if length_of_lines(journal.lines) + length_of_signposts(journal) > target.layout.lines_room:
+            if length_of_lines(journal.lines) + length_of_signposts(journal) > bucket.level.lines_room:
                 target.unplace(bucket, content)
                 raise NoRoom(f"{name}: page {bucket.number} of session {target.me} of {self.move.target} has no room for a copy")
             target.writer.change(bucket, journal)
@@ -297,10 +309,11 @@ class Mover:
 
     def clear_all(self) -> None:
         count = 0
-        for session, page in self.left():
-            with suppress(SessionTaken), self.files(self.move.source, [session]) as files:
-                count += clear(files, page, self.move)
-                files.close()
+        for _ in self.layout_of(self.move.source).levels:
+            for session, page in self.left():
+                with suppress(SessionTaken), self.files(self.move.source, [session]) as files:
+                    count += clear(files, page, self.move)
+                    files.close()
         if self.waited(self.left):
             raise SessionTaken(f"lines are left at {self.move.source}: run it again")
         self.tell(f"{count} lines are gone from {self.move.source}")
@@ -310,10 +323,22 @@ class Mover:
         return self.pages_where(lambda page: any(self.move.has(slice_of(line.name)) for line in page.lines))
 
 
+def whole_bucket(files: NamedFiles) -> Bucket:
+    """One that has not split, looked at for a change."""
+    bucket = files.writer.bucket(0)
+    bucket.look(own=True)
+    while bucket.has_split():
+        bucket = files.writer.bucket(files.layout.parts_of(bucket.number)[0])
+        bucket.look(own=True)
+    return bucket
+
+
 def clear(files: NamedFiles, page: int, move: Move) -> int:
     """Has the lines of a move's slices go from a page of this session at the old grid; how many."""
     bucket = files.writer.bucket(page)
     bucket.look(own=True)
+    if bucket.has_split():
+        return 0  # (those that took its place have them)
     names = {line.name for line in bucket.journal.lines if move.has(slice_of(line.name))}
     journal = ways.cleared(bucket.client, move.signpost, names, bucket.keeps)
     if journal is None:
@@ -333,8 +358,13 @@ def raise_number(files: NamedFiles, page: int, highest: int) -> None:
     """A page of the bucket gets a number that is at least this, where none has."""
     bucket = files.writer.bucket(page)
     bucket.refresh()
-    if max(known.page.number for known in bucket.client.seen) < highest:
+    if bucket.has_split():
+        for part in files.layout.parts_of(page):
+            raise_number(files, part, highest)
+    elif max(known.page.number for known in bucket.client.seen) < highest:
         bucket.look()
+        if bucket.has_split():
+            return raise_number(files, page, highest)
         files.writer.change(bucket, core.changed(bucket.client, None, keeps=bucket.keeps, least=highest))
 
 

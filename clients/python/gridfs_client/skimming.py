@@ -2,9 +2,12 @@
 
 Most lines have one of few short forms, which are read by one expression; any other line is read as ever (pages.py). Where pages have to be looked at again, or are none,
 nothing is told: then a bucket looks at them (buckets.py).
+
+Of pages that have split it is told what they say of each part of their names, which counts where a session's page in its place was never written (splits.py).
 """
 
 import re
+from collections import defaultdict
 from collections.abc import Mapping
 from typing import NamedTuple
 
@@ -12,8 +15,9 @@ from .answers import Row, Tag
 from .buckets import Held
 from .contents import NUMBER
 from .layout import Layout
-from .pages import FIRST_WORDS, HEAD, parse_line
+from .pages import FIRST_WORDS, HEAD, parse_line, signpost_text
 from .sessions import Files
+from .splits import signpost_to
 
 NEVER = Tag(0, 0)  # of a file that was never written
 SURE = r"(?:0|[1-9][0-9]{0,5})"  # no slot that nobody has, and so no line that is damaged by it
@@ -43,9 +47,22 @@ def skimmed_of(held: Held) -> Skimmed:
     return Skimmed(held.version.number, held.version.session, held.name, held.content.text())
 
 
-def skim(session: Files, layout: Layout, page: int, rows: tuple[Row | None, ...]) -> list[Skimmed] | None:
-    """What the names of a bucket hold, by a look at its volume that was begun before; None where a bucket has to look."""
-    contents = dict[int, bytes]()
+class Parts:
+    """What the pages of a bucket say that has split."""
+
+    def __init__(self) -> None:
+        self.heads = dict[int, bytes]()
+        self.lines = defaultdict[tuple[int, int], bytes](bytes)
+
+    def of(self, page: int) -> dict[int, bytes]:
+        """What the page of each session says of the names of this new one, as a page would."""
+        return {session: head + self.lines.get((page, session), b"") for session, head in self.heads.items()}
+
+
+def skim(session: Files, layout: Layout, page: int, rows: tuple[Row | None, ...], before: Mapping[int, bytes] = {}) -> list[Skimmed] | Parts | None:
+    """What the names of a bucket hold, by a look at its volume that was begun before; None where a bucket has to look. Where its names went on to more pages, what it says of each of these.
+    `before` is what that was told of this one."""
+    contents = dict(before)
     for each in range(1, layout.sessions + 1):
         volume, file = layout.page(each, page)
         row = rows[file]
@@ -53,8 +70,24 @@ def skim(session: Files, layout: Layout, page: int, rows: tuple[Row | None, ...]
             copy = session.read(volume, file)
             if row and copy.tag < row.tag:
                 return None
-            contents[each] = copy.content
-    return counting(contents)
+            contents[each] = copy.content or contents.get(each, b"")
+    return parts_in(contents, layout, page) or counting(contents)
+
+
+def parts_in(contents: Mapping[int, bytes], layout: Layout, page: int) -> Parts | None:
+    """What pages say of each part, where one of them shows that the bucket has split; else None."""
+    level = layout.level_of(page) + 1
+    signpost = signpost_text(signpost_to(level)).encode()
+    if level == len(layout.levels) or not any(signpost in content for content in contents.values()):
+        return None
+    found = Parts()
+    for session, content in contents.items():
+        head, _, rest = content.partition(b"\n")
+        found.heads[session] = head + b"\n" if head else b""
+        for line in rest.removeprefix(signpost).splitlines(keepends=True) if rest != signpost else ():
+            told = line_in(line.decode().removesuffix("\n"), session)
+            found.lines[layout.page_of(told.name, level) if told else page, session] += line
+    return found
 
 
 def counting(contents: Mapping[int, bytes]) -> list[Skimmed] | None:

@@ -15,9 +15,8 @@ from dataclasses import dataclass, replace
 
 from . import core
 from .answers import Tag
-from .core import Known, ListPages, Page, ReadJournal, ReadPage, Signpost, WriteJournal, WritePage
+from .core import BEYOND, Known, ListPages, Page, ReadJournal, ReadPage, Signpost, WriteJournal, WritePage
 
-BEYOND = 999_999_999_999  # the number of a signpost to another level, above those of all moves: who knows no levels stops at it
 FIRST, LAST = 0, 65_535  # it is for all slices
 LATER = 1 << 48  # by so much the numbers of tags of each level are greater here: a new page is later than the old one
 OLD, NEW = "old", "new"
@@ -38,8 +37,9 @@ def splits_only(page: Page) -> bool:
 
 
 def part_of(page: Page, is_here: Callable[[str], bool]) -> Page:
-    """What a page says of some of its names."""
-    return replace(page, lines=tuple(line for line in page.lines if is_here(line.name)), signposts=())
+    """What a page says of some of its names. Signposts to other grids go along."""
+    signposts = tuple(each for each in page.signposts if each.move != BEYOND)
+    return Page(tuple(line for line in page.lines if is_here(line.name)), page.after, page.number, signposts)
 
 
 def signed(journal: Page, level: int) -> Page:

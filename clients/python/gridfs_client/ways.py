@@ -145,12 +145,12 @@ def looking(walk: Walk, client: Knows) -> Walk:
 
 def looked(walk: Walk, client: Knows) -> Walk:
     """The pages of the last stop were looked at: the walk goes on where one of them shows a signpost. One that the own journal alone has leads nobody: it
-    is carried first."""
+    is carried first. (It is announced once more, since the journal may be that of a page that has split since: splits.py.)"""
     shown = signpost_of([known.page for known in client.seen], walk)
     if shown:
         return onward(walk, Stop(shown.grid, shown.move))
     if walk.is_change and client.journal and signpost_of([client.journal], walk):
-        return replace(walk, state=core.Carries(client, client.journal), step=CARRIES)
+        return replace(walk, state=core.announce(client, client.journal), step=CARRIES)
     return at_end(walk)
 
 

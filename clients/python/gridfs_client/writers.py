@@ -49,10 +49,13 @@ class Writer:
 
     def place_of(self, name: str) -> Bucket:
         """The bucket of a name, as far as is known now."""
-        bucket = self.bucket(self.layout.page_of(name))
+        bucket = self.first_bucket(name)
         while bucket.has_split():
-            bucket = self.bucket(self.layout.page_of(name, bucket.level_number + 1))
+            bucket = self.part_for(bucket, name)
         return bucket
+
+    def first_bucket(self, name: str) -> Bucket:
+        return self.bucket(self.layout.page_of(name))
 
     def looked_at(self, name: str, look: Callable[[Bucket, bool], None]) -> Bucket:
         """The bucket of a name, once it was looked at: another one where the look shows that its pages have split. A look is told whether the bucket before was

@@ -20,7 +20,7 @@ from .errors import S3Error, tell
 from .grids import Grids, Taken, Want
 from .index import Few, Names, Union
 from .keys import Key
-from .looker import Rows
+from .looker import Looked
 from .markup import Element, element, many, parse
 from .places import BUCKETS, Object, check_bucket, of_words
 from .requests import Asked, matches
@@ -76,7 +76,7 @@ class Clock:
 class Glance:
     """What was seen of a name with no session: the rows of its volume, if it was looked at, and what it holds, if that was known of such pages."""
 
-    rows: Rows | None = None
+    looked: Looked | None = None
     is_known: bool = False
     held: Held | None = None
 
@@ -118,15 +118,19 @@ class Gateway:
         if self.grids.map:
             return Glance()
         pool = self.grids.pool("")
-        volume, files = pool.shared.files(pool.layout, pool.layout.page_of(name))
-        rows = await pool.looker.rows(volume, files)
-        known = pool.shared.recall(name, tuple(map(rows.__getitem__, files))) if rows else None
-        return Glance(rows, True, known[0]) if known else Glance(rows)
+        layout, page = pool.layout, pool.page_of(name)
+        if not pool.shared.index.is_alone(layout, page):
+            return Glance()
+        volume, files = pool.shared.files(layout, page)
+        if not (rows := await pool.looker.rows(volume, files)):
+            return Glance()
+        known = pool.shared.recall(name, page, tuple(map(rows.__getitem__, files)))
+        return Glance((page, rows), True, known[0]) if known else Glance((page, rows))
 
     async def held(self, name: str) -> Held | None:
         """What a name holds; by some session, where that is not known of its pages as they are."""
         seen = await self.glance(name)
-        return seen.held if seen.is_known else await self.look(name, lambda store: store.look(name, seen.rows))
+        return seen.held if seen.is_known else await self.look(name, lambda store: store.look(name, seen.looked))
 
     async def look(self, name: str, work: Callable[[Store], Told], helpers: int = 0, has_begun: Callable[[], bool] = lambda: False) -> Told:
         """Has some session do what changes nothing; another one where its home is silent, as long as nothing of an answer is out."""
@@ -282,7 +286,7 @@ class Gateway:
             for _ in range(MOST_GRIDS):  # (what is read meanwhile may show that the way goes on)
                 if self.grids.is_settled(name):
                     break
-                await asyncio.gather(*(pool.settle(pool.layout.page_of(name)) for pool in self.grids.pools_of(name)))
+                await asyncio.gather(*(pool.settle(pool.page_of(name)) for pool in self.grids.pools_of(name)))
             if not self.grids.is_settled(name):
                 raise S3Error("ServiceUnavailable", "A condition needs all sessions, and the home of one is silent. Nothing was changed.")
             yield

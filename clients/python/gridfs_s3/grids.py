@@ -7,9 +7,10 @@ from dataclasses import dataclass, field
 from typing import TypeVar
 
 from aiohttp import web
-from gridfs_client.core import Knows
 from gridfs_client.errors import ClientError, Unanswered
+from gridfs_client.fleet import looked_at
 from gridfs_client.fleet_map import FleetMap, read_map
+from gridfs_client.listing import Looked
 from gridfs_client.opening import turn_of
 from gridfs_client.settings import Settings
 from gridfs_client.ways import Ground, Stop, slice_of
@@ -167,7 +168,7 @@ class Grids:
 
     def is_settled(self, name: str) -> bool:
         """Whether all sessions of the tenant are here, and nothing is under way into the pages of a name but changes of this gateway that are asked for now."""
-        return all(pool.is_settled(pool.layout.page_of(name)) for pool in self.pools_of(name))
+        return all(pool.is_settled(pool.page_of(name)) for pool in self.pools_of(name))
 
     # Taking workers
 
@@ -247,12 +248,12 @@ class Grids:
         pools = self.pools.values()
         return self.map is not None and not self.map.moves and all(pool.is_exact() and pool.shared.index.leads <= self.pools.keys() for pool in pools)
 
-    async def look_at(self, grid: str) -> Sequence[Knows] | ClientError:
+    async def look_at(self, grid: str) -> Looked | ClientError:
         """What is seen of each bucket of a grid, by another session where the home of one is silent; or why it can't be told."""
         for turn in range(3):
             try:
                 pool = self.pool(grid)
-                return await pool.run(await pool.lease(), lambda store: [bucket.client for bucket, _ in store.buckets()], is_soon=turn < 2)
+                return await pool.run(await pool.lease(), looked_at, is_soon=turn < 2)
             except ClientError as fault:
                 told = fault
         return told

@@ -3,6 +3,9 @@
 It has the text of each page as any session of this gateway saw it last, with the tag of its file, and a row for each line. A tag tells one content of a
 file: so a page of which the grid tells the same tag is the page that stands here. Which pages have to be asked for, so that the rows are what names held at
 some moment of a request, is not decided here (sessions.py).
+
+Of a page that has split the lines are rows as long as the session's page of the next level, which takes its place for their names, is not known here. That was written only once the old
+one had the signpost: so whoever saw it need not have seen that (gridfs_client/splits.py).
 """
 
 import os
@@ -21,8 +24,9 @@ from typing import Final, NamedTuple, Protocol
 
 from gridfs_client.answers import Tag
 from gridfs_client.buckets import Held
-from gridfs_client.core import Known, Line, Page, Version, version_of
-from gridfs_client.errors import ClientError
+from gridfs_client.core import BEYOND, Known, Line, Page, Version, version_of
+from gridfs_client.errors import BadSettings, ClientError
+from gridfs_client.layout import Layout
 from gridfs_client.pages import FIRST_WORDS, HEAD, parse_line, parse_page, text_of
 from gridfs_client.ways import Found, version_in
 
@@ -45,6 +49,8 @@ SIZE: Final = 7  # places in a row
 WORDS: Final = 10
 AT_ONCE = 5_000  # names that are counted before others are let in
 FIRST_LINE: Final = re.compile(HEAD.pattern.encode() + rb"\n")
+TO_A_LEVEL: Final = b"\n>%d " % BEYOND  # a signpost to more pages
+LINES: Final = re.compile(rb"\n[^>\n]")  # behind the first one, and signposts
 BESIDE = (KEYS, VERSIONS)  # names of objects that don't tell their keys
 
 
@@ -177,6 +183,9 @@ class Index:
         self.asks: dict[tuple[int, int], tuple[int, ...]] = {}  # of pages that ask for others
         self.leads: set[str] = set()  # grids to which signposts lead
         self.open: set[int] = set()  # buckets of which a page asks for a later one than is known
+        self.layout: Layout | None = None  # once it is known; without one all pages are of one level
+        self.split: dict[int, set[int]] = {}  # pages that have split, and whose
+        self.not_cleared: set[tuple[int, int]] = set()  # those of them, each with its session, that have lines still
         self.is_kept, self.beginnings = path is not None, 0  # how often it was begun anew
         if path is None:
             handle, name = tempfile.mkstemp(prefix="gridfs-s3-index-")
@@ -224,16 +233,23 @@ class Index:
         self.tags.clear()
         self.numbers.clear()
         self.asks.clear()
+        self.split.clear()
+        self.not_cleared.clear()
         for place, number, session, length, head in base.execute("select place, number, session, length(text), substr(text, 1, 500) from pages"):
             self.tags[place // 64, place % 64] = Tag(number, session)
-            self.note(place // 64, place % 64, *head_in(head))
+            self.note(place // 64, place % 64, *head_in(head), TO_A_LEVEL in head, length > len(head) or bool(LINES.search(head)))
             self.fullest = max(self.fullest, length)
-        for (text,) in base.execute("select text from pages where instr(text, x'0a3e')") if self.grid else ():  # (a grid alone has no signposts)
-            self.leads.update(each.grid for each in parse_page(text, "the index").signposts)
+        for place, text in base.execute("select place, text from pages where instr(text, x'0a3e')") if self.grid else ():  # (a grid alone has but one in a page)
+            page = parse_page(text, "the index")
+            self.leads.update(leads_of(page))
+            self.note(place // 64, place % 64, page.number, page.after, has_split(page), bool(page.lines))
         self.open = {page for page in {page for page, _ in self.asks} if not self.is_closed(page)}
 
-    def note(self, page: int, session: int, number: int, after: tuple[int, ...]) -> None:
+    def note(self, page: int, session: int, number: int, after: tuple[int, ...], is_split: bool, has_lines: bool) -> None:
         self.numbers[page, session] = number
+        if is_split:
+            self.split.setdefault(page, set()).add(session)
+            self.not_cleared.add((page, session)) if has_lines else self.not_cleared.discard((page, session))
         if after:
             self.asks[page, session] = after
         else:
@@ -241,8 +257,9 @@ class Index:
 
     def is_closed(self, page: int) -> bool:
         """Whether each page of a bucket is there with the number that the others ask for."""
-        asks = (self.asks.get((page, session), ()) for session in range(1, 17))
-        return all(self.numbers.get((page, session), 0) >= number for after in asks for session, number in enumerate(after, 1))
+        pages = [(self.counting(page, session) if self.split else page, session) for session in range(1, 17)]
+        asks = [self.asks[each] for each in pages if each in self.asks]
+        return all(self.numbers.get(pages[session - 1], 0) >= number for after in asks for session, number in enumerate(after, 1))
 
     def close(self) -> None:
         """Writes down what is known, for a later process."""
@@ -265,6 +282,8 @@ class Index:
         self.numbers.clear()
         self.asks.clear()
         self.open.clear()
+        self.split.clear()
+        self.not_cleared.clear()
         self.recent_bytes = 0
 
     def go_on_in_memory(self, why: sqlite3.Error) -> None:
@@ -312,11 +331,15 @@ class Index:
 
     def greatest(self, page: int, name: str) -> Found | None:
         """The line of a name that counts, of all pages of its bucket; only that is read."""
-        lines = list[Found]()
+        lines, seen = list[Found](), set[int]()
         with self.guard:
-            for place, text in self.base.execute("select place, text from pages where place between ? and ?", (page * 64, page * 64 + 63)):
-                if line := line_in(text, name):
-                    lines.append(Found(Version(line.version, place % 64), place % 64, "", line))
+            for each in self.and_before(page):
+                for place, text in self.base.execute("select place, text from pages where place between ? and ?", (each * 64, each * 64 + 63)):
+                    if place % 64 not in seen and (line := line_in(text, name)):
+                        lines.append(Found(Version(line.version, place % 64), place % 64, "", line))
+                    seen.add(place % 64)
+                if self.layout and len(seen) == self.layout.sessions:
+                    break
         return max(lines, key=version_in) if lines else None
 
     def is_recent(self, page: int, session: int, known: Known, length: int) -> None:
@@ -339,8 +362,10 @@ class Index:
                 self.go_on_in_memory(fault)
                 self.keep_text(page, session, known, text)
             self.tags[page, session] = known.tag
-            self.note(page, session, known.page.number, known.page.after)
-            self.leads.update(each.grid for each in known.page.signposts)
+            self.note(page, session, known.page.number, known.page.after, has_split(known.page), bool(known.page.signposts and known.page.lines))
+            if self.layout and (first := self.layout.before(page)) is not None:
+                self.split.setdefault(first, set()).add(session)  # (else nobody had written this one)
+            self.leads.update(leads_of(known.page))
             self.open.discard(page) if self.is_closed(page) else self.open.add(page)
             self.is_recent(page, session, known, len(text))
             self.fullest = max(self.fullest, len(text))
@@ -352,9 +377,12 @@ class Index:
                     self.go_on_in_memory(fault)
 
     def keep_text(self, page: int, session: int, known: Known, text: bytes) -> None:
-        before = self.known(page, session)
+        before = self.shown(page, session)
         self.base.execute("insert or replace into pages values (?, ?, ?, ?)", (page * 64 + session, known.tag.number, known.tag.session, text))
-        self.change_rows(before.page.by_name if before else {}, known.page.by_name, session)
+        if page in self.split or has_split(known.page):
+            self.change_rows(self.part(before, page, session), self.part(known.page.by_name, page, session), session)
+        else:
+            self.change_rows(before, known.page.by_name, session)
 
     def change_rows(self, old: Mapping[str, Line], new: Mapping[str, Line], session: int) -> None:
         changed = [name for name in old.keys() | new.keys() if old.get(name) is not new.get(name) and old.get(name) != new.get(name)]
@@ -387,6 +415,78 @@ class Index:
                 if told:
                     yield parse_page(told[0], "the index")
 
+    # Pages that split
+
+    def and_before(self, page: int) -> Iterator[int]:
+        """A page, and those of whose names it has a part, back to level 0."""
+        found: int | None = page
+        while found is not None:
+            yield found
+            found = self.layout.before(found) if self.layout else None
+
+    def counting(self, page: int, session: int) -> int:
+        """The page of a session that counts for a bucket, as far as is known."""
+        if (page, session) in self.tags:
+            return page
+        return next((each for each in self.and_before(page) if (each, session) in self.tags), page)
+
+    def page_of(self, layout: Layout, name: str) -> int:
+        """The page of a name at the last level to which names of its bucket went on, as far as is known. BadSettings where this plan lacks that."""
+        level, page = 0, layout.page_of(name)
+        while page in self.split:
+            level += 1
+            if level == len(layout.levels):
+                raise BadSettings(f"page {page} has split, and its names went on to pages of a later plan")
+            page = layout.page_of(name, level)
+        return page
+
+    def is_open(self, page: int) -> bool:
+        """Whether a page of the bucket asks for a later one than is known."""
+        return not self.is_closed(page) if self.split else page in self.open
+
+    def is_begun(self, layout: Layout, page: int) -> bool:
+        """Whether names of the bucket before went on to this page, as far as is known."""
+        before = layout.before(page)
+        return before is None or before in self.split
+
+    def is_alone(self, layout: Layout, page: int) -> bool:
+        """Whether the pages before were seen with the signpost, of all sessions: then nothing comes into them any more that counts."""
+        before = layout.before(page)
+        return before is None or len(self.split.get(before, ())) == layout.sessions and self.is_alone(layout, before)
+
+    def to_split(self, layout: Layout) -> dict[int, set[int]]:
+        """Pages to split wholly that have begun to, and of which sessions."""
+        every = set(range(1, layout.sessions + 1))
+        with self.guard:
+            found = {page: every - whose for page, whose in self.split.items() if len(whose) < len(every) and page < layout.levels[-1].first}
+            for page, session in self.not_cleared:
+                found.setdefault(page, set()).add(session)
+        return found
+
+    def shown(self, page: int, session: int) -> Mapping[str, Line]:
+        """The lines of which rows stand here for a bucket: of the page itself, or of one before."""
+        known = self.known(self.counting(page, session), session)
+        if known is None:
+            return {}
+        if self.layout is None or (page, session) in self.tags:
+            return known.page.by_name
+        level = self.layout.level_of(page)
+        return {name: known.page.by_name[name] for name in known.page.by_name if self.layout.page_of(name, level) == page}
+
+    def part(self, lines: Mapping[str, Line], page: int, session: int) -> Mapping[str, Line]:
+        """Those of which no page of the next level is known."""
+        if self.layout is None or (level := self.layout.level_of(page) + 1) == len(self.layout.levels):
+            return lines
+        return {name: lines[name] for name in lines if (self.layout.page_of(name, level), session) not in self.tags}
+
+    def lacks_for(self, page: int, session: int, later: Page) -> set[int]:
+        """Pages of the next level that are not known, and to which lines went that the session's page showed, and does not any more."""
+        known = self.known(page, session)
+        if known is None or self.layout is None or (level := self.layout.level_of(page) + 1) == len(self.layout.levels):
+            return set()
+        gone = known.page.by_name.keys() - later.by_name.keys()
+        return {number for name in gone if ((number := self.layout.page_of(name, level)), session) not in self.tags}
+
     # Names
 
     @contextmanager
@@ -410,6 +510,15 @@ class Index:
 
     def total(self, prefix: str) -> tuple[int, int]:
         return total(self, prefix)
+
+
+def has_split(page: Page) -> bool:
+    return any(each.move == BEYOND for each in page.signposts)
+
+
+def leads_of(page: Page) -> set[str]:
+    """The grids to which signposts of a page lead."""
+    return {each.grid for each in page.signposts if each.move != BEYOND}
 
 
 def by_version(found: Stored) -> tuple[int, int, str, int]:

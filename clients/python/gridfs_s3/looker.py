@@ -20,6 +20,7 @@ from .errors import error_of
 MOST_AT_ONCE = 64  # who are told by one look
 
 Rows = tuple[Row | None, ...]
+Looked = tuple[int, Rows]  # the bucket for which its volume was looked at, and the rows of that
 Answered = Future[Rows | None] | queue.SimpleQueue[Rows | None]
 
 

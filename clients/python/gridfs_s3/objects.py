@@ -17,7 +17,7 @@ from .buckets import Buckets
 from .checksums import HEADER, algorithm_of
 from .errors import S3Error, error_of, tell
 from .gateway import Gateway, Operations, let_body_come
-from .looker import Rows
+from .looker import Looked
 from .markup import document, element, many
 from .places import MOST_KEPT, MOST_METADATA, Object, Values
 from .requests import SERVER, Asked, answer, http_date, judge, range_wanted
@@ -137,7 +137,7 @@ class Get:
         self.has_place, self.most_in_memory = False, IN_MEMORY  # bytes that may be in memory until they are taken
         self.spool: Spool | None = None
         self.held: Held | None = None
-        self.rows: Rows | None = None  # of its volume, by a look since it was asked for
+        self.looked: Looked | None = None  # at its volume, since it was asked for
         self.next, self.end = 0, 0  # of the object: the byte to read next, and that behind the last one that is wanted
         self.came, self.is_whole = asyncio.Event(), False
         self.giving: asyncio.Task[None] | None = None
@@ -192,7 +192,7 @@ class Get:
 
     def send(self, store: Store) -> tuple[Held, bytes] | None:
         """(A thread's.) Has what is read given; or tells it, where it is little."""
-        held, parts, data = store.read(self.place.name, self.choose, self.place.is_latest, OF_A_FILE, self.rows)
+        held, parts, data = store.read(self.place.name, self.choose, self.place.is_latest, OF_A_FILE, self.looked)
         first, end = self.part or (0, held.content.size)
         with closing(parts):  # (what it reads ahead ends before the session has other work)
             if len(data) == end - first <= self.most_in_memory:
@@ -209,7 +209,7 @@ class Get:
         if self.place.is_latest:
             return None
         seen = await self.gateway.glance(self.place.name)
-        self.rows = seen.rows
+        self.looked = seen.looked
         if not seen.is_known:
             return None
         first, end = self.choose(seen.held)

@@ -13,13 +13,13 @@ from gridfs_client.contents import Inline, InSlots, Part, digest_in_hex
 from gridfs_client.errors import Damaged, Replaced, Unanswered
 from gridfs_client.in_chunks import Cut, Gone
 from gridfs_client.layout import Layout
-from gridfs_client.names import BEGINNINGS, NamedFiles, read_piece, where_of
+from gridfs_client.names import BEGINNINGS, NamedFiles, read_piece, refresh, where_of
 from gridfs_client.pieces import head, without_head
 from gridfs_client.sessions import Files
 from gridfs_client.ways import Ground
 from gridfs_client.writers import Writer
 
-from .looker import Rows
+from .looker import Looked
 from .places import VERSIONS, beside, bucket_in, version_in
 from .shared import Shared, SharedWriter
 from .trips import Elsewhere, Trip
@@ -76,30 +76,28 @@ class Reader(NamedFiles):
 
     # Looks
 
-    def look(self, name: str, rows: Rows | None = None) -> Held | None:
+    def look(self, name: str, looked: Looked | None = None) -> Held | None:
         """What a name holds; by these rows, where a look at its volume began once it was asked for."""
         if self.trip:
             return self.trip.look(name)
-        page = self.layout.page_of(name)
+        page, index = self.shared.index.page_of(self.layout, name), self.shared.index
+        if not index.is_alone(self.layout, page):  # (the pages before have to be looked at first)
+            return self.writer.looked_at(name, refresh).held(name)
         volume, files = self.shared.files(self.layout, page)
-        rows = rows or self.session.look(volume, files)
+        rows = looked[1] if looked and looked[0] == page else self.session.look(volume, files)
         pages = tuple(map(rows.__getitem__, files))
-        if not self.ground and (known := self.shared.recall(name, pages)):
+        if not self.ground and (known := self.shared.recall(name, page, pages)):
             return known[0]
         if self.index_has(page, rows):
-            held = held_of(self.shared.index.greatest(page, name))
+            held = held_of(index.greatest(page, name))
             if self.index_has(page, rows):  # (no page of it came meanwhile)
-                self.shared.remember(name, pages, held)
+                self.shared.remember(name, page, pages, held)
             return held
-        bucket = self.writer.bucket(page)
-        bucket.refresh(rows)
-        return bucket.held(name)
+        return self.writer.looked_at(name, lambda bucket, is_fresh: bucket.refresh(rows if bucket.number == page else None, is_fresh)).held(name)
 
     def latest(self, name: str) -> Held | None:
         """The latest of all versions of the object of this name, which may be a marker."""
-        bucket = self.bucket(name)
-        bucket.refresh()
-        return self.latest_in(bucket, name)
+        return self.latest_in(self.writer.looked_at(name, refresh), name)
 
     def latest_in(self, bucket: Bucket, name: str) -> Held | None:
         """The same, of what was seen last."""
@@ -109,9 +107,11 @@ class Reader(NamedFiles):
         return max(versions, key=lambda each: each.order).held if versions else None
 
     def index_has(self, page: int, rows: Sequence[Row | None]) -> bool:
-        """Whether the index has all pages of a bucket as they are listed: then a look would see just these."""
-        index, files = self.shared.index, self.shared.files(self.layout, page)[1]
-        return not self.ground and page not in index.open and all((row := rows[file]) and row.tag == index.tag(page, each) for each, file in enumerate(files, 1))
+        """Whether the index has all pages of a bucket as they are listed: then a look would see just these. Of a bucket that takes the place of a part of another one these are the pages of
+        sessions whose old ones show the signpost; the others were to be looked at before."""
+        index, files, before = self.shared.index, self.shared.files(self.layout, page)[1], self.layout.before(page)
+        whose = range(1, len(files) + 1) if before is None else index.split.get(before, set()).copy()
+        return not self.ground and not index.is_open(page) and all((row := rows[files[each - 1]]) and row.tag == index.tag(page, each) for each in whose)
 
     def all(self) -> Iterator[Held]:
         """All that names hold, each at some moment of the call."""
@@ -209,12 +209,12 @@ class Reader(NamedFiles):
                 self.more, self.helpers = lambda _: (), {}
 
     def read(
-        self, name: str, choose: Callable[[Held | None], tuple[int, int]], is_latest: bool = False, most: int | None = None, rows: Rows | None = None
+        self, name: str, choose: Callable[[Held | None], tuple[int, int]], is_latest: bool = False, most: int | None = None, looked: Looked | None = None
     ) -> tuple[Held, Generator[bytes, None, None], bytes]:
         """What a name holds, or the latest version of the object of this name; its bytes in the range that is chosen by that, as `content` has them, and before them
         the first ones, which are there for sure. At first it is looked by these rows, where there are any."""
         for turn in range(BEGINNINGS):
-            held = self.latest(name) if is_latest else self.look(name, rows if not turn else None)
+            held = self.latest(name) if is_latest else self.look(name, looked if not turn else None)
             first, end = choose(held)
             assert held
             if held.version.grid != self.grid:

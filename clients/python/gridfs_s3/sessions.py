@@ -46,7 +46,6 @@ PLAN_AGAIN, ANSWERS = 10.0, 2.0  # seconds after which all nodes are asked wheth
 SURE_FOR = 2.0  # seconds for which sessions that were this gateway's are taken to be
 SOME, TURNS = 16, 3  # volumes that a session looks at, before others have their turn; and how often it is tried
 WORD_OF_GRID = ".s3/index"  # a name, with what the index of this grid says of it
-LEVELS = 1  # of pages that a gateway follows: it stops at a page that has split
 RETRY = 1.0  # seconds until a session whose home is silent, or a carrier that has ended, is tried again
 
 
@@ -80,6 +79,8 @@ class Pool:
         self.tidied: set[int] = set()  # numbers of sessions whose pages are being settled
         self.looks, self.looked = asyncio.Lock(), 0.0  # at all pages; and when the last one began that ended well
         self.asking_all, self.sure_until = asyncio.Lock(), 0.0  # whether all sessions are still this gateway's
+        self.wants_plan = asyncio.Event()  # a page has split to others that are not known here
+        self.tried_to_split: dict[tuple[int, int], float] = {}  # sessions with a page, and when
 
     # Beginning
 
@@ -88,7 +89,9 @@ class Pool:
         carrier = self.settings.carrier()
         try:
             told = ask_plan(carrier, self.settings.pace())
-            self.layout = layout_of(told, LEVELS)
+            layout = layout_of(told)
+            if not self.is_open or len(layout.volumes) > len(self.layout.volumes):  # (a node may know an earlier plan still)
+                self.layout = layout
             for number in self.settings.session_numbers(told.sessions):
                 self.add(carrier, number, told.home_of(number))
         except BaseException:
@@ -137,7 +140,7 @@ class Pool:
             tell(f"{self.named()}{fault}: it is tried again")
             self.spawn(self.open_again())
         await self.go_on()
-        self.lasting = [self.spawn(self.tidy()), self.spawn(self.lend_on()), self.spawn(self.follow_plan())]
+        self.lasting = [self.spawn(self.tidy()), self.spawn(self.lend_on()), self.spawn(self.follow_plan()), self.spawn(self.split_on())]
 
     async def go_on(self) -> None:
         """Goes on with the index of an earlier gateway, if that is of this grid. Where that gateway ended in order, and nobody had a session since, nothing is
@@ -242,19 +245,25 @@ class Pool:
         if self.has_begun:
             self.loop.call_soon_threadsafe(lambda: self.spawn(self.tidy_session(worker.number)))
 
+    def page_of(self, name: str) -> int:
+        """The page of a name, at the last level to which names of its bucket went on, as far as is known."""
+        return self.shared.index.page_of(self.layout, name)
+
     def known_pages(self, name: str) -> list[Page]:
         """The pages that may have lines of a name, as they were seen last."""
         if not self.is_open:
             return []
-        number = self.layout.page_of(name)
-        found = (self.shared.index.known(number, session) for session in range(1, self.sessions + 1))
+        index, number = self.shared.index, self.page_of(name)
+        found = (index.known(index.counting(number, session), session) for session in range(1, self.sessions + 1))
         return [known.page for known in found if known]
 
     def pages_lacking(self, move: Move) -> list[tuple[int, int]]:
         """The sessions that are here, each with its pages that may not be yet as a move wants them, as they were seen last."""
         numbers = [number for number, worker in self.workers.items() if not worker.is_lent and not worker.is_silent]
-        pages = [(number, page, self.shared.index.known(page, number)) for number in numbers for page in range(self.layout.pages)]
-        return [(number, page) for number, page, known in pages if known is None or not is_shared(known.page, move)]
+        index = self.shared.index
+        whole = [page for page in self.layout.page_numbers if index.is_begun(self.layout, page) and page not in index.split]
+        pages = [(number, page, index.known(index.counting(page, number), number)) for number in numbers for page in whole]
+        return [(number, page) for number, page, known in pages if known is None or not is_shared(known.page, move, lambda name, page=page: self.page_of(name) == page)]  # type: ignore[misc]
 
     # All names
 
@@ -290,17 +299,22 @@ class Pool:
             if self.looked > begin:
                 return
             begun = time.monotonic()
-            volumes = iter([volume for volume in range(self.layout.pages_volumes) if not self.is_exact_in(volume)])
-            count = sum(not worker.is_silent and not worker.is_lent for worker in self.workers.values())
-            found = await asyncio.gather(*(self.look_at_some(volumes) for _ in range(max(1, count))), return_exceptions=True)
-            for fault in found:
-                if fault:
-                    raise fault  # (once all have ended)
+            for level in self.layout.levels:  # (the old pages first, of those that have split)
+                await self.look_at_level(range(level.volume, level.volume + level.volumes))
             self.looked = begun
+
+    async def look_at_level(self, all_volumes: range) -> None:
+        volumes = iter([volume for volume in all_volumes if not self.is_exact_in(volume)])
+        count = sum(not worker.is_silent and not worker.is_lent for worker in self.workers.values())
+        found = await asyncio.gather(*(self.look_at_some(volumes) for _ in range(max(1, count))), return_exceptions=True)
+        for fault in found:
+            if fault:
+                raise fault  # (once all have ended)
 
     def is_exact_in(self, volume: int) -> bool:
         """The same of the pages in a volume."""
-        return self.has_all and all(page in worker.store.settled for page in self.layout.pages_in(volume) for worker in self.workers.values())
+        pages = [page for page in self.layout.pages_in(volume) if self.shared.index.is_begun(self.layout, page)]
+        return not pages or self.has_all and all(page in worker.store.settled for page in pages for worker in self.workers.values())
 
     async def look_at_some(self, volumes: Iterator[int]) -> None:
         """Looks at these volumes, some at a time, by another session where the home of one is silent."""
@@ -480,6 +494,8 @@ class Pool:
                     pool.release(each)
 
         every: list[tuple[Pool, Worker]] = [(self, worker), *others]
+        for pool, each in every:
+            pool.go_by_plan(each)
         future = self.loop.run_in_executor(self.threads, begin)
         future.add_done_callback(end)
         return await asyncio.shield(future)
@@ -491,6 +507,8 @@ class Pool:
         elif isinstance(fault, (Unanswered, SessionTaken)):
             self.renew(worker)
             self.probe(worker)
+        elif isinstance(fault, BadSettings):
+            self.wants_plan.set()
 
     def probe(self, worker: Worker) -> None:
         """Leaves a worker out until its home answers."""
@@ -565,15 +583,17 @@ class Pool:
     async def follow_plan(self) -> None:
         """Goes on by a plan that has grown, once all nodes that answer have it."""
         while True:
-            await asyncio.sleep(PLAN_AGAIN)
-            if not self.is_open or not self.carrier:
-                continue
-            async with self.asking:
-                layout = await self.loop.run_in_executor(self.threads, self.grown, self.carrier)
-                with suppress(ClientError):
-                    await self.loop.run_in_executor(self.threads, self.ask_room)
-            if layout:
-                await self.take_layout(layout)
+            if self.is_open and self.carrier:
+                async with self.asking:
+                    layout = await self.loop.run_in_executor(self.threads, self.grown, self.carrier)
+                    with suppress(ClientError):
+                        await self.loop.run_in_executor(self.threads, self.ask_room)
+                if layout:
+                    await self.take_layout(layout)
+            self.wants_plan.clear()
+            await asyncio.sleep(RETRY)
+            with suppress(asyncio.TimeoutError):
+                await asyncio.wait_for(self.wants_plan.wait(), PLAN_AGAIN - RETRY)
 
     def grown(self, carrier: Carrier) -> Layout | None:
         """(A thread's.) What all nodes that answer tell, where that is more volumes than are known here."""
@@ -586,11 +606,12 @@ class Pool:
             while (is_last := not carrier.silent_since(begun)) or carrier.now() < begun + ANSWERS:
                 answer = carrier.receive(NO_SESSION, 0 if is_last else max(0, begun + ANSWERS - carrier.now()))
                 if isinstance(answer, PlanTold):
-                    found.add(layout_of(answer, LEVELS))
+                    found.add(layout_of(answer))
                 elif is_last:
                     break
         except ClientError:
             return None
+        self.shared.may_grow = found == {self.layout}
         more = found.pop() if len(found) == 1 else self.layout
         return more if more.sessions == self.layout.sessions and more.volumes[: len(self.layout.volumes)] == self.layout.volumes != more.volumes else None
 
@@ -602,16 +623,41 @@ class Pool:
                 worker = await self.lease(number)
             except Unanswered:
                 continue  # (it is renewed once its home answers)
+            self.go_by_plan(worker)
+            self.release(worker)
+        self.shared.may_grow = True
+
+    def go_by_plan(self, worker: Worker) -> None:
+        """Has a worker that is leased go by the last plan."""
+        if worker.store.layout is not self.layout:
             carried = worker.store.writer.carried  # (its pages stay where they are)
             self.renew(worker)
-            worker.store.writer.carried = carried
-            self.release(worker)
+            worker.store.writer.has_more_pages(carried)
+
+    async def split_on(self) -> None:
+        """Has pages split wholly that have begun to, by each session that is here: else each look at their names is one at the old pages, too."""
+        while True:
+            await asyncio.sleep(RETRY)
+            if self.is_open and (left := self.shared.index.to_split(self.layout)):
+                await asyncio.gather(*(self.split_by(number, left) for number in list(self.workers)))
+
+    async def split_by(self, number: int, left: dict[int, set[int]]) -> None:
+        for page, whose in left.items():
+            now, worker = time.monotonic(), self.workers[number]
+            if number not in whose or worker.is_lent or worker.is_silent or now < self.tried_to_split.get((number, page), now - TIDY) + TIDY:
+                continue
+            self.tried_to_split[number, page] = now
+            try:
+                await self.run(await self.lease(number), lambda store, page=page: store.split(page), is_soon=True)  # type: ignore[misc]
+                self.tried_to_split.pop((number, page), None)
+            except ClientError as fault:
+                tell(f"{self.named()}session {number}: page {page} does not split yet: {fault}")
 
     # Pages
 
     async def settle_before(self, name: str) -> None:
         """Before the first change on a page: what an earlier gateway left under way there ends, where its session's home answers."""
-        page = self.layout.page_of(name)
+        page = self.page_of(name)
         if page not in self.begun:
             self.begun[page] = self.loop.create_task(self.settle(page))
         if not self.begun[page].done():
@@ -621,7 +667,7 @@ class Pool:
     async def settle(self, page: int) -> None:
         """Sees that nothing that earlier clients of these sessions wrote can come into a page any more: by each that is here and whose home answers, side by
         side. A fault is raised where there is one, once all have ended."""
-        wanted = [worker for worker in self.workers.values() if page not in worker.store.settled and not worker.is_silent and not worker.is_lent]
+        wanted = [worker for worker in self.workers.values() if not self.has_settled(worker, page) and not worker.is_silent and not worker.is_lent]
         found = await asyncio.gather(*(self.settle_by(worker.number, page) for worker in wanted), return_exceptions=True)
         for fault in found:
             if isinstance(fault, BaseException):
@@ -633,7 +679,11 @@ class Pool:
 
     def is_settled(self, page: int) -> bool:
         """Whether all sessions of the tenant are here, and nothing is under way into this page but changes of this gateway that are asked for now."""
-        return self.has_all and all(page in worker.store.settled for worker in self.workers.values())
+        return self.has_all and all(self.has_settled(worker, page) for worker in self.workers.values())
+
+    def has_settled(self, worker: Worker, page: int) -> bool:
+        """The same of one session; of a bucket that takes the place of a part of another one, also of that one's page."""
+        return all(each in worker.store.settled for each in self.shared.index.and_before(page))
 
     async def sweep(self, page: int) -> None:
         """Has lines go from a page: by two changes of no name of each session that answers."""
@@ -679,7 +729,7 @@ class Pool:
             self.tidied.discard(number)
 
     async def tidy_store(self, number: int, store: Store) -> None:
-        for page in range(self.layout.pages):
+        for page in self.layout.page_numbers:
             for _ in range(TRIES):
                 while self.workers[number].is_lent:
                     await asyncio.sleep(RETRY)
@@ -716,9 +766,9 @@ class Pool:
             self.carrier.close()
 
 
-def is_shared(page: Page, move: Move) -> bool:
-    """Whether a page of the old grid is as a move wants it."""
-    return not any(move.has(slice_of(line.name)) for line in page.lines) if move.is_there else move.signpost in page.signposts
+def is_shared(page: Page, move: Move, is_here: Callable[[str], bool]) -> bool:
+    """Whether a page of the old grid is as a move wants it, for these names."""
+    return not any(move.has(slice_of(line.name)) and is_here(line.name) for line in page.lines) if move.is_there else move.signpost in page.signposts
 
 
 def now_ms() -> int:

@@ -8,7 +8,7 @@ from dataclasses import replace
 from typing import cast
 from weakref import WeakValueDictionary
 
-from gridfs_client import core
+from gridfs_client import core, splits
 from gridfs_client.answers import Row, Tag
 from gridfs_client.buckets import Bucket, Held
 from gridfs_client.core import Known, Page
@@ -24,6 +24,7 @@ AHEAD = 3_600_000  # milliseconds by which a time may be ahead of the clock
 MOST_SEARCHED = 512  # pages that one put looks at for room
 MOST_AT_HAND = 2_048  # names of which it is remembered what they hold
 LATEST = 9_999_999_999_999  # which a line has room for
+NEVER = Tag(0, 0)  # of a page that was never written
 
 
 class Turns:
@@ -98,7 +99,8 @@ class Shared:
         self.searched: dict[int, float] = {}  # sessions all of whose pages were searched for room, and when
         self.guard = threading.Lock()
         self.places: dict[int, tuple[int, tuple[int, ...]]] = {}  # of buckets: the volume and the files of the pages, session by session
-        self.at_hand: dict[str, tuple[Seen, Held | None]] = {}  # what names held by their pages as these were
+        self.at_hand: dict[str, tuple[int, Seen, Held | None]] = {}  # what names held by pages of these buckets as they were
+        self.may_grow = False  # whether a put that finds no room may go on to more pages, since all nodes have them
 
     def keep(self, session: int, number: int, known: Known) -> None:
         self.index.keep(number, session, known)
@@ -111,26 +113,26 @@ class Shared:
         self.places[page] = every[0][0], tuple(file for _, file in every)
         return self.places[page]
 
-    def remember(self, name: str, pages: Seen, held: Held | None) -> None:
+    def remember(self, name: str, page: int, pages: Seen, held: Held | None) -> None:
         """What a name holds as long as the pages of its bucket are told to be these: a tag tells one content of a file."""
         with self.guard:
             self.at_hand.pop(name, None)
             if len(self.at_hand) >= MOST_AT_HAND:
                 del self.at_hand[next(iter(self.at_hand))]
-            self.at_hand[name] = pages, held
+            self.at_hand[name] = page, pages, held
 
-    def recall(self, name: str, pages: Seen) -> tuple[Held | None] | None:
+    def recall(self, name: str, page: int, pages: Seen) -> tuple[Held | None] | None:
         """The same, where it was seen; else None."""
         found = self.at_hand.get(name)
-        return (found[1],) if found and found[0] == pages else None
+        return (found[2],) if found and found[:2] == (page, pages) else None
 
 
 class SharedBucket(Bucket):
     """A bucket that reads no page that another session of the gateway has read since it was written. A tag tells one content of a file: so a page with
     the tag that is listed is the page that would be read."""
 
-    def __init__(self, writer: "SharedWriter", session: Files, layout: Layout, number: int, ground: Ground | None = None):
-        super().__init__(session, layout, number, ground)
+    def __init__(self, writer: "SharedWriter", session: Files, layout: Layout, number: int, ground: Ground | None = None, before: Bucket | None = None):
+        super().__init__(session, layout, number, ground, before)
         self.writer, self.shared = writer, writer.shared
         self.is_changing = False
         self.go_on()
@@ -138,29 +140,87 @@ class SharedBucket(Bucket):
     def go_on(self) -> None:
         """Begins with what is known of the pages; and where the own one is as it was carried last, that is the journal."""
         index, carried = self.shared.index, self.writer.carried.get(self.number)
+        if carried == NEVER and self.before is not None:
+            old = self.before.client.journal
+            self.client = replace(self.client, seen=tuple(map(self.indexed, self.all)), journal=splits.part_of(old, self.has) if old else None)
+            return
         own = index.known(self.number, self.me) if carried else None
         if own is None or own.tag != carried:
             return
-        self.client = replace(self.client, seen=tuple(index.known(self.number, each) or Known() for each in self.all), journal=whole(own.page))
-        self.is_carried = True
+        self.client = replace(self.client, seen=tuple(map(self.indexed, self.all)), journal=whole(own.page))
+        self.is_carried = self.is_new = True
+
+    def tag_of(self, session: int) -> Tag:
+        """The tag of the page of a session that counts, as the index has it."""
+        tag = self.shared.index.tag(self.number, session)
+        if self.before is None:
+            return tag
+        return cast(SharedBucket, self.before).tag_of(session) if tag == NEVER else self.later(tag)
+
+    def indexed(self, session: int) -> Known:
+        """That page, as the index has it."""
+        found = self.shared.index.known(self.number, session)
+        if self.before is None:
+            return found or Known()
+        if found is None:
+            old = cast(SharedBucket, self.before).indexed(session)
+            return Known(old.tag, splits.part_of(old.page, self.has))
+        return Known(self.later(found.tag), found.page)
+
+    def later(self, tag: Tag) -> Tag:
+        return Tag(tag.number + self.level_number * splits.LATER, tag.session)
 
     def known(self, state: core.State) -> core.Answer | None:
         match state:
             case core.Looks(client, _, ((session, least), *_)):
                 listed = self.listed[session - 1]
-                if listed and self.shared.index.tag(self.number, session) == listed != client.seen[session - 1].tag:
-                    found = self.shared.index.known(self.number, session)
-                    if found and found.tag == listed and found.page.number >= least:
+                if listed and self.tag_of(session) == listed != client.seen[session - 1].tag:
+                    found = self.indexed(session)
+                    if found.tag == listed and found.page.number >= least:
                         return found
         return None
 
-    def answer(self, request: core.Request, rows: tuple[Row | None, ...] | None) -> core.Answer:
-        told = super().answer(request, rows)
+    def answer_of_files(self, request: core.Request, rows: tuple[Row | None, ...] | None) -> core.Answer:
+        told = super().answer_of_files(request, rows)
         match request:
             case core.ReadPage(session):
-                self.shared.keep(session, self.number, cast(Known, told))
+                self.keep(session, cast(Known, told))
             case core.WritePage(page):
-                self.shared.keep(self.me, self.number, Known(cast(Tag, told), page))
+                self.keep(self.me, Known(cast(Tag, told), page))
+        return told
+
+    def keep(self, session: int, known: Known) -> None:
+        """Keeps a page that was read or written. Lines that went to new pages don't go from the index before it has these."""
+        for page in self.shared.index.lacks_for(self.number, session, known.page) if splits.is_split(known.page, self.level_number + 1) else ():
+            cast(SharedBucket, self.writer.bucket(page)).answer_of_files(core.ReadPage(session), None)
+        self.shared.keep(session, self.number, known)
+
+    def answer_of_both(self, before: Bucket, request: core.Request, rows: tuple[Row | None, ...] | None) -> core.Answer:
+        cast(SharedBucket, before).see()
+        if not self.is_fresh and not all(splits.is_split(known.page, self.level_number) for known in before.client.seen):
+            rows = None  # (that look began before one at the old pages)
+        return super().answer_of_both(before, request, rows)
+
+    def see(self) -> None:
+        """Sees what any session has seen of the pages. (Of the own one, which nobody else is to write, this one knows.)"""
+        for session in self.all:
+            if self.tag_of(session) > self.client.seen[session - 1].tag and not (self.is_carried and session == self.me):
+                self.client, self.index = core.with_seen(self.client, session, self.indexed(session)), None
+
+    def answer_for_later(self, request: core.Request) -> core.Answer:
+        """What a signpost, or lines that go behind it, change of the page changes nothing that counts: so it is settled meanwhile, as before."""
+        if not isinstance(request, core.WriteJournal | core.WritePage):
+            return super().answer_for_later(request)
+        self.is_changing = True
+        try:
+            told = super().answer_for_later(request)
+        except BaseException:
+            self.writer.carried.pop(self.number, None)
+            raise
+        finally:
+            self.is_changing = False
+        if isinstance(request, core.WritePage):
+            self.writer.carried[self.number] = self.shared.index.tag(self.number, self.me)
         return told
 
     def forget(self) -> None:
@@ -178,7 +238,7 @@ class SharedBucket(Bucket):
             raise
         finally:
             self.is_changing = False
-        self.writer.carried[self.number] = self.client.seen[self.me - 1].tag
+        self.writer.carried[self.number] = self.shared.index.tag(self.number, self.me)
         return before
 
 
@@ -190,6 +250,7 @@ class SharedWriter(Writer):
     def __init__(self, shared: Shared, session: Files, layout: Layout, ground: Ground | None = None):
         super().__init__(session, layout)
         self.shared, self.ground = shared, ground
+        shared.index.layout = layout
         self.tags_carried, self.beginnings = dict[int, Tag](), shared.index.beginnings
         self.at_hand: WeakValueDictionary[int, Bucket] = WeakValueDictionary()
 
@@ -214,10 +275,39 @@ class SharedWriter(Writer):
         return found
 
     def new_bucket(self, page: int) -> Bucket:
-        return SharedBucket(self, self.session, self.layout, page, self.ground)
+        return SharedBucket(self, self.session, self.layout, page, self.ground, self.bucket_before(page))
+
+    def first_bucket(self, name: str) -> Bucket:
+        return self.bucket(self.shared.index.page_of(self.layout, name))
 
     def has_settled_all(self) -> bool:
-        return len(self.carried) == self.layout.pages
+        return len(self.carried) == len(self.layout.page_numbers)
+
+    def settle(self, bucket: Bucket) -> None:
+        """Sees that nothing comes into a page any more that an earlier client of the session wrote, or into one that has a part of its names and was never written. One whose names went
+        on splits by that, if it hasn't wholly."""
+        self.tidy(bucket, anew=True)
+        was_signed = bucket.client.journal is not None and splits.is_split(bucket.journal, bucket.level_number + 1)
+        if bucket.has_split():
+            self.split(bucket)
+            if bucket.number not in self.carried:
+                bucket.carry_for_later(bucket.journal)
+        if not was_signed:
+            self.were_never_written(bucket.number)
+
+    def has_more_pages(self, carried: dict[int, Tag]) -> None:
+        """These were carried by an earlier plan, which had fewer pages."""
+        self.carried = carried
+        for page in list(carried):
+            if self.me not in self.shared.index.split.get(page, ()):
+                self.were_never_written(page)
+
+    def were_never_written(self, page: int) -> None:
+        """Of those of the next levels that have parts of a page's names nothing was written: the own page had no signpost. (A client writes one only once that was carried.)"""
+        if self.layout.level_of(page) + 1 < len(self.layout.levels):
+            for part in self.layout.parts_of(page):
+                self.carried.setdefault(part, NEVER)
+                self.were_never_written(part)
 
     def journals(self) -> Iterable[Page]:
         return self.shared.index.pages_of(self.me) if self.has_settled_all() else super().journals()

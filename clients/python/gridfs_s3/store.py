@@ -4,6 +4,7 @@ import secrets
 import time
 from collections.abc import Callable, Collection, Iterable, Sequence
 from contextlib import suppress
+from dataclasses import replace
 from functools import partial
 from typing import IO, Protocol, cast
 
@@ -17,7 +18,7 @@ from gridfs_client.errors import CarrierFault, ClientError, NoRoom, NoSuchName, 
 from gridfs_client.fleet import sign, spool
 from gridfs_client.fleet_map import Move
 from gridfs_client.moving import clear
-from gridfs_client.names import no_words
+from gridfs_client.names import LONG_LINE, no_words
 from gridfs_client.pages import check_words
 from gridfs_client.pieces import choose
 from gridfs_client.placing import Placing
@@ -110,9 +111,9 @@ class Store(Reader):
         """Where a page has no room, or is half full of removals, all sessions have to sweep it: PageFull, but not again at once, unless there are many removals
         again."""
         has_room, removals = self.writer.announcement(bucket, line) is not None, self.removals_in(bucket)
-        if has_room and removals <= self.layout.lines_room // 2:
+        if has_room and removals <= bucket.level.lines_room // 2:
             return
-        again = MANY_AGAIN if removals > self.layout.lines_room // 8 else AGAIN
+        again = MANY_AGAIN if removals > bucket.level.lines_room // 8 else AGAIN
         if time.monotonic() - self.shared.swept.get(bucket.number, -AGAIN) >= again:
             raise PageFull(bucket.number)
 
@@ -156,28 +157,40 @@ class Store(Reader):
         until this session has changed the page again.
         """
         with self.shared.turns.under_way(about or name) as turn:
-            held, bucket = self.look_for_change(name), self.bucket(name)
+            bucket, held = self.look_for_change(name)
             held = self.latest_in(bucket, about) if about else held
             if condition:
                 condition(held)  # (before a long content is moved)
             self.make_room(bucket, self.shortest_line(bucket, name, values))
+            bucket = self.with_more_pages(bucket, name, values) if values else bucket
             placed = content(bucket, held)
             with turn:
                 return self.commit_in_turn(bucket, name, placed, values, condition, besides, about)
 
-    def look_for_change(self, name: str) -> Held | None:
-        """What a name holds, for a change by this session. Elsewhere where the change is another grid's."""
-        if self.trip:
-            return self.trip.look_for_change(name, self.grid)
-        bucket = self.bucket(name)
-        bucket.look(own=True)
-        return bucket.held(name)
+    def with_more_pages(self, bucket: Bucket, name: str, values: Callable[[], Values]) -> Bucket:
+        """The bucket at which a name is put that was looked for at this one: that of the next level where the page has no room for it, and all nodes have that."""
+        while self.shared.may_grow and not self.trip and self.writer.has_parts(bucket) and self.writer.announcement(bucket, replace(self.shortest_line(bucket, name, values), content=LONG_LINE)) is None:
+            bucket = self.writer.part_for(bucket, name)
+            bucket.look(own=True)
+            self.make_room(bucket, self.shortest_line(bucket, name, values))
+        return bucket
 
-    def look_again(self, name: str, is_wanted: bool) -> Held | None:
-        """What it holds right before the change; where that is wanted, by one more look."""
+    def look_for_change(self, name: str) -> tuple[Bucket, Held | None]:
+        """What a name holds, for a change by this session, and the bucket at which that is made. Elsewhere where the change is another grid's."""
         if self.trip:
-            return self.trip.look_again(name, self.grid, is_wanted)
-        return self.look_for_change(name) if is_wanted else self.bucket(name).held(name)
+            held = self.trip.look_for_change(name, self.grid)
+            return self.trip.bucket(self.grid, name), held
+        bucket = self.writer.looked_at(name, lambda bucket, is_fresh: bucket.look(own=True, is_fresh=is_fresh))
+        return bucket, bucket.held(name)
+
+    def look_again(self, bucket: Bucket, name: str, is_wanted: bool) -> tuple[Bucket, Held | None]:
+        """The same right before the change, of a bucket that was looked at for it; where that is wanted, by one more look."""
+        if self.trip:
+            held = self.trip.look_again(name, self.grid, is_wanted)
+            return self.trip.bucket(self.grid, name), held
+        if is_wanted:
+            bucket.look(own=True)
+        return self.look_for_change(name) if bucket.has_split() else (bucket, bucket.held(name))
 
     def shortest_line(self, bucket: Bucket, name: str, values: Callable[[], Values] | None) -> Line:
         return Line(name, bucket.new_version().number, Inline(b"") if values else None, self.words_at(values, STAMP))
@@ -199,7 +212,7 @@ class Store(Reader):
     ) -> Held:
         subject = about or name
         try:
-            before = self.look_again(name, condition is not None)
+            bucket, before = self.look_again(bucket, name, condition is not None)
             before = self.latest_in(bucket, about) if about else before
             if condition:
                 condition(before)
@@ -226,9 +239,8 @@ class Store(Reader):
     def put_object(self, name: str, body: Body, values: Callable[[], Values], condition: Condition | None = None, about: str | None = None) -> Held:
         """Puts a content, which is read as it comes. `values` are asked for before it, and again after it."""
         body.rewind()  # (it may have been begun before)
-        bucket = self.bucket(name)
 
-        def placed(_: Bucket, __: Held | None) -> Content:
+        def placed(bucket: Bucket, _: Held | None) -> Content:
             if self.writer.announcement(bucket, self.shortest_line(bucket, name, values)) is None:
                 raise self.no_line(bucket, name)  # (before a long content is moved)
             return self.placed(bucket, name, Source(cast(IO[bytes], body)), lambda: self.words_at(values, STAMP))
@@ -275,20 +287,32 @@ class Store(Reader):
     def settle(self, page: int) -> None:
         """Sees that nothing that an earlier client of this session wrote can come into one of its pages any more: by changes of no name, after which
         pending ones have no effect (docs/NAMES.md, Why each name has one order)."""
+        before = self.layout.before(page)
+        if before is not None:
+            self.settle(before)
         if page not in self.settled:
             bucket = self.writer.bucket(page)
-            self.writer.tidy(bucket, anew=True)
+            self.writer.settle(bucket)
             times = (number_of(of_words(line.words), "t") for known in bucket.client.seen for line in known.page.lines)
             self.shared.turns.is_later_than(max(times, default=0))
 
+    def split(self, page: int) -> None:
+        """Has the page split wholly, whose names went on to more pages; what earlier clients left under way there ends before."""
+        self.settle(page)
+        bucket = self.writer.bucket(page)
+        bucket.look(own=True)
+        if bucket.has_split():
+            self.writer.split(bucket)
+
     def look_at(self, volumes: Iterable[int]) -> None:
         """Sees that the index has each page of these volumes as it is now, or was after this began: a request for each volume, and those for each bucket of
-        which a page was changed."""
+        which a page was changed. Those of a level only once those of the levels before were looked at; and none to which no names went on."""
         for volume in volumes:
-            rows = self.session.look(volume)
-            for page in self.layout.pages_in(volume):
+            pages = [page for page in self.layout.pages_in(volume) if self.shared.index.is_begun(self.layout, page)]
+            rows = self.session.look(volume) if pages else ()
+            for page in pages:
                 if not self.index_has(page, rows):
-                    self.writer.bucket(page).refresh(rows)
+                    self.writer.bucket(page).refresh(rows, is_fresh=True)
 
     def share_in(self, move: Move, page: int) -> None:
         """What a move wants of this session at the old grid: that its page has the signpost, and later that the lines of the slices go."""
@@ -319,12 +343,12 @@ class Store(Reader):
 
     def go_on(self, end: End | None) -> None:
         """Goes on as it came to an end in an earlier gateway, where nobody had the session since."""
-        self.has_back({page: self.shared.index.tag(page, self.me) for page in range(self.layout.pages)}, end)
+        self.has_back({page: self.shared.index.tag(page, self.me) for page in self.layout.page_numbers}, end)
 
     def go_on_after(self, begun: Begun) -> None:
         """The same where the gateway was killed, and the index has all pages as they are now: what was under way was one operation."""
         page = self.layout.page_at(*begun.place) if begun.place else None
-        self.writer.carried = {each: self.shared.index.tag(each, self.me) for each in range(self.layout.pages) if each != page}
+        self.writer.carried = {each: self.shared.index.tag(each, self.me) for each in self.layout.page_numbers if each != page}
 
     def has_back(self, carried: dict[int, Tag], end: End | None) -> None:
         """Begins with a session whose pages were as they were carried, but for those that the note tells of; where that is not to be believed, with none."""
@@ -363,7 +387,7 @@ class Store(Reader):
     def own_upload(self, name: str) -> Held:
         """An upload that this session has at the last grid of its way, to which it is brought where its slice is moved. NoSuchUpload (404), or Elsewhere for
         what another session has."""
-        found = found_upload(self.look_for_change(name))
+        found = found_upload(self.look_for_change(name)[1])
         if found.version.grid != self.grid:
             return self.bring(name, found)
         self.expect_own(found)
@@ -404,13 +428,12 @@ class Store(Reader):
 
     def put_part(self, name: str, number: int, body: Body, now: int, algorithm: str = "") -> str:
         """Adds a part, or puts another one in its place; its MD5. Its checksum by this algorithm is kept, or the one that it came with. NoSuchUpload (404)."""
-        bucket = self.bucket(name)
         body.rewind()
         values: Values = {}
         if self.trip:
             self.own_upload(name)
 
-        def placed(_: Bucket, held: Held | None) -> Content:
+        def placed(bucket: Bucket, held: Held | None) -> Content:
             self.expect_own(found_upload(held))
             body.checksum(algorithm)  # (which is computed from here on)
             source = Source(cast(IO[bytes], body))
