@@ -497,7 +497,12 @@ class HowFar(unittest.TestCase):
                 (10, End(2, 8), set()), (8, End(66, 8), set()), (8, None, set()), (None, End(2, 8), set()),
             ):  # fmt: skip
                 write_end(path, End(2, 8))
-                self.assertEqual(set(pool.settled_in_note(worker)), left, (last, note))
+                found = pool.settled_in_note(worker)
+                self.assertEqual({page for page in range(3) if page in found}, left, (last, note))
+                worker.settled_when_lent.pop(2)
+                found = pool.settled_in_note(worker)
+                self.assertEqual({page for page in range(3) if page in found}, left - {2}, (last, note))
+                worker.settled_when_lent[2] = Tag(7, 1)
             worker.settled_when_lent = ()  # (it is had again)
             self.assertEqual(pool.settled_in_note(worker), ())
 

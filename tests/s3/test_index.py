@@ -271,6 +271,7 @@ def pool_of(settled, looks):
     layout = types.SimpleNamespace(pages_volumes=len(looks), pages=len(looks), pages_in=lambda volume: range(volume, volume + 1))
     pool = Pool.__new__(Pool)
     pool.layout, pool.sessions, pool.looks, pool.looked = layout, len(settled), asyncio.Lock(), 0.0
+    pool.known, pool.secret, pool.shared = (0, {}), None, types.SimpleNamespace(index=types.SimpleNamespace(beginnings=0, open=set()))
     writer = lambda pages: types.SimpleNamespace(has_settled_all=lambda: len(pages) == layout.pages)
     pool.workers = {number: types.SimpleNamespace(store=types.SimpleNamespace(settled=pages, writer=writer(pages)), is_silent=False, is_lent=False, settled_when_lent=()) for number, pages in enumerate(settled, 1)}
 

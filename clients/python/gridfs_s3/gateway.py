@@ -95,6 +95,8 @@ class Gateway:
         self.places, self.documents = Places(), asyncio.Semaphore(IN_HAND)
         self.in_memory = 0  # gets whose answer may be in memory though it is not short
         self.map_faults = list[str]()  # what was the matter when a later map was looked for last
+        if not grids.map:
+            grids.pools[""].secret = lambda: next(iter(self.keys.values())).secret.encode()
 
     # Sessions
 

@@ -2,6 +2,7 @@
 
 import asyncio
 import secrets
+import socket
 import time
 from collections import Counter
 from collections.abc import Callable, Collection, Iterator, Sequence
@@ -26,11 +27,13 @@ from gridfs_client.opening import SOON
 from gridfs_client.settings import Settings
 from gridfs_client.ways import Ground, slice_of
 
+from . import peers
 from .claims import Claims
 from .errors import error_of, tell
 from .index import Index
 from .looker import Looker
 from .notes import Begun, Notes
+from .peers import MOST_ASKING, AllBut, Pages
 from .shared import Shared, Turns
 from .store import Store
 from .sweeping import NotWhole, begin
@@ -77,7 +80,10 @@ class Pool:
         self.tasks: set[asyncio.Task[None]] = set()
         self.lends: set[int] = set()  # numbers of sessions that are lent, or are to be
         self.lasting: list[asyncio.Task[None]] = []  # what goes on as long as the gateway does
-        self.claims = Claims(settings, lambda claim, answer: self.loop.call_soon_threadsafe(self.loop.add_reader, claim, answer))
+        self.claims = Claims(settings, lambda claim, answer: self.loop.call_soon_threadsafe(self.loop.add_reader, claim, answer), self.meet)
+        self.secret: Callable[[], bytes] | None = None  # which the tenant's gateways have, and others have not
+        self.meeting = 0  # how many connections of other gateways there are
+        self.known: tuple[int, dict[str, int]] = 0, {}  # how many changes of other gateways the index has, by their starts; and which beginning of the index
         self.asking = asyncio.Lock()  # of who asks all nodes: what they tell of no session is kept for one who asks
         self.settling = asyncio.Semaphore()  # so that requests find a session
         self.has_begun = False  # to see to what earlier clients left
@@ -293,14 +299,17 @@ class Pool:
             self.sure_until = now + SURE_FOR if found else 0.0
             return found
 
-    async def settled_now(self) -> list[Collection[int]]:
-        """Of each session the pages into which nothing has come but changes of this gateway, at some moment of the call. Of one that is lent these are those of which its note
-        says nothing."""
+    async def settled_now(self) -> list[Pages]:
+        """Of each session that is here the pages into which nothing has come but changes of this gateway, at some moment of the call. Of one that is lent these are those of
+        which its note says nothing. Of others that this gateway has no more, none."""
+        if not await self.has_sessions():
+            return [()]
         lent = {number: worker for number, worker in self.workers.items() if worker.settled_when_lent}
         left = await asyncio.gather(*(self.loop.run_in_executor(self.threads, self.settled_in_note, each) for each in lent.values()))
-        return [*left, *(worker.store.settled for number, worker in self.workers.items() if number not in lent)]
+        rest = [worker.store for number, worker in self.workers.items() if number not in lent]
+        return [*left, *(AllBut() if store.writer.has_settled_all() else store.settled for store in rest)]
 
-    def settled_in_note(self, worker: Worker) -> Collection[int]:
+    def settled_in_note(self, worker: Worker) -> Pages:
         """(A thread's.) Those of a lent session. First its home tells how far the session came, and then the note is read: so that has all writes of which anybody was told."""
         with worker.asking:
             pages, session, last = worker.settled_when_lent, worker.session, None
@@ -312,8 +321,8 @@ class Pool:
             end = read_end(self.settings.end_path(worker.number))
             if last is None or end is None or not end.covers(session.home, last):
                 return ()
-        written = {self.layout.page_at(*place) for place in end.written}
-        return {page for page in pages if page not in written}
+        written = {page for place in end.written if (page := self.layout.page_at(*place)) is not None}
+        return AllBut(written) if len(pages) == self.layout.pages else {page for page in pages if page not in written}
 
     def have_back(self, worker: Worker, carried: dict[int, Tag]) -> None:
         """(A thread's.) Goes on by a session that was lent."""
@@ -322,6 +331,43 @@ class Pool:
             worker.settled_when_lent = ()
             worker.store.has_back(carried, read_end(path))
             write_end(path, None)
+
+    # Other gateways of the tenant
+
+    def meet(self, connection: socket.socket) -> None:
+        """Another process has connected by the name of a session."""
+        if not self.is_open or self.secret is None or self.meeting >= MOST_ASKING:
+            connection.close()
+            return
+        connection.setblocking(False)
+        self.spawn(self.answer_for(connection, self.secret()))
+
+    async def answer_for(self, connection: socket.socket, key: bytes) -> None:
+        self.meeting += 1
+        try:
+            await peers.tell(connection, key, self.shared.changes.start, list(self.workers), self.changed_since)
+        finally:
+            self.meeting -= 1
+
+    async def changed_since(self, count: int) -> tuple[int, Collection[int] | None]:
+        """How many changes there were, and the pages of this gateway's sessions that are other ones since there were so many, or may be soon; None where that can't be told."""
+        settled = await self.settled_now()
+        now, pages = self.shared.changes.since(count)
+        noted = pages_of(settled)
+        return now, None if pages is None or noted is None else pages | noted
+
+    async def ask_others(self) -> tuple[list[peers.Told], bool]:
+        """What other gateways tell of what changed since the index had their pages; and whether they have all other sessions."""
+        beginnings, counts = self.known
+        known = counts if beginnings == self.shared.index.beginnings else {}
+        left, found = sorted(set(range(1, self.sessions + 1)) - self.workers.keys()), list[peers.Told]()
+        while left and self.secret:
+            told = await peers.ask(self.claims.name(left[0]), self.secret(), left[0], lambda start: known.get(start, peers.NEVER))
+            if told is None or left[0] not in told.sessions:
+                break
+            found.append(told)
+            left = [number for number in left if number not in told.sessions]
+        return found, not left
 
     async def has_session(self, number: int) -> bool:
         try:
@@ -339,16 +385,23 @@ class Pool:
             if self.looked > begin:
                 return
             begun = time.monotonic()
-            settled = await self.settled_now() if self.has_all and await self.has_sessions() else [()]
-            volumes = iter([volume for volume in range(self.layout.pages_volumes) if not self.is_exact_in(volume, settled)])
+            beginnings = self.shared.index.beginnings
+            told, is_all = await self.ask_others()
+            others: list[Pages] = [() if each.pages is None else AllBut(each.pages) for each in told]
+            settled = [*await self.settled_now(), *others] if is_all else [()]
+            changed = pages_of(settled)
+            if changed is not None:
+                volumes = iter(sorted({self.layout.page(1, page)[0] for page in changed | self.shared.index.open}))
+            else:
+                volumes = iter([volume for volume in range(self.layout.pages_volumes) if not self.is_exact_in(volume, settled)])
             count = sum(not worker.is_silent and not worker.is_lent for worker in self.workers.values())
             found = await asyncio.gather(*(self.look_at_some(volumes) for _ in range(max(1, count))), return_exceptions=True)
             for fault in found:
                 if fault:
                     raise fault  # (once all have ended)
-            self.looked = begun
+            self.looked, self.known = begun, (beginnings, {each.start: each.count for each in told})
 
-    def is_exact_in(self, volume: int, settled: Sequence[Collection[int]]) -> bool:
+    def is_exact_in(self, volume: int, settled: Sequence[Pages]) -> bool:
         """The same of the pages in a volume, where these of each session are settled."""
         return all(page in pages for page in self.layout.pages_in(volume) for pages in settled)
 
@@ -823,6 +876,16 @@ class Pool:
         self.looker.close()
         if self.carrier:
             self.carrier.close()
+
+
+def pages_of(settled: Sequence[Pages]) -> set[int] | None:
+    """The pages that are not settled, where of each session all others are."""
+    found = set[int]()
+    for each in settled:
+        if not isinstance(each, AllBut):
+            return None
+        found |= each.pages
+    return found
 
 
 def is_shared(page: Page, move: Move) -> bool:
