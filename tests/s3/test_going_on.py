@@ -59,6 +59,21 @@ sys.stdin.read()
 """
 
 
+HELPED = """\
+import sys
+from gridfs_client.asking import ask_plan
+from gridfs_client.opening import OpenSessions
+from gridfs_client.settings import Settings
+
+found = Settings.gather({"config": sys.argv[1], "locks": sys.argv[2], "helpers": "7"}, {})
+carrier = found.carrier()
+sessions = OpenSessions(found, ask_plan(carrier), carrier)
+first = sessions.first()
+print(len(sessions.helpers()), "helpers", flush=True)
+sys.stdin.read()
+"""
+
+
 PUTS = """\
 import sys
 from gridfs_client import NamedFiles, opening
@@ -254,6 +269,18 @@ class Lent(unittest.TestCase):
                 process.kill()
             self.assertGreaterEqual(self.writes(room), 2 * self.pages)
             self.assertEqual(listed(s3), wanted)
+
+    def test_several(self):
+        """A command that wants more sessions is lent up to half of them, and the gateway goes on by the others."""
+        with endpoint.stand_in() as room, contextlib.closing(Ending(room)) as it:
+            s3 = it.client()
+            s3.create_bucket(Bucket="bucket")
+            with self.command(HELPED, room) as process:
+                self.assertEqual(process.stdout.readline(), b"3 helpers\n")
+                for number in range(3):
+                    s3.put_object(Bucket="bucket", Key=f"{number}", Body=b"x" * number)
+                    self.assertEqual(len(listed(s3)), number + 1)
+            self.assertEqual(listed(s3), {"0": 0, "1": 1, "2": 2})
 
     @contextlib.contextmanager
     def command(self, text, room, *words):

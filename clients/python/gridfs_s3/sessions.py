@@ -490,7 +490,7 @@ class Pool:
             await asyncio.sleep(LOOK)
             try:
                 for number, worker in list(self.workers.items()):
-                    if number not in self.lends and not worker.is_silent and self.settings.is_wanted(number):
+                    if number not in self.lends and not worker.is_silent and len(self.lends) < max(1, len(self.workers) // 2) and self.settings.is_wanted(number):
                         self.lends.add(number)
                         self.spawn(self.lend(worker))
                 if self.carrier and len(self.workers) < self.sessions:
