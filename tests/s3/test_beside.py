@@ -2,6 +2,7 @@
 
 import asyncio
 import contextlib
+import itertools
 import os
 import random
 import secrets
@@ -55,6 +56,49 @@ class Remembered(unittest.TestCase):
             self.assertEqual(changes.since(NEVER)[1], None)
             self.assertEqual(changes.since(changes.count + 1)[1], None)
             self.assertLessEqual(len(changes.latest), 3)
+
+
+class Searched(unittest.TestCase):
+    """A gateway that changes two pages, and one that lists three times, in each order of their steps: a listing shows each change that anybody could see when it began."""
+
+    def writer(self, changes, values, pages):
+        for number, page in enumerate(pages, 1):
+            changes.begins(1, page)
+            yield
+            values[page] = number  # (from here on others see it)
+            yield
+            changes.ends(1, page)
+            yield
+
+    def lister(self, changes, values, seen):
+        index, known = {0: 0, 1: 0}, NEVER
+        for _ in range(3):
+            wanted = dict(values)
+            yield
+            count, pages = changes.since(known)
+            yield
+            for page in (0, 1):
+                if pages is None or page in pages:
+                    index[page] = values[page]
+                yield
+            known = count
+            seen.append((wanted, dict(index), pages))
+
+    def test_each_order(self):
+        alone = 0
+        for pages in ((0, 1), (0, 0), (1, 0)):
+            for most in (1, 4):
+                for turns in itertools.combinations(range(18), 6):
+                    changes, values, seen = Changes(most), {0: 0, 1: 0}, []
+                    writer, lister = self.writer(changes, values, pages), self.lister(changes, values, seen)
+                    for turn in range(18):
+                        next(writer if turn in turns else lister, None)
+                    for _ in range(9):
+                        next(lister, None)
+                    for wanted, index, told in seen:
+                        self.assertTrue(all(index[page] >= wanted[page] for page in (0, 1)), (pages, most, turns, seen))
+                        alone += told is not None
+        self.assertGreater(alone, 100_000)
 
 
 class Noted(unittest.TestCase):
