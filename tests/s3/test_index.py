@@ -20,10 +20,11 @@ import code_of_s3  # noqa: F401  (which says where the code is)
 from gridfs_client.answers import Tag
 from gridfs_client.contents import InChunks, Inline, digest_of
 from gridfs_client.core import Copied, Known, Line, Page, Signpost
-from gridfs_client.errors import CarrierFault, Damaged, Unanswered
+from gridfs_client.errors import CarrierFault, Damaged, NoRoom, Unanswered
 from gridfs_client.pages import text_of
 from gridfs_client.runs import Run
 from gridfs_s3 import looker, sessions
+from gridfs_s3.gateway import Gateway
 from gridfs_s3.grids import Grids
 from gridfs_s3.index import Few, Index, Union, line_in
 from gridfs_s3.later import later_page, whole
@@ -412,6 +413,36 @@ class Swept(unittest.TestCase):
             self.assertEqual((len(self.done), pool.unswept, pool.freed), (8, set(), 10))
 
         asyncio.run(work())
+
+    def test_a_put_that_finds_none(self):
+        """It is tried once more where some was found, and else told at once."""
+
+        class Taken:
+            pool = types.SimpleNamespace()
+
+            async def run(self, work, helpers, is_soon):
+                return work()
+
+        async def taken(_):
+            return Taken()
+
+        async def found():
+            asked.append("room")
+            return has_found
+
+        gateway = Gateway.__new__(Gateway)
+        gateway.grids, gateway.take, Taken.pool.found_room = types.SimpleNamespace(pools_of=lambda _: []), taken, found
+        for has_found, faults, tries in ((True, 1, 2), (True, 2, 2), (False, 1, 1)):
+            left, asked, done = [NoRoom("none")] * faults, [], []
+
+            def put():
+                done.append("put")
+                if left:
+                    raise left.pop()
+
+            with contextlib.nullcontext() if faults < tries else self.assertRaises(NoRoom):
+                asyncio.run(gateway.change("b/a", put))
+            self.assertEqual((len(done), asked), (tries, ["room"]))
 
     def test_a_session_that_is_renewed(self):
         """A command may have had it, and moved what it names: nothing is forgotten."""
