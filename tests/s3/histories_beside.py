@@ -85,13 +85,10 @@ def wrong_in(seed):
 
 
 def main(first, count):
-    wrong = 0
-    for seed in range(first, first + count):
-        if told := wrong_in(seed):
-            wrong += 1
-            print(f"history {seed}: {told}", flush=True)
-    print(f"{count} histories, {told_alone} listings that looked at what others told, {wrong} wrong")
-    return min(1, wrong)
+    histories_in_memory.wrong_in = wrong_in
+    status = histories_in_memory.main(first, count)
+    print(f"{told_alone} listings looked at what others told alone")
+    return status
 
 
 if __name__ == "__main__":
