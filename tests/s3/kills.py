@@ -6,6 +6,7 @@
     kills.py --indexed SECONDS KILLS                the same over a stand-in for a grid; it is tried up to ten times, until something is wrong
     kills.py --growing SETTINGS SECONDS KILLS       the same of a tenant with more pages, to which names go on meanwhile: by `gridfs-client grow`, which is killed too, and by full pages
     kills.py --growing SECONDS KILLS                the same over a stand-in for a grid
+    kills.py --lent SECONDS KILLS                   the same beside a client of names, to which the gateway lends a session for each operation, and which is killed too
     kills.py --conditional SETTINGS SECONDS KILLS   puts with If-None-Match and If-Match, by one gateway that has all sessions: links of a chain
 
 SETTINGS is a file as for gridfs-client, of the tenant carol. The status is 1 where something is wrong.
@@ -26,6 +27,7 @@ import time
 sys.path.insert(0, os.path.dirname(os.path.abspath(__file__)))
 import code_of_s3
 import endpoint
+from code_of_s3 import CODE, HERE
 from linearizability import Operation, is_linearizable
 
 from botocore.exceptions import BotoCoreError, ClientError
@@ -255,6 +257,54 @@ class Growing(Indexed):
         super().look_at_last()
 
 
+class Lent(Indexed):
+    """Beside it a client of names, to which it lends a session for each operation, is killed again and again. Listings mind its note, amid what it does and behind that."""
+
+    weights = {"put": 12, "get": 5, "head": 3, "remove": 5, "upload": 3, "list": 70}
+
+    def run(self):
+        beside = threading.Thread(target=self.beside)
+        beside.start()
+        wrong = super().run()
+        beside.join()
+        return wrong
+
+    def beside(self):
+        gateway, number = self.gateways[0], 0
+        while time.monotonic() < self.begun + self.seconds or time.monotonic() < getattr(self, "until", 0):
+            number += 1
+            words = [sys.executable, "-B", os.path.join(HERE, "beside_client.py"), gateway.settings, os.path.join(gateway.room, "locks"), self.bucket, KEYS, number]
+            with subprocess.Popen(list(map(str, words)), env={**os.environ, "PYTHONPATH": CODE}, stdout=subprocess.PIPE, text=True) as process:
+                timer = threading.Timer(self.draw.uniform(2, 6), process.kill)
+                timer.start()
+                self.note_lines(process.stdout)
+                timer.cancel()
+
+    def note_lines(self, lines):
+        """What such a client did, as its lines tell it."""
+        under_way = None
+        for line in lines:
+            kind, *rest = line.split()
+            if kind == "begins":
+                at, key, word, md5, what = rest
+                under_way = (key, None if word == "-" else word, float(at) - self.begun) if what != "names" else None
+                self.by_etag[md5] = word
+            elif under_way:
+                if kind in ("done", "absent"):
+                    self.note(under_way[0], Operation(kind == "done", under_way[1], under_way[2], float(rest[0]) - self.begun))
+                    self.beside_done += 1
+                else:
+                    self.note(under_way[0], Operation(True, under_way[1], under_way[2], NEVER))
+                under_way = None
+        if under_way:
+            self.note(under_way[0], Operation(True, under_way[1], under_way[2], NEVER))
+
+    beside_done = 0
+
+    def told(self):
+        return f"{super().told()}, {self.beside_done} changes by clients beside it"
+
+
 class Conditional(Trial):
     """Each client puts the successor of what it read, if that is there still. So those that were told to have succeeded are links of one chain."""
 
@@ -334,9 +384,9 @@ def over_a_stand_in(kind, seconds, kills):
 
 
 def main(words):
-    kind = {"--conditional": Conditional, "--indexed": Indexed, "--growing": Growing}.get(words[0], Trial)
+    kind = {"--conditional": Conditional, "--indexed": Indexed, "--growing": Growing, "--lent": Lent}.get(words[0], Trial)
     words = words[kind is not Trial :]
-    if kind in (Indexed, Growing) and len(words) == 2:
+    if kind in (Indexed, Growing, Lent) and len(words) == 2:
         wrong, told = over_a_stand_in(kind, float(words[0]), int(words[1]))
     else:
         settings, seconds, kills, *count = words

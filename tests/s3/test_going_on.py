@@ -2,6 +2,7 @@
 
 import contextlib
 import os
+import pathlib
 import signal
 import subprocess
 import sys
@@ -10,21 +11,24 @@ import threading
 import time
 import types
 import unittest
+from unittest import mock
 
 sys.path.insert(0, os.path.dirname(os.path.abspath(__file__)))
 import code_of_s3
 import endpoint
 import over_grids
 from gridfs_client.answers import Tag
-from gridfs_client.ends import parse_end
+from gridfs_client.ends import End, Note, parse_end, read_end, write_end
 from gridfs_client.fleet_map import read_map
 from gridfs_client.layout import Layout, Volume
-from gridfs_client.sessions import Session
+from gridfs_client.sessions import Pace, Session
 from gridfs_s3.notes import Begun, Notes
-from gridfs_s3.sessions import SURE_FOR
+from gridfs_s3.sessions import SURE_FOR, Pool
 from gridfs_s3.store import Store
+from gridfs_s3.workers import Worker
 
 COUNT, SESSIONS = 40, 8
+pwrite = os.pwrite
 
 
 def looks_in(counts):
@@ -48,9 +52,57 @@ from gridfs_client.settings import Settings
 
 found = Settings.gather({"config": sys.argv[1], "locks": sys.argv[2]}, {})
 carrier = found.carrier()
-OpenSessions(found, ask_plan(carrier), carrier).first().read(0, 0)
+sessions = OpenSessions(found, ask_plan(carrier), carrier)  # (as long as which it has the lock)
+sessions.first().read(0, 0)
 print("it has one", flush=True)
 sys.stdin.read()
+"""
+
+
+HELPED = """\
+import sys
+from gridfs_client.asking import ask_plan
+from gridfs_client.opening import OpenSessions
+from gridfs_client.settings import Settings
+
+found = Settings.gather({"config": sys.argv[1], "locks": sys.argv[2], "helpers": "7"}, {})
+carrier = found.carrier()
+sessions = OpenSessions(found, ask_plan(carrier), carrier)
+first = sessions.first()
+print(len(sessions.helpers()), "helpers", flush=True)
+sys.stdin.read()
+"""
+
+
+PUTS = """\
+import sys
+from gridfs_client import NamedFiles, opening
+from gridfs_client.asking import ask_plan
+from gridfs_client.layout import layout_of
+from gridfs_client.settings import Settings
+
+class NoNote:  # as an older client
+    def __init__(self, *_): pass
+    def close(self): pass
+
+def stop(*words):
+    global left
+    left -= 1
+    if not left:
+        print("it has come so far", flush=True)
+        sys.stdin.read()
+    return write(*words)
+
+config, locks, left, name, is_old = *sys.argv[1:3], int(sys.argv[3]), *sys.argv[4:]
+opening.Note = NoNote if is_old == "old" else opening.Note
+found = Settings.gather({"config": config, "locks": locks}, {})
+carrier = found.carrier()
+told = ask_plan(carrier)
+sessions = opening.OpenSessions(found, told, carrier)  # (as long as which it has the lock)
+session = sessions.first()
+write, session.write = session.write, stop
+NamedFiles(session, layout_of(told)).put(name, b"12345")
+stop()
 """
 
 
@@ -190,13 +242,62 @@ class Lent(unittest.TestCase):
                 self.assertEqual(listed(s3), wanted)
                 self.assertLess(self.writes(room), self.pages)
                 self.assertEqual(listed(s3), wanted)
-            # Killed once it had the session: all are.
-            words = [sys.executable, "-B", "-c", HAS_ONE, f"{room}/carol.ini", f"{room}/locks"]
-            with subprocess.Popen(words, env={**os.environ, "PYTHONPATH": code_of_s3.CLIENT}, stdin=subprocess.PIPE, stdout=subprocess.PIPE) as process:
+            # Killed once it had the session, and had written nothing: none is.
+            with self.command(HAS_ONE, room) as process:
                 self.assertEqual(process.stdout.readline(), b"it has one\n")
+                self.assertLessEqual(self.looks(room, s3, wanted), 1)  # (of the bucket)
+                process.kill()
+            self.assertEqual(self.writes(room), 0)
+            # Before it writes the journal, the page, and after it: that page is, and meanwhile a listing looks at its volume.
+            for left in (1, 2, 3):
+                with self.command(PUTS, room, str(left), f"bucket/amid {left}", "new") as process:
+                    self.assertEqual(process.stdout.readline(), b"it has come so far\n")
+                    if left == 3:
+                        wanted["amid 3"] = 5
+                    looks = self.looks(room, s3, wanted)
+                    self.assertTrue(looks <= 2 if left < 3 else 1 <= looks <= 2, looks)
+                    process.kill()
+                self.assertLessEqual(self.writes(room), 2)
+                if left == 2 and "amid 2" in listed(s3):  # (it was announced, and the next client of the session has carried it)
+                    wanted["amid 2"] = 5
+                self.assertEqual(listed(s3), wanted)
+            # An older client says nothing beforehand: all volumes are looked at while it has the session, and all pages are settled anew once it is killed.
+            with self.command(PUTS, room, "3", "bucket/old", "old") as process:
+                self.assertEqual(process.stdout.readline(), b"it has come so far\n")
+                wanted["old"] = 5
+                self.assertGreaterEqual(self.looks(room, s3, wanted), 4)
                 process.kill()
             self.assertGreaterEqual(self.writes(room), 2 * self.pages)
             self.assertEqual(listed(s3), wanted)
+
+    def test_several(self):
+        """A command that wants more sessions is lent up to half of them, and the gateway goes on by the others."""
+        with endpoint.stand_in() as room, contextlib.closing(Ending(room)) as it:
+            s3 = it.client()
+            s3.create_bucket(Bucket="bucket")
+            with self.command(HELPED, room) as process:
+                self.assertEqual(process.stdout.readline(), b"3 helpers\n")
+                for number in range(3):
+                    s3.put_object(Bucket="bucket", Key=f"{number}", Body=b"x" * number)
+                    self.assertEqual(len(listed(s3)), number + 1)
+            self.assertEqual(listed(s3), {"0": 0, "1": 1, "2": 2})
+
+    @contextlib.contextmanager
+    def command(self, text, room, *words):
+        """A command of this text, which waits for its end once it has told a line."""
+        words = [sys.executable, "-B", "-c", text, f"{room}/carol.ini", f"{room}/locks", *words]
+        with subprocess.Popen(words, env={**os.environ, "PYTHONPATH": code_of_s3.CLIENT}, stdin=subprocess.PIPE, stdout=subprocess.PIPE) as process:
+            try:
+                yield process
+            finally:
+                process.kill()
+
+    def looks(self, room, s3, wanted):
+        """How many volumes a listing looks at, which is right."""
+        listed(s3)
+        endpoint.counts(room)
+        self.assertEqual(listed(s3), wanted)
+        return looks_in(endpoint.counts(room))
 
     def writes(self, room):
         """How many there were until nothing more is written."""
@@ -357,7 +458,7 @@ class HowFar(unittest.TestCase):
     def store(self, last, home=2):
         class Began(Session):
             def __init__(self):
-                self.home, self.last, self.number = home, None, 1
+                self.home, self.last, self.number, self.written = home, None, 1, set()
 
             def start(self):
                 self.last = last
@@ -369,6 +470,68 @@ class HowFar(unittest.TestCase):
         store.writer = types.SimpleNamespace(carried={})
         store.shared = types.SimpleNamespace(index=types.SimpleNamespace(tag=lambda page, _: Tag(page + 5, 1)))
         return store
+
+    def test_what_a_command_notes(self):
+        """It is there before it is asked for, as long as one operation follows another; else there is none."""
+        with tempfile.TemporaryDirectory() as folder:
+            path = pathlib.Path(folder) / "carol-1.end"
+
+            def began(last, end=End(2, 7, frozenset({(0, 9)}))):
+                write_end(path, end)
+                session = types.SimpleNamespace(home=2, last=last, noted=None)
+                return Note(path, session), session
+
+            for last, is_noted in ((7, True), (8, True), (9, False), (6, False)):
+                note, session = began(last)
+                self.assertEqual((read_end(path), session.noted is not None), (End(2, last, frozenset({(0, 9)})) if is_noted else None, is_noted), last)
+                note.close()
+            note, session = began(8)
+            for number, place, written in ((9, None, {(0, 9)}), (10, (5, 6), {(0, 9), (5, 6)}), (10, (5, 6), {(0, 9), (5, 6)}), (11, (4, 1), {(0, 9), (5, 6), (4, 1)})):
+                session.noted(number, place)
+                self.assertEqual(read_end(path), End(2, number, frozenset(written)))
+            self.assertTrue(read_end(path).covers(2, 12) and not read_end(path).covers(2, 13) and not read_end(path).covers(66, 11))
+            note.close()
+            self.assertEqual((read_end(path).last, session.noted), (11, None))
+            for number, home, count in ((10, 2, 0), (9, 66, 0), (9, 2, 4_096)):  # (the home was started again, another stands in its place, or the note is full)
+                note, session = began(8, End(2, 7, frozenset((0, each) for each in range(count))))
+                session.home = home
+                session.noted(number, (7, 7))
+                self.assertEqual((read_end(path), session.noted), (None, None))
+            note, session = began(8)
+            with mock.patch.object(os, "pwrite", side_effect=OSError):  # (a disk that is full)
+                session.noted(9, (7, 7))
+            self.assertEqual((read_end(path), session.noted), (None, None))
+            note, session = began(8)
+            with mock.patch.object(os, "pwrite", lambda out, words, at: pwrite(out, words[:1], at)):
+                session.noted(9, (7, 7))
+            self.assertEqual((read_end(path), session.noted), (None, None))
+
+    def test_what_a_note_leaves(self):
+        """Of a session that is lent, once its home told how far it came: the note is read after that."""
+        with tempfile.TemporaryDirectory() as folder:
+            path = pathlib.Path(folder) / "carol-1.end"
+
+            def told():  # (the command goes on meanwhile)
+                write_end(path, note)
+                return last
+
+            pool = Pool.__new__(Pool)
+            pool.settings, pool.layout = types.SimpleNamespace(end_path=lambda _: path), self.store(8).layout
+            worker = Worker(types.SimpleNamespace(number=1, home=2, last_at_home=told, pace=Pace()), None)
+            worker.settled_when_lent = {0: Tag(5, 1), 1: Tag(6, 1), 2: Tag(7, 1)}
+            for last, note, left in (
+                (8, End(2, 8), {0, 1, 2}), (9, End(2, 8), {0, 1, 2}), (9, End(2, 9, frozenset({(0, 2)})), {1, 2}), (9, End(2, 12, frozenset({(0, 2), (3, 3)})), {1}),
+                (10, End(2, 8), set()), (8, End(66, 8), set()), (8, None, set()), (None, End(2, 8), set()),
+            ):  # fmt: skip
+                write_end(path, End(2, 8))
+                found = pool.settled_in_note(worker)
+                self.assertEqual({page for page in range(3) if page in found}, left, (last, note))
+                worker.settled_when_lent.pop(2)
+                found = pool.settled_in_note(worker)
+                self.assertEqual({page for page in range(3) if page in found}, left - {2}, (last, note))
+                worker.settled_when_lent[2] = Tag(7, 1)
+            worker.settled_when_lent = ()  # (it is had again)
+            self.assertEqual(pool.settled_in_note(worker), ())
 
     def test_notes(self):
         """What is noted of a session, and is believed where its home tells that number, or the one before."""
@@ -390,13 +553,18 @@ class HowFar(unittest.TestCase):
     def test_it(self):
         carried = {0: Tag(5, 1), 1: Tag(6, 1), 2: Tag(7, 1)}
         self.assertEqual(self.gone_on("2 7", 8), carried)
-        for said, last, home in (("2 7", 7, 2), ("2 7", 9, 2), ("2 7", 8, 66), ("2 0", 8, 2)):
+        for said, last, home in (("2 7", 6, 2), ("2 7", 9, 2), ("2 7", 8, 66), ("2 0", 8, 2)):
             self.assertEqual(self.gone_on(said, last, home), {})
         # Where the gateway was killed, the page or journal that was under way is.
         for place, left in (((0, 2), {1, 2}), ((2, 0), {0, 1, 2}), ((3, 3), {0, 1}), ((4, 0), {0, 1, 2}), (None, {0, 1, 2})):
             store = self.store(8)
             store.go_on_after(Begun(2, 7, place, True))
             self.assertEqual(store.writer.carried.keys(), left, place)
+        # What this gateway wrote since is as it left it: settled, or not.
+        store = self.store(8)
+        store.session.written, store.writer.carried = {(0, 2), (3, 1)}, {0: Tag(99, 1)}
+        store.go_on_after(Begun(2, 7, None, True))
+        self.assertEqual(store.writer.carried, {0: Tag(99, 1), 2: Tag(7, 1)})
         # Pages that were written meanwhile, or their journals, are settled anew; slots and tables are none.
         for places, left in (("0.2", {1, 2}), ("2.2 0.0", {1, 2}), ("1.1 3.3", {0}), ("4.0 0.1", {0, 1, 2})):
             self.assertEqual(self.gone_on(f"2 7 {places}", 8).keys(), left, places)

@@ -17,9 +17,13 @@ from bodies_in_memory import Body
 from memory_with_chunks import Killed, World
 
 from gridfs_client import OneByOne
-from gridfs_client.contents import Joined, PartList
+from gridfs_client.contents import InChunks, Inline, Joined, PartList
+from gridfs_client.core import Line, Page, Signpost
 from gridfs_client.errors import Replaced
 from gridfs_client.in_chunks import ChunkContents
+from gridfs_client.pages import text_of
+from gridfs_client.runs import Run
+from gridfs_s3 import sweeping
 from gridfs_s3.errors import S3Error
 from gridfs_s3.part_lists import Uploaded
 from gridfs_s3.places import upload_name
@@ -75,6 +79,13 @@ def complete(objects, upload, wanted=None):
     return objects.complete(name, Target(NAME), {"m": "joined", "n": "3"}, [found[number] for number in wanted or sorted(found)], None)
 
 
+def sweep(objects):
+    found = sweeping.begin(objects)
+    for _ in found.parts():
+        pass
+    found.forget()
+
+
 def kill_at(step):
     def at_step(now):
         if now == step:
@@ -89,7 +100,7 @@ class Steps(unittest.TestCase):
         for number in (1, 2):
             objects = store(world, number)
             objects.settle(0)
-            objects.free_slots()
+            sweep(objects)
         self.assertEqual(world.kept(), world.named())
 
     def each_step(self, prepare, change, least):
@@ -118,6 +129,75 @@ class Steps(unittest.TestCase):
         new = os.urandom(450)
         for world, _, done in self.each_step(lambda objects: put(objects, NAME, OLD), lambda objects, _: put(objects, NAME, new), 15):
             self.assertIn(content_of(store(world, 2)), (new,) if done else (OLD, new))
+
+    def test_a_sweep_amid_puts(self):
+        """What is put, or put over, while a sweep goes on stays; what nobody named when it began goes, also where a clock was ahead."""
+        for turn in range(40):
+            draw, world = random.Random(turn), World(sessions=2, pages=3, page_blocks=64, slots=4)
+            objects, names = store(world), [f"bucket/{number}" for number in range(8)]
+            for page in range(world.layout.pages):
+                objects.settle(page)
+            for name in names[:5]:
+                put(objects, name, draw.randbytes(250))
+            ahead = objects.writer.contents.chunks.last + (1 << 40) * (turn % 2)
+            for server in world.servers.at.values():
+                server.keep(1, ahead + 5, [b"~left"])
+            found = sweeping.begin(objects)
+            with mock.patch.object(sweeping, "SOME", 1):
+                for _ in found.parts():
+                    put(objects, draw.choice(names), draw.randbytes(draw.choice((30, 150, 330))))
+                    objects.delete(draw.choice(names))
+            put(objects, names[0], OLD)
+            found.forget()
+            self.assertLessEqual(world.named(), world.kept())
+            self.assertNotIn(ahead + 5, {number for _, _, number in world.kept()})
+            self.assertEqual(content_of(objects, names[0]), OLD)
+
+    def test_a_sweep_amid_a_put(self):
+        """Chunks that are kept, and that no line names yet, stay too."""
+        world = World(sessions=2, pages=3, page_blocks=64, slots=4)
+        objects, new = store(world), os.urandom(330)
+        for page in range(world.layout.pages):
+            objects.settle(page)
+        put(objects, NAME, OLD)
+        found, kept = sweeping.begin(objects), []
+
+        class Slow(Body):
+            def read(self, length):
+                if len(world.kept()) > 5 and not kept:  # (the old content has four)
+                    kept.extend(world.kept())
+                    list(found.parts())
+                return super().read(length)
+
+        objects.put_object(NAME, Slow(new), lambda: {"m": "x"})
+        self.assertTrue(kept)
+        found.forget()
+        self.assertEqual(content_of(objects), new)
+        self.assertLessEqual(world.named(), world.kept())
+
+    def test_a_sweep_of_pages_that_are_not_settled(self):
+        """A journal may name what the index has on no page."""
+        world = new_world()
+        put(store(world), NAME, OLD)
+        objects = store(world)
+        with self.assertRaises(sweeping.NotWhole):
+            sweeping.begin(objects)
+        objects.settle(0)
+        found = sweeping.begin(objects)
+        objects.shared.index.beginnings += 1  # (it was begun anew, in memory)
+        with self.assertRaises(sweeping.NotWhole):
+            list(found.parts())
+
+    def test_what_pages_name(self):
+        """It is read as pages are."""
+        digest, draw = "A" * 43, random.Random(3)
+        parts = [InChunks(9, digest, (Run(0, 1, 7),)), InChunks(9, digest, (Run(0, 1, 7, 2), Run(1, 1, 9))), PartList(20, digest, 5, (Run(1, 2, 3),))]
+        contents = [None, Inline(b""), Inline(b"x" * 9), *parts, Joined(tuple(parts))]
+        for turn in range(200):
+            lines = tuple(Line(f"x {number} 0.1:{number}", 5 + number, draw.choice(contents), draw.choice(("", "t=5&k=y"))) for number in range(draw.randrange(6)))
+            page = Page(lines, (), 99, (Signpost(1, 0, 9, "west"),) if turn % 10 == 0 else ())
+            self.assertEqual(set(sweeping.named_in(text_of(page))), set(page.in_chunks()))
+        self.assertEqual(list(sweeping.named_in(b"")), [])
 
     def begun(self, objects):
         put(objects, NAME, OLD)

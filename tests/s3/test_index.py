@@ -20,10 +20,11 @@ import code_of_s3  # noqa: F401  (which says where the code is)
 from gridfs_client.answers import Tag
 from gridfs_client.contents import InChunks, Inline, digest_of
 from gridfs_client.core import Copied, Known, Line, Page, Signpost
-from gridfs_client.errors import CarrierFault, Damaged, Unanswered
+from gridfs_client.errors import CarrierFault, Damaged, NoRoom, Unanswered
 from gridfs_client.pages import text_of
 from gridfs_client.runs import Run
-from gridfs_s3 import looker
+from gridfs_s3 import looker, sessions
+from gridfs_s3.gateway import Gateway
 from gridfs_s3.grids import Grids
 from gridfs_s3.index import Few, Index, Union, line_in
 from gridfs_s3.later import later_page, whole
@@ -272,17 +273,21 @@ def pool_of(settled, looks):
     pool = Pool.__new__(Pool)
     pool.shared = types.SimpleNamespace(index=types.SimpleNamespace(is_begun=lambda *_: True))
     pool.layout, pool.sessions, pool.looks, pool.looked = layout, len(settled), asyncio.Lock(), 0.0
+    pool.known, pool.secret, pool.shared = (0, {}), None, types.SimpleNamespace(index=types.SimpleNamespace(beginnings=0, open=set()))
     writer = lambda pages: types.SimpleNamespace(has_settled_all=lambda: len(pages) == layout.pages)
-    pool.workers = {number: types.SimpleNamespace(store=types.SimpleNamespace(settled=pages, writer=writer(pages)), is_silent=False, is_lent=False) for number, pages in enumerate(settled, 1)}
+    pool.workers = {number: types.SimpleNamespace(store=types.SimpleNamespace(settled=pages, writer=writer(pages)), is_silent=False, is_lent=False, settled_when_lent=()) for number, pages in enumerate(settled, 1)}
 
     async def lease():
         return None
+
+    async def has_sessions():
+        return True
 
     async def run(worker, work, is_soon=False):
         await asyncio.sleep(0)
         return work(types.SimpleNamespace(look_at=lambda volumes: [looks[volume]() for volume in volumes]))
 
-    pool.lease, pool.run = lease, run
+    pool.lease, pool.run, pool.has_sessions = lease, run, has_sessions
     return pool
 
 
@@ -361,6 +366,102 @@ class Looks(unittest.TestCase):
         faults = [Unanswered("silent")] * 3
         with self.assertRaises(Unanswered):
             asyncio.run(pool_of([set()], [look]).look_at_all())
+
+
+class Swept(unittest.TestCase):
+    """Chunks that nobody names, of a session whose store is asked for a sweep of three parts."""
+
+    def setUp(self):
+        self.done = []
+        self.enterContext(mock.patch.object(sessions, "begin", lambda store: store.sweep))
+
+    def pool(self):
+        pool = pool_of([{0}], [])
+        parts = lambda: (self.done.append("part") for _ in range(3))
+        forget = lambda: self.done.append("forgotten") or 5
+        pool.workers[1].store.sweep = types.SimpleNamespace(parts=parts, forget=forget)
+        pool.workers[1].is_busy = False
+        pool.waiting, pool.unswept, pool.swept_at, pool.sweeping, pool.in_want, pool.freed, pool.threads, pool.tasks = [], {1}, {}, asyncio.Lock(), 0, 0, None, set()
+        pool.loop = asyncio.get_running_loop()
+        lease, run = pool.lease, pool.run
+
+        async def run(worker, work):
+            return work(pool.workers[1].store)
+
+        pool.lease, pool.run = lambda _: lease(), run
+        return pool
+
+    def test_while_nobody_waits(self):
+        async def work():
+            pool = self.pool()
+            pool.workers[1].is_busy = True
+            task = pool.spawn(pool.sweep_chunks(60))
+            await asyncio.sleep(0.1)
+            self.assertEqual(self.done, ["part"])
+            pool.workers[1].is_busy, pool.waiting = False, ["somebody"]
+            await asyncio.sleep(0.1)
+            self.assertEqual(self.done, ["part"])
+            # Who finds no room waits for what is under way, which waits for nobody then.
+            self.assertTrue(await pool.found_room())
+            self.assertEqual(self.done, [*["part"] * 3, "forgotten"])
+            self.assertFalse(await pool.found_room())
+            await task
+            # Not again, unless somebody died since, and not soon.
+            pool.unswept, pool.waiting = {1}, []
+            await pool.sweep_chunks(60)
+            self.assertEqual((len(self.done), pool.unswept), (4, {1}))
+            await pool.sweep_chunks(0)
+            self.assertEqual((len(self.done), pool.unswept, pool.freed), (8, set(), 10))
+
+        asyncio.run(work())
+
+    def test_a_put_that_finds_none(self):
+        """It is tried once more where some was found, and else told at once."""
+
+        class Taken:
+            pool = types.SimpleNamespace()
+
+            async def run(self, work, helpers, is_soon):
+                return work()
+
+        async def taken(_):
+            return Taken()
+
+        async def found():
+            asked.append("room")
+            return has_found
+
+        gateway = Gateway.__new__(Gateway)
+        gateway.grids, gateway.take, Taken.pool.found_room = types.SimpleNamespace(pools_of=lambda _: []), taken, found
+        for has_found, faults, tries in ((True, 1, 2), (True, 2, 2), (False, 1, 1)):
+            left, asked, done = [NoRoom("none")] * faults, [], []
+
+            def put():
+                done.append("put")
+                if left:
+                    raise left.pop()
+
+            with contextlib.nullcontext() if faults < tries else self.assertRaises(NoRoom):
+                asyncio.run(gateway.change("b/a", put))
+            self.assertEqual((len(done), asked), (tries, ["room"]))
+
+    def test_a_session_that_is_renewed(self):
+        """A command may have had it, and moved what it names: nothing is forgotten."""
+
+        async def work():
+            pool = self.pool()
+            pool.workers[1].is_busy = True
+            task = pool.spawn(pool.sweep_chunks(60))
+            await asyncio.sleep(0.05)
+            pool.workers[1].store = types.SimpleNamespace(**vars(pool.workers[1].store))
+            pool.workers[1].is_busy = False
+            await task
+            self.assertEqual((self.done, pool.unswept, pool.swept_at), (["part"] * 3, {1}, {}))
+            pool.workers[1].is_lent = True
+            await pool.sweep_chunks(0)
+            self.assertEqual(len(self.done), 3)
+
+        asyncio.run(work())
 
 
 class Together(unittest.TestCase):

@@ -284,6 +284,10 @@ class Chunks:
         self.silent: set[int] = set()  # places that did not answer soon
         self.unneeded: list[Run] = []  # what may be kept somewhere, and nothing is to name
 
+    def another(self) -> "Chunks":
+        """For calls beside those of this one."""
+        return Chunks(self.carrier, self.told, self.number, self.shape, self.pace_now)
+
     @property
     def pace(self) -> Pace:
         return self.pace_now()
@@ -442,6 +446,14 @@ class Chunks:
             if told.is_end or not told.rows:
                 return
             after = told.rows[-1][0]
+
+    def greatest(self, number: int) -> int:
+        """The greatest number of the session that nodes tell soon, where that is above this one; else this one."""
+        while True:
+            questions = [Question(place, b"chunks %d %d" % (self.number, number), "chunks", (self.number, number)) for place in range(self.told.nodes)]
+            before, number = number, max([number, *(told.rows[-1][0] for told in self.ask(questions, SOON).values() if told.rows)])
+            if number == before:
+                return number
 
     # Reading
 

@@ -1,9 +1,10 @@
-"""Where a session came to its end, and what was written by it: a note beside its lock. Whoever has the session next knows by it that nothing is under way,
-and which files are other ones.
+"""How far a session came, and what was written by it: a note beside its lock, where a gateway lends its sessions. Each command that has the session keeps it, and says there of each
+operation that it begins before it asks for that. So whoever has the session next knows which files are other ones, also where the command was killed.
 
-    3 1204 0.9 17.9        its home is node 3, its last operation has this number; these files (volume, file) were written
+    3 1204 0.9 17.9        its home is node 3, the last operation that was begun has this number; these files (volume, file) are other ones, or may be
 
-The note is believed only where the session's home tells that last number still: then nobody had the session since, and all its operations were answered.
+The note is believed only where the session's home tells that number still, or the next one: whoever has a session without a note, as an older client, begins by an
+operation that reads. So nobody has written since. No note outlives who lent the session, so none is synced.
 """
 
 import os
@@ -16,6 +17,7 @@ from .sessions import Session
 
 FORM = re.compile(r"([0-9]{1,9}) ([0-9]{1,10})((?: [0-9]{1,9}\.[0-9]{1,9})*)\n", re.ASCII)
 MOST = 4_096  # files of which a note tells
+LETTERS = 10  # of a number that is kept, so that it is written over in its place
 
 
 @dataclass(frozen=True)
@@ -25,11 +27,19 @@ class End:
     written: frozenset[tuple[int, int]] = frozenset()
 
     def is_of(self, session: Session) -> bool:
-        """Whether a session that has just begun was there before: its beginning takes one number."""
-        return (self.home, self.last + 1) == (session.home, session.last)
+        """Whether nobody had a session since, which has just begun: its beginning takes one number. (A line that the home never had took none.)"""
+        return session.last is not None and self.is_last(session.home, session.last)
+
+    def is_last(self, home: int, last: int) -> bool:
+        """Whether a home that tells this last number had no write behind what is noted."""
+        return home == self.home and last in (self.last, self.last + 1)
+
+    def covers(self, home: int, last: int) -> bool:
+        """The same of a note that was read once the home had told this, while somebody has the session."""
+        return home == self.home and last <= self.last + 1
 
     def text(self) -> str:
-        return " ".join([str(self.home), str(self.last), *(f"{volume}.{file}" for volume, file in sorted(self.written))]) + "\n"
+        return " ".join([str(self.home), f"{self.last:0{LETTERS}}", *(f"{volume}.{file}" for volume, file in sorted(self.written))]) + "\n"
 
 
 def parse_end(text: str) -> End | None:
@@ -40,24 +50,69 @@ def parse_end(text: str) -> End | None:
     return End(int(found[1]), int(found[2]), frozenset((int(volume), int(file)) for volume, file in places))
 
 
-def end_of(session: Session, before: End | None) -> End | None:
-    """The end of a session that began where this one says; None where something may be under way, or too much was written."""
-    if before is None or not session.is_sure or session.last is None:
-        return None
-    written = before.written | session.written
-    return End(session.home, session.last, written) if len(written) <= MOST else None
-
-
 def read_end(path: Path) -> End | None:
     with suppress(OSError, UnicodeDecodeError):
         return parse_end(path.read_text("ascii"))
     return None
 
 
-def write_end(path: Path, end: End | None) -> None:
-    """By whoever has the session's lock."""
+def write_end(path: Path, end: End | None) -> bool:
+    """By whoever has the session's lock. Whether the note is there, or taken away."""
     with suppress(OSError):
         path.unlink(missing_ok=True)
         if end:
             with open(os.open(path, os.O_WRONLY | os.O_CREAT | os.O_EXCL, 0o644), "w", encoding="ascii") as out:
                 out.write(end.text())
+        return True
+    return False
+
+
+class Note:
+    """A note that goes on with a session which has just begun, where nobody had that since; else there is none from now on."""
+
+    def __init__(self, path: Path, session: Session):
+        self.path, self.session, self.out = path, session, -1
+        end = read_end(path)
+        if end is None or session.last is None or not end.is_of(session):
+            write_end(path, None)
+            return
+        self.end = End(session.home, session.last, end.written)
+        if write_end(path, self.end):
+            with suppress(OSError):
+                self.out = os.open(path, os.O_RDWR)
+                self.size = os.fstat(self.out).st_size
+                session.noted = self.begins
+
+    def begins(self, number: int, written: tuple[int, int] | None) -> None:
+        """An operation of this number is asked for next, which writes this file, or none. An OSError where neither that can be noted, nor that there is no note."""
+        end = self.end
+        is_new = written is not None and written not in end.written
+        # (a number that is not the next one: the home was started again, or somebody else had the session)
+        if self.session.home != end.home or number not in (end.last, end.last + 1) or is_new and len(end.written) >= MOST:
+            self.drop()
+            return
+        self.end = End(end.home, number, end.written | {written} if written and is_new else end.written)
+        try:
+            if written and is_new:
+                self.add(f" {written[0]}.{written[1]}\n".encode("ascii"))
+            os.pwrite(self.out, f"{number:0{LETTERS}}".encode("ascii"), len(f"{end.home} "))
+        except OSError:
+            self.drop()
+
+    def add(self, words: bytes) -> None:
+        """In the place of the line's end. (A part of it is no note.)"""
+        if os.pwrite(self.out, words, self.size - 1) < len(words):
+            raise OSError
+        self.size += len(words) - 1
+
+    def drop(self) -> None:
+        os.ftruncate(self.out, 0)
+        self.close()
+        write_end(self.path, None)
+
+    def close(self) -> None:
+        """It stays as it is."""
+        self.session.noted = None
+        if self.out >= 0:
+            os.close(self.out)
+            self.out = -1

@@ -4,6 +4,7 @@ from collections import deque
 from collections.abc import Callable, Collection, Generator, Iterable, Iterator
 from contextlib import closing, suppress
 from dataclasses import dataclass
+from itertools import islice
 from typing import cast
 
 from .carriers import Carrier
@@ -16,6 +17,7 @@ from .sessions import Files, Session
 from .streams import Digest, Source
 
 MOST_LISTS = 64  # that are remembered
+MOST_AT_ONCE = 1_000  # chunks that are listed at a time
 MOST_LENGTH = 1 << 26  # bytes of a list
 
 
@@ -203,22 +205,54 @@ class ChunkContents:
     def sweep(self, named: Iterable[Part]) -> tuple[int, set[int]]:
         """Has nodes forget all chunks of the session but those that its journals name, all of which it has carried. How many there were, and the places of nodes
         that did not answer. Nothing that an earlier client sent is kept any more. Damaged, Gone: a list that is named can't be read, and nothing is forgotten."""
+        found = Sweep(self, self.new_floor())
+        for _ in found.list():
+            pass
+        found.spare(named)
+        self.chunks.unneeded.clear()
+        return found.forget()
+
+    def new_floor(self) -> int:
+        """Nodes that answer soon have no chunk of the session with a greater number, and later ones have greater ones. By who has the session, while nothing is under way."""
+        self.chunks.begin_above(0)
+        if (greatest := self.chunks.greatest(self.chunks.last)) > self.chunks.last:  # (a clock was ahead)
+            self.chunks.begin_above(greatest)
+        return self.chunks.last
+
+
+class Sweep:
+    """A sweep of a session's chunks with numbers up to a floor, by steps: nothing is kept under these any more; those that are there are listed; what lines name is spared, and
+    the rest forgotten. The session may be used meanwhile: what it puts has greater numbers. So a line that names one of these took it from a line that named it before."""
+
+    def __init__(self, contents: ChunkContents, floor: int):
+        self.contents, self.chunks, self.floor = contents, contents.chunks, floor
+        self.orphans = set[Place]()  # what is listed, and was not spared
+        self.silent = set(range(self.chunks.told.nodes))  # places of nodes that did not tell all
+
+    def list(self) -> Iterator[None]:
+        """Lists what nodes have, some at a time: of those alone that keep to the floor, since what is late could come to another one behind its list."""
         chunks = self.chunks
-        stay = {place for run in self.runs_in(named) for place in run.places()}
-        chunks.begin_above(0)
-        floor, every = chunks.last, set(range(chunks.told.nodes))
-        up = chunks.raise_floors(chunks.number, floor, every, chunks.pace.timeout / 2)
-        orphans = set[Place]()
+        up = chunks.raise_floors(chunks.number, self.floor, sorted(self.silent), chunks.pace.timeout / 2)
         for place in sorted(up):
             column = place % chunks.shape.columns
+            numbers = (number for number in chunks.numbers_at(place, chunks.number) if number <= self.floor)
             try:
-                orphans |= {(column, chunks.number, number) for number in chunks.numbers_at(place, chunks.number)} - stay
+                while some := {(column, chunks.number, number) for number in islice(numbers, MOST_AT_ONCE)}:
+                    self.orphans |= some
+                    yield
+                self.silent.discard(place)
             except Unanswered:
-                every.add(place)
-                up = up - {place}
-        chunks.unneeded.clear()
-        chunks.forget(runs_of(sorted(orphans)), chunks.pace.timeout / 2, floor)
-        return len(orphans), every - up
+                pass
+
+    def spare(self, named: Iterable[Part]) -> None:
+        """Lines name these contents. Damaged, Gone: one is a list that can't be read."""
+        for run in self.contents.runs_in(named):
+            self.orphans.difference_update(run.places())
+
+    def forget(self) -> tuple[int, set[int]]:
+        """Has nodes forget what is left, once all that lines name was spared. How many chunks that were, and the places of nodes that did not answer."""
+        self.chunks.forget(runs_of(sorted(self.orphans)), self.chunks.pace.timeout / 2, self.floor)
+        return len(self.orphans), self.silent
 
 
 def contents_of(session: Files) -> ChunkContents | None:

@@ -1,5 +1,5 @@
 """Which gateway of this machine has a session. Commands tell each other their sessions by locks in a folder, which gateways of several users need not share. So
-each gateway also has a name of this machine for each of its sessions, which no other process has meanwhile, and which goes with the process."""
+each gateway also has a name of this machine for each of its sessions, which no other process has meanwhile, and which goes with the process. By that name it can be asked too (peers.py)."""
 
 import hashlib
 import os
@@ -17,8 +17,8 @@ AGAIN = 10.0  # seconds after which a session that another gateway has is asked 
 class Claims:
     """The claims of this process on sessions of a grid. `welcome` has a function called whenever a socket can be read."""
 
-    def __init__(self, settings: Settings, welcome: Callable[[socket.socket, Callable[[], None]], object]):
-        self.settings, self.welcome = settings, welcome
+    def __init__(self, settings: Settings, welcome: Callable[[socket.socket, Callable[[], None]], object], meet: Callable[[socket.socket], None] = socket.socket.close):
+        self.settings, self.welcome, self.meet = settings, welcome, meet
         self.mine: dict[int, socket.socket] = {}
         self.others: dict[int, tuple[int, float]] = {}  # the process that has a session, and when that was seen
 
@@ -32,7 +32,7 @@ class Claims:
         for _ in range(2):  # (the other one may just end)
             if claim := claimed(name):
                 self.mine[number] = claim
-                self.welcome(claim, partial(answer, claim))
+                self.welcome(claim, partial(answer, claim, self.meet))
                 self.others.pop(number, None)
                 return True
             if process := gateway_at(name):
@@ -77,10 +77,10 @@ def claimed(name: str) -> socket.socket | None:
         return None
 
 
-def answer(claim: socket.socket) -> None:
-    """Whoever asks is told by the system which process this is."""
+def answer(claim: socket.socket, meet: Callable[[socket.socket], None]) -> None:
+    """Whoever asks is told by the system which process this is, and what is told besides (peers.py)."""
     try:
-        claim.accept()[0].close()
+        meet(claim.accept()[0])
     except OSError:
         pass
 

@@ -8,7 +8,7 @@ from dataclasses import dataclass
 from typing import TypeVar
 
 from gridfs_client.buckets import Held
-from gridfs_client.errors import ClientError, NoSuchName, SessionTaken, Unanswered
+from gridfs_client.errors import ClientError, NoRoom, NoSuchName, SessionTaken, Unanswered
 from gridfs_client.fleet import MAP_NAME
 from gridfs_client.fleet_map import parse_map, read_map
 from gridfs_client.listing import Listing
@@ -95,6 +95,8 @@ class Gateway:
         self.places, self.documents = Places(), asyncio.Semaphore(IN_HAND)
         self.in_memory = 0  # gets whose answer may be in memory though it is not short
         self.map_faults = list[str]()  # what was the matter when a later map was looked for last
+        if not grids.map:
+            grids.pools[""].secret = lambda: next(iter(self.keys.values())).secret.encode()
 
     # Sessions
 
@@ -152,7 +154,7 @@ class Gateway:
     ) -> Told:
         """Has a session change something, this one or any; another one where its page has no room, or its home is silent and nothing was written yet. The
         condition is one by which the work is done."""
-        want, silent = Want(name, number), 0
+        want, silent, has_searched = Want(name, number), 0, False
         for _ in range(TURNS):
             await asyncio.gather(*(pool.settle_before(name) for pool in self.grids.pools_of(name)))
             async with self.judging(condition, name):
@@ -168,6 +170,10 @@ class Gateway:
                 except NoLine:
                     if number is not None or not want.passes_over(taken.pool, taken.worker):
                         raise
+                except NoRoom:
+                    if has_searched or not await taken.pool.found_room():
+                        raise
+                    has_searched = True
                 except NotSettled:
                     pass
                 except Unanswered:

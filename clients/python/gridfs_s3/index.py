@@ -415,6 +415,17 @@ class Index:
                 if told:
                     yield parse_page(told[0], "the index")
 
+    def texts(self, session: int, pages: range) -> list[bytes]:
+        """The texts of these pages of a session, as far as they are known."""
+        with self.guard:
+            found = (self.base.execute("select text from pages where place = ?", (page * 64 + session,)).fetchone() for page in pages if (page, session) in self.tags)
+            return [told[0] for told in found if told]
+
+    def end(self) -> int:
+        """Behind the last page that is known."""
+        with self.guard:
+            return max((page for page, _ in self.tags), default=-1) + 1
+
     # Pages that split
 
     def and_before(self, page: int) -> Iterator[int]:

@@ -2,9 +2,10 @@
 
 import asyncio
 import secrets
+import socket
 import time
 from collections import Counter
-from collections.abc import Callable, Iterator, Sequence
+from collections.abc import Callable, Collection, Iterator, Sequence
 from concurrent.futures import ThreadPoolExecutor
 from contextlib import suppress
 from dataclasses import replace
@@ -12,28 +13,30 @@ from functools import partial
 from itertools import islice
 from typing import Any, TypeVar
 
-from gridfs_client.answers import NO_SESSION, PlanTold
+from gridfs_client.answers import NO_SESSION, PlanTold, Tag
 from gridfs_client.asking import ask_plan
 from gridfs_client.carriers import Carrier
-from gridfs_client.chunks import Chunks
 from gridfs_client.core import Page
 from gridfs_client.ends import End, parse_end, read_end, write_end
 from gridfs_client.errors import BadSettings, CarrierFault, ClientError, NoSuchName, SessionTaken, Unanswered
 from gridfs_client.fleet_map import Move
-from gridfs_client.in_chunks import ChunkContents
+from gridfs_client.in_chunks import ChunkContents, Gone
 from gridfs_client.layout import Layout, layout_of
 from gridfs_client.names import NamedFiles
 from gridfs_client.opening import SOON
 from gridfs_client.settings import Settings
 from gridfs_client.ways import Ground, slice_of
 
+from . import peers
 from .claims import Claims
 from .errors import error_of, tell
 from .index import Index
 from .looker import Looker
 from .notes import Begun, Notes
+from .peers import MOST_ASKING, AllBut, Pages
 from .shared import Shared, Turns
 from .store import Store
+from .sweeping import NotWhole, begin
 from .trips import Trip
 from .workers import Crowded, Gathering, Lending, Turn, Wanted, Worker, who_asks
 
@@ -46,6 +49,10 @@ PLAN_AGAIN, ANSWERS = 10.0, 2.0  # seconds after which all nodes are asked wheth
 SURE_FOR = 2.0  # seconds for which sessions that were this gateway's are taken to be
 SOME, TURNS = 16, 3  # volumes that a session looks at, before others have their turn; and how often it is tried
 WORD_OF_GRID = ".s3/index"  # a name, with what the index of this grid says of it
+SWEEP_AGAIN, SWEEP_IN_WANT = 3_600.0, 60.0  # seconds after which chunks that nobody names are looked for again, and where something finds no room
+ROOM_FOR = 10.0  # seconds for which who finds none waits for that
+REST = 0.02  # seconds after which it is looked again whether somebody waits
+END = object()
 RETRY = 1.0  # seconds until a session whose home is silent, or a carrier that has ended, is tried again
 
 
@@ -72,7 +79,10 @@ class Pool:
         self.tasks: set[asyncio.Task[None]] = set()
         self.lends: set[int] = set()  # numbers of sessions that are lent, or are to be
         self.lasting: list[asyncio.Task[None]] = []  # what goes on as long as the gateway does
-        self.claims = Claims(settings, lambda claim, answer: self.loop.call_soon_threadsafe(self.loop.add_reader, claim, answer))
+        self.claims = Claims(settings, lambda claim, answer: self.loop.call_soon_threadsafe(self.loop.add_reader, claim, answer), self.meet)
+        self.secret: Callable[[], bytes] | None = None  # which the tenant's gateways have, and others have not
+        self.meeting = 0  # how many connections of other gateways there are
+        self.known: tuple[int, dict[str, int]] = 0, {}  # how many changes of other gateways the index has, by their starts; and which beginning of the index
         self.asking = asyncio.Lock()  # of who asks all nodes: what they tell of no session is kept for one who asks
         self.settling = asyncio.Semaphore()  # so that requests find a session
         self.has_begun = False  # to see to what earlier clients left
@@ -81,6 +91,10 @@ class Pool:
         self.asking_all, self.sure_until = asyncio.Lock(), 0.0  # whether all sessions are still this gateway's
         self.wants_plan = asyncio.Event()  # a page has split to others that are not known here
         self.tried_to_split: dict[tuple[int, int], float] = {}  # sessions with a page, and when
+        self.goes_on: asyncio.Task[None] | None = None  # where an earlier gateway was killed, until all pages were looked at
+        self.unswept: set[int] = set()  # numbers of sessions that may have chunks that no line names, left by who died
+        self.swept_at: dict[int, float] = {}  # when these were looked for last
+        self.sweeping, self.in_want, self.freed = asyncio.Lock(), 0, 0  # and how many wait for room meanwhile; how many chunks were found in all
 
     # Beginning
 
@@ -107,8 +121,7 @@ class Pool:
     def ask_room(self) -> None:
         """(A thread's.) Asks nodes what room they have for chunks."""
         if contents := self.chunk_contents():
-            each = contents.chunks
-            Chunks(each.carrier, each.told, each.number, each.shape, self.settings.pace).ask_rooms(SOON)
+            contents.chunks.another().ask_rooms(SOON)
 
     def add(self, carrier: Carrier, number: int, home: int) -> Worker | None:
         """A worker of a session, or one that is there by this carrier; None where another client has it."""
@@ -140,7 +153,7 @@ class Pool:
             tell(f"{self.named()}{fault}: it is tried again")
             self.spawn(self.open_again())
         await self.go_on()
-        self.lasting = [self.spawn(self.tidy()), self.spawn(self.lend_on()), self.spawn(self.follow_plan()), self.spawn(self.split_on())]
+        self.lasting = [self.spawn(self.tidy()), self.spawn(self.lend_on()), self.spawn(self.follow_plan()), self.spawn(self.split_on()), self.spawn(self.sweep_on())]
 
     async def go_on(self) -> None:
         """Goes on with the index of an earlier gateway, if that is of this grid. Where that gateway ended in order, and nobody had a session since, nothing is
@@ -160,12 +173,24 @@ class Pool:
                 self.renew(worker)
             if word:
                 index.say("grid", word)
-        elif killed := [pair for pair in found if pair]:
-            with suppress(ClientError):
+        elif killed := [each for each in found if each]:
+            self.goes_on = self.spawn(self.go_on_after(killed))
+
+    async def go_on_after(self, killed: list[tuple[Worker, Store, Begun]]) -> None:
+        """Goes on by sessions whose gateway was killed, once the index has all pages as they are. Requests are served meanwhile."""
+        for _ in range(TRIES):
+            try:
                 await self.look_at_all()
-                for worker, begun in killed:
-                    if not worker.is_silent and not worker.is_lent:
-                        worker.store.go_on_after(begun)
+                break
+            except ClientError:
+                await asyncio.sleep(RETRY)
+        else:
+            return
+        await asyncio.gather(*(self.go_on_by_after(*each) for each in killed))
+
+    async def go_on_by_after(self, worker: Worker, store: Store, begun: Begun) -> None:
+        with suppress(ClientError):
+            await self.run(await self.lease(worker.number), lambda now: store.go_on_after(begun) if now is store else None, is_soon=True)
 
     def word_of_grid(self, store: Store) -> str:
         """What the index of this grid says of it: a random word under a name. (What the index has is not asked: perhaps it is another grid's.)"""
@@ -189,7 +214,7 @@ class Pool:
             worker.session.notes = self.notes
         return told
 
-    async def go_on_by(self, worker: Worker, begun: Begun | None) -> tuple[Worker, Begun] | None:
+    async def go_on_by(self, worker: Worker, begun: Begun | None) -> tuple[Worker, Store, Begun] | None:
         """Begins with a session, as it ended; where its gateway was killed, how far it had come, if nobody had it since and all its pages were settled."""
         end = parse_end(self.shared.index.about(f"session {worker.number}"))
         if end is None and begun is None:
@@ -197,7 +222,7 @@ class Pool:
         with suppress(ClientError):
             await self.run(await self.lease(worker.number), partial(Store.go_on, end=end), is_soon=True)
             if begun and begun.is_settled and worker.session.last and begun.is_last(worker.session.home, worker.session.last) and not worker.store.goes_on:
-                return worker, begun
+                return worker, worker.store, begun
         return None
 
     def note_end(self) -> None:
@@ -279,9 +304,79 @@ class Pool:
             now = time.monotonic()
             if now <= self.sure_until:
                 return True
-            found = all(await asyncio.gather(*(self.has_session(number) for number in list(self.workers))))
+            found = all(await asyncio.gather(*(self.has_session(number) for number, worker in list(self.workers.items()) if not worker.is_lent)))
             self.sure_until = now + SURE_FOR if found else 0.0
             return found
+
+    async def settled_now(self) -> list[Pages]:
+        """Of each session that is here the pages into which nothing has come but changes of this gateway, at some moment of the call. Of one that is lent these are those of
+        which its note says nothing. Of others that this gateway has no more, none."""
+        if not await self.has_sessions():
+            return [()]
+        lent = {number: worker for number, worker in self.workers.items() if worker.settled_when_lent}
+        left = await asyncio.gather(*(self.loop.run_in_executor(self.threads, self.settled_in_note, each) for each in lent.values()))
+        rest = [worker.store for number, worker in self.workers.items() if number not in lent]
+        return [*left, *(AllBut() if store.writer.has_settled_all() else store.settled for store in rest)]
+
+    def settled_in_note(self, worker: Worker) -> Pages:
+        """(A thread's.) Those of a lent session. First its home tells how far the session came, and then the note is read: so that has all writes of which anybody was told."""
+        with worker.asking:
+            pages, session, last = worker.settled_when_lent, worker.session, None
+            if pages:
+                pace, session.pace = session.pace, replace(session.pace, timeout=SOON)
+                with suppress(ClientError):
+                    last = session.last_at_home()
+                session.pace = pace
+            end = read_end(self.settings.end_path(worker.number))
+            if last is None or end is None or not end.covers(session.home, last):
+                return ()
+        written = {page for place in end.written if (page := self.layout.page_at(*place)) is not None}
+        return AllBut(written) if isinstance(pages, AllBut) else {page for page in pages if page not in written}
+
+    def have_back(self, worker: Worker, carried: dict[int, Tag]) -> None:
+        """(A thread's.) Goes on by a session that was lent."""
+        path = self.settings.end_path(worker.number)
+        with worker.asking:
+            worker.settled_when_lent = ()
+            worker.store.has_back(carried, read_end(path))
+            write_end(path, None)
+
+    # Other gateways of the tenant
+
+    def meet(self, connection: socket.socket) -> None:
+        """Another process has connected by the name of a session."""
+        if not self.is_open or self.secret is None or self.meeting >= MOST_ASKING:
+            connection.close()
+            return
+        connection.setblocking(False)
+        self.spawn(self.answer_for(connection, self.secret()))
+
+    async def answer_for(self, connection: socket.socket, key: bytes) -> None:
+        self.meeting += 1
+        try:
+            await peers.tell(connection, key, self.shared.changes.start, list(self.workers), self.changed_since)
+        finally:
+            self.meeting -= 1
+
+    async def changed_since(self, count: int) -> tuple[int, Collection[int] | None]:
+        """How many changes there were, and the pages of this gateway's sessions that are other ones since there were so many, or may be soon; None where that can't be told."""
+        settled = await self.settled_now()
+        now, pages = self.shared.changes.since(count)
+        noted = pages_of(settled)
+        return now, None if pages is None or noted is None else pages | noted
+
+    async def ask_others(self) -> tuple[list[peers.Told], bool]:
+        """What other gateways tell of what changed since the index had their pages; and whether they have all other sessions."""
+        beginnings, counts = self.known
+        known = counts if beginnings == self.shared.index.beginnings else {}
+        left, found = sorted(set(range(1, self.sessions + 1)) - self.workers.keys()), list[peers.Told]()
+        while left and self.secret:
+            told = await peers.ask(self.claims.name(left[0]), self.secret(), left[0], lambda start: known.get(start, peers.NEVER))
+            if told is None or left[0] not in told.sessions:
+                break
+            found.append(told)
+            left = [number for number in left if number not in told.sessions]
+        return found, not left
 
     async def has_session(self, number: int) -> bool:
         try:
@@ -299,22 +394,35 @@ class Pool:
             if self.looked > begin:
                 return
             begun = time.monotonic()
+            beginnings = self.shared.index.beginnings
+            told, is_all = await self.ask_others()
+            others: list[Pages] = [() if each.pages is None else AllBut(each.pages) for each in told]
+            settled = [*await self.settled_now(), *others] if is_all else [()]
             for level in self.layout.levels:  # (the old pages first, of those that have split)
-                await self.look_at_level(range(level.volume, level.volume + level.volumes))
-            self.looked = begun
+                await self.look_at(self.volumes_to_look_at(range(level.volume, level.volume + level.volumes), settled))
+            self.looked, self.known = begun, (beginnings, {each.start: each.count for each in told})
 
-    async def look_at_level(self, all_volumes: range) -> None:
-        volumes = iter([volume for volume in all_volumes if not self.is_exact_in(volume)])
+    def volumes_to_look_at(self, volumes: range, settled: Sequence[Pages]) -> list[int]:
+        """Those of a level with pages that are not settled, or ask for later ones than are known."""
+        changed = pages_of(settled)
+        if changed is None:
+            return [volume for volume in volumes if not self.is_exact_in(volume, settled)]
+        found = {self.layout.page(1, page)[0] for page in changed | self.shared.index.open}
+        return sorted(volume for volume in found if volume in volumes)
+
+    async def look_at(self, volumes: list[int]) -> None:
+        """Looks at these volumes, by all sessions side by side."""
+        left = iter(volumes)
         count = sum(not worker.is_silent and not worker.is_lent for worker in self.workers.values())
-        found = await asyncio.gather(*(self.look_at_some(volumes) for _ in range(max(1, count))), return_exceptions=True)
+        found = await asyncio.gather(*(self.look_at_some(left) for _ in range(max(1, count))), return_exceptions=True)
         for fault in found:
             if fault:
                 raise fault  # (once all have ended)
 
-    def is_exact_in(self, volume: int) -> bool:
-        """The same of the pages in a volume."""
-        pages = [page for page in self.layout.pages_in(volume) if self.shared.index.is_begun(self.layout, page)]
-        return not pages or self.has_all and all(page in worker.store.settled for page in pages for worker in self.workers.values())
+    def is_exact_in(self, volume: int, settled: Sequence[Pages]) -> bool:
+        """The same of the pages in a volume, where these of each session are settled."""
+        begun = (page for page in self.layout.pages_in(volume) if self.shared.index.is_begun(self.layout, page))
+        return all(page in pages for page in begun for pages in settled)
 
     async def look_at_some(self, volumes: Iterator[int]) -> None:
         """Looks at these volumes, some at a time, by another session where the home of one is silent."""
@@ -401,7 +509,7 @@ class Pool:
             await asyncio.sleep(LOOK)
             try:
                 for number, worker in list(self.workers.items()):
-                    if number not in self.lends and not worker.is_silent and self.settings.is_wanted(number):
+                    if number not in self.lends and not worker.is_silent and len(self.lends) < max(1, len(self.workers) // 2) and self.settings.is_wanted(number):
                         self.lends.add(number)
                         self.spawn(self.lend(worker))
                 if self.carrier and len(self.workers) < self.sessions:
@@ -423,9 +531,12 @@ class Pool:
             worker.is_lent = True
             try:
                 await self.lease(worker.number)
+                settled = AllBut() if worker.store.writer.has_settled_all() else dict(worker.store.writer.carried)
                 carried, path = dict(worker.store.writer.carried), self.settings.end_path(worker.number)
                 last = worker.session.last
+                self.unswept.add(worker.number)  # (what it was to have forgotten is not known any more, and the command may die)
                 self.renew(worker)
+                worker.settled_when_lent = settled
                 write_end(path, None if last is None else End(worker.session.home, last))
                 worker.lock.close()
                 lock = None
@@ -434,8 +545,7 @@ class Pool:
                     with suppress(OSError):  # (which is told elsewhere)
                         lock = None if self.settings.is_wanted(worker.number) else self.settings.lock(worker.number)
                 worker.lock = lock
-                await self.loop.run_in_executor(self.threads, worker.store.has_back, carried, read_end(path))
-                write_end(path, None)
+                await self.loop.run_in_executor(self.threads, self.have_back, worker, carried)
                 self.release(worker)
             except Unanswered:
                 pass
@@ -700,6 +810,8 @@ class Pool:
         slots that sessions lent to contents that are gone."""
         while not self.is_open:
             await asyncio.sleep(RETRY)
+        if self.goes_on:
+            await self.goes_on
         self.has_begun = True
         self.settling = asyncio.Semaphore(max(1, len(self.workers) // 2))
         await asyncio.gather(*(self.tidy_session(number) for number in list(self.workers)))
@@ -750,6 +862,62 @@ class Pool:
             pass
         except Exception as fault:
             error_of(fault)
+        if not store.goes_on:
+            self.unswept.add(number)
+
+    # Chunks that no line names
+
+    async def sweep_on(self) -> None:
+        """Looks for chunks that clients which died left, and no line names, while nobody waits."""
+        while True:
+            await asyncio.sleep(RETRY)
+            await self.sweep_chunks(SWEEP_AGAIN)
+
+    async def found_room(self) -> bool:
+        """Where something finds no room: whether such chunks were found, within some seconds. Those that are looked for then are looked for at once."""
+        before = self.freed
+        self.in_want += 1
+        try:
+            await asyncio.wait([self.spawn(self.sweep_chunks(SWEEP_IN_WANT))], timeout=ROOM_FOR)
+        finally:
+            self.in_want -= 1
+        return self.freed > before
+
+    async def sweep_chunks(self, again: float) -> None:
+        """The same by one session after another, each where that was not done in so many seconds since."""
+        async with self.sweeping:
+            for number in sorted(self.unswept):
+                if time.monotonic() < self.swept_at.get(number, -again) + again or self.workers[number].is_lent:
+                    continue
+                try:
+                    self.freed += await self.sweep_chunks_of(number)
+                    self.unswept.discard(number)
+                    self.swept_at[number] = time.monotonic()
+                except (ClientError, Gone, NotWhole):
+                    continue  # (it is tried again)
+                except Exception as fault:
+                    error_of(fault)
+                    self.unswept.discard(number)
+
+    async def sweep_chunks_of(self, number: int) -> int:
+        """Has nodes forget what no page of the session names: how many chunks that were. NotWhole too where the session is renewed meanwhile: a command may have had it."""
+        store = self.workers[number].store
+        sweep = await self.run(await self.lease(number), begin)
+        if sweep is None:
+            return 0
+        parts, begun = sweep.parts(), time.monotonic()
+        while await self.loop.run_in_executor(self.threads, lambda: next(parts, END) is not END):
+            await self.rest(time.monotonic() - begun)
+            begun = time.monotonic()
+        if store is not self.workers[number].store:
+            raise NotWhole
+        return await self.loop.run_in_executor(self.threads, sweep.forget)
+
+    async def rest(self, seconds: float) -> None:
+        """Lets others have so much of the processor, and waits until nobody waits for a session; unless somebody waits for room."""
+        await asyncio.sleep(0 if self.in_want else seconds)
+        while not self.in_want and (self.waiting or any(each.is_busy and not each.is_silent and not each.is_lent for each in self.workers.values())):
+            await asyncio.sleep(REST)
 
     async def flush(self) -> None:
         """Writes down which slots are needed no more, by the sessions that are free."""
@@ -764,6 +932,16 @@ class Pool:
         self.looker.close()
         if self.carrier:
             self.carrier.close()
+
+
+def pages_of(settled: Sequence[Pages]) -> set[int] | None:
+    """The pages that are not settled, where of each session all others are."""
+    found = set[int]()
+    for each in settled:
+        if not isinstance(each, AllBut):
+            return None
+        found |= each.pages
+    return found
 
 
 def is_shared(page: Page, move: Move, is_here: Callable[[str], bool]) -> bool:

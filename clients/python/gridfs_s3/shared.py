@@ -19,6 +19,7 @@ from gridfs_client.writers import Writer
 
 from .index import Index
 from .later import whole
+from .peers import Changes
 
 AHEAD = 3_600_000  # milliseconds by which a time may be ahead of the clock
 MOST_SEARCHED = 512  # pages that one put looks at for room
@@ -95,6 +96,7 @@ class Shared:
     def __init__(self, turns: Turns | None = None, index: Index | None = None) -> None:
         self.turns = turns or Turns()
         self.index = index or Index()  # pages as they were seen last by any session
+        self.changes = Changes()  # of pages by this gateway
         self.swept: dict[int, float] = {}  # pages that were swept, and when
         self.searched: dict[int, float] = {}  # sessions all of whose pages were searched for room, and when
         self.guard = threading.Lock()
@@ -181,12 +183,15 @@ class SharedBucket(Bucket):
         return None
 
     def answer_of_files(self, request: core.Request, rows: tuple[Row | None, ...] | None) -> core.Answer:
+        if isinstance(request, core.WriteJournal | core.WritePage):
+            self.shared.changes.begins(self.me, self.number)
         told = super().answer_of_files(request, rows)
         match request:
             case core.ReadPage(session):
                 self.keep(session, cast(Known, told))
             case core.WritePage(page):
                 self.keep(self.me, Known(cast(Tag, told), page))
+                self.shared.changes.ends(self.me, self.number)
         return told
 
     def keep(self, session: int, known: Known) -> None:

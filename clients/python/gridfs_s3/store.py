@@ -22,7 +22,7 @@ from gridfs_client.names import LONG_LINE, no_words
 from gridfs_client.pages import check_words
 from gridfs_client.pieces import choose
 from gridfs_client.placing import Placing
-from gridfs_client.sessions import Session
+from gridfs_client.sessions import MOST_WRITTEN, Session
 from gridfs_client.streams import OneByOne, Source
 from gridfs_client.writers import Writer
 
@@ -346,9 +346,14 @@ class Store(Reader):
         self.has_back({page: self.shared.index.tag(page, self.me) for page in self.layout.page_numbers}, end)
 
     def go_on_after(self, begun: Begun) -> None:
-        """The same where the gateway was killed, and the index has all pages as they are now: what was under way was one operation."""
-        page = self.layout.page_at(*begun.place) if begun.place else None
-        self.writer.carried = {each: self.shared.index.tag(each, self.me) for each in self.layout.page_numbers if each != page}
+        """The same where the gateway was killed, and the index has all pages as they are now: what was under way was one operation. Pages to which this gateway wrote
+        since are as that left them."""
+        assert isinstance(self.session, Session)
+        if len(self.session.written) >= MOST_WRITTEN:
+            return
+        places = self.session.written | ({begun.place} if begun.place else set())
+        but = {self.layout.page_at(*place) for place in places}
+        self.writer.carried = {each: self.shared.index.tag(each, self.me) for each in self.layout.page_numbers if each not in but} | self.writer.carried
 
     def has_back(self, carried: dict[int, Tag], end: End | None) -> None:
         """Begins with a session whose pages were as they were carried, but for those that the note tells of; where that is not to be believed, with none."""
@@ -362,14 +367,19 @@ class Store(Reader):
                 self.goes_on = True
 
     def free_slots(self) -> None:
-        """Finds the slots that earlier clients left taken: once all pages of the session are settled, what none of them names is free."""
+        """Finds the slots that earlier clients left taken: once all pages of the session are settled, what none of them names is free. Nothing where contents go into chunks."""
+        if self.has_chunks():
+            return
         if self.goes_on:
             self.writer.keeper.load()
         elif self.writer.has_settled_all():
             self.writer.find_room()
             self.writer.keeper.recall()
             self.writer.keeper.write(self.writer.keeper.needed())  # (also where nothing is freed: so no pending write of the table takes effect later)
-            self.writer.sweep_chunks()
+
+    def has_chunks(self) -> bool:
+        """Whether nodes tell of room for chunks."""
+        return self.writer.contents is not None and bool(self.writer.contents.rooms())
 
     # Uploads in parts. All of an upload is one line of this session, on the page of the object to be: so one change of that page brings the object
     # with the slots or chunks of the parts, and has the upload go.

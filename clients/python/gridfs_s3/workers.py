@@ -1,6 +1,7 @@
 """A session of the gateway, and who works by it."""
 
 import asyncio
+import threading
 from collections.abc import AsyncIterator, Callable, Collection
 from contextlib import asynccontextmanager
 from contextvars import ContextVar
@@ -14,6 +15,7 @@ from gridfs_client.sessions import Pace, Session
 
 from .looker import Looker
 from .notes import Begun, Notes
+from .peers import AllBut
 from .store import Store
 
 
@@ -75,6 +77,8 @@ class Worker:
         self.is_busy, self.is_silent = False, False
         self.who = ""  # for whom somebody works by it
         self.is_lent = False  # to another command of this machine, or about to be
+        self.settled_when_lent: AllBut | Collection[int] = ()  # the pages into which nothing could come, until it is had again
+        self.asking = threading.Lock()  # of who asks by its session while that is lent
 
 
 class Gathering:

@@ -1,0 +1,141 @@
+"""What gateways of one tenant on one machine tell one another: which pages they changed. So a listing looks at these alone (docs/S3.md, *Several gateways*).
+
+A gateway has a name of this machine for each of its sessions (claims.py). Who connects to it is told a line `START CHALLENGE`: a random word of the gateway's start, and one of this
+connection. He asks
+
+    NONCE SESSION COUNT MAC                what changed since that count, or all (-1); of which session he thinks that this gateway has it
+    {"sessions": .., "count": .., "pages": ..}      and behind it a line with the MAC: the gateway's sessions, its count, and the pages; null where it can't tell them
+
+A MAC is by a key that all gateways of the tenant have, since they have the tenant's access keys, and other tenants' have not. It is over START, CHALLENGE and all that was said.
+Nothing rests on an answer but that less is looked at.
+"""
+
+import asyncio
+import hmac
+import json
+import secrets
+import socket
+import threading
+from collections import OrderedDict
+from collections.abc import Awaitable, Callable, Collection, Container, Iterable
+from contextlib import suppress
+from dataclasses import dataclass
+
+MOST = 4_096  # pages of which is remembered that they changed
+PATIENCE = 1.0  # seconds for an answer of this machine
+MOST_ASKING = 16  # connections at a time
+LONGEST = 1 << 17  # bytes of a line
+NEVER = -1
+
+
+class AllBut(Container[int]):
+    """All pages but these."""
+
+    def __init__(self, pages: Iterable[int] = ()):
+        self.pages = frozenset(pages)
+
+    def __contains__(self, page: object) -> bool:
+        return page not in self.pages
+
+
+Pages = Container[int]
+
+
+class Changes:
+    """The pages of this gateway's sessions that changed, in order. Each call may come from any thread."""
+
+    def __init__(self, most: int = MOST):
+        self.start, self.most = secrets.token_hex(16), most
+        self.guard = threading.Lock()
+        self.count = self.forgotten = 0  # of changes that are over; up to which of them not all pages are known any more
+        self.latest: OrderedDict[int, int] = OrderedDict()  # of each page its last change, the latest behind the others
+        self.under_way: set[tuple[int, int]] = set()  # sessions with pages that change now
+
+    def begins(self, session: int, page: int) -> None:
+        """Before anything is asked for by which others could see the page as another one."""
+        with self.guard:
+            self.under_way.add((session, page))
+
+    def ends(self, session: int, page: int) -> None:
+        with self.guard:
+            self.under_way.discard((session, page))
+            self.count += 1
+            self.latest.pop(page, None)
+            self.latest[page] = self.count
+            if len(self.latest) > self.most:
+                _, self.forgotten = self.latest.popitem(last=False)
+
+    def since(self, count: int) -> tuple[int, set[int] | None]:
+        """The count now, and the pages that changed since one that was told before, or change now; None where that is not known any more."""
+        with self.guard:
+            if not self.forgotten <= count <= self.count:
+                return self.count, None
+            found = {page for _, page in self.under_way}
+            for page, last in reversed(self.latest.items()):
+                if last <= count:
+                    break
+                found.add(page)
+            return self.count, found
+
+
+@dataclass(frozen=True)
+class Told:
+    """What a gateway told: by its start, its sessions, how many changes there were, and which pages others have to look at; None: all."""
+
+    start: str
+    sessions: frozenset[int]
+    count: int
+    pages: frozenset[int] | None
+
+
+def mac(key: bytes, *words: str) -> str:
+    return hmac.new(key, "\n".join(words).encode(), "sha256").hexdigest()
+
+
+async def line_of(reader: asyncio.StreamReader) -> str:
+    """The next line. A ValueError for one that has no end or is too long."""
+    line = await reader.readline()
+    if not line.endswith(b"\n"):
+        raise ValueError("a line has no end")
+    return line[:-1].decode("ascii")
+
+
+async def ask(name: str, key: bytes, session: int, known: Callable[[str], int]) -> Told | None:
+    """What the gateway with this name tells of what changed since the count that is known of its start; None where there is none, or it tells nothing in time."""
+    with suppress(OSError, ValueError, TypeError, KeyError, TimeoutError):
+        async with asyncio.timeout(PATIENCE):
+            reader, writer = await asyncio.open_unix_connection(name, limit=LONGEST)
+            try:
+                head = await line_of(reader)
+                start, _ = head.split(" ")
+                question = f"{secrets.token_hex(16)} {session} {known(start)}"
+                writer.write(f"{question} {mac(key, 'asks', head, question)}\n".encode())
+                answer = await line_of(reader)
+                if not hmac.compare_digest(await line_of(reader), mac(key, "tells", head, question, answer)):
+                    return None
+                told = json.loads(answer)
+                pages = told["pages"]
+                return Told(start, frozenset(map(int, told["sessions"])), int(told["count"]), None if pages is None else frozenset(map(int, pages)))
+            finally:
+                writer.close()
+    return None
+
+
+async def tell(connection: socket.socket, key: bytes, start: str, sessions: Collection[int], answer: Callable[[int], Awaitable[tuple[int, Collection[int] | None]]]) -> None:
+    """Answers who has connected, as one of the tenant's gateways; any other one is told nothing."""
+    with suppress(OSError, ValueError, TimeoutError):
+        reader, writer = await asyncio.open_connection(sock=connection, limit=LONGEST)
+        try:
+            async with asyncio.timeout(PATIENCE):
+                head = f"{start} {secrets.token_hex(16)}"
+                writer.write(f"{head}\n".encode())
+                question, _, told = (await line_of(reader)).rpartition(" ")
+                _, session, count = question.split(" ")
+                if not hmac.compare_digest(told, mac(key, "asks", head, question)) or int(session) not in sessions:
+                    return
+                now, pages = await answer(int(count))
+                text = json.dumps({"sessions": sorted(sessions), "count": now, "pages": None if pages is None else sorted(pages)})
+                writer.write(f"{text}\n{mac(key, 'tells', head, question, text)}\n".encode())
+                await writer.drain()
+        finally:
+            writer.close()
