@@ -20,10 +20,11 @@ from unittest import mock
 
 sys.dont_write_bytecode = True
 HERE = os.path.dirname(os.path.abspath(__file__))
-sys.path[:0] = [HERE, os.path.join(HERE, "..", "names")]
+sys.path[:0] = [HERE, *(os.path.join(HERE, "..", name) for name in ("names", "chunks"))]
 from histories import History, Killed
 from maps import Maps
 from memory import Memory, MemorySession
+from memory_with_chunks import with_chunks
 
 from gridfs_client import ClientError, NamedFiles, NoRoom, OneByOne, core, ways
 from gridfs_client.fleet import FleetFiles, sign
@@ -82,14 +83,14 @@ class Actor:
 
     def files(self, grid, numbers, ground, kind=NamedFiles):
         memory = self.fleet.memories[grid]
-        return kind(MemorySession(memory, self.take(grid, numbers), self.step), memory.layout, team=OneByOne(), ground=ground)
+        return kind(with_chunks(MemorySession(memory, self.take(grid, numbers), self.step), memory), memory.layout, team=OneByOne(), ground=ground)
 
 
 class Fleet(Maps):
-    def __init__(self, draw, labels, sessions, pages, slots, page_blocks):
+    def __init__(self, draw, labels, sessions, pages, page_blocks):
         super().__init__(labels)
         self.draw, self.sessions, self.held = draw, sessions, set()
-        self.memories = {label: Memory(sessions, pages, page_blocks, slots, 2) for label in labels}
+        self.memories = {label: Memory(sessions, pages, page_blocks) for label in labels}
         self.counts = collections.Counter()
 
     def all(self):
@@ -130,12 +131,12 @@ def plain(fleet_map, actor, _):
     return FleetFiles(fleet_map, lambda grid, ground: actor.files(grid, actor.fleet.all(), ground))
 
 
-def try_fleet(seed, operations=60, client_of=plain, page_blocks=40, slots=(8, 12)):
+def try_fleet(seed, operations=60, client_of=plain, page_blocks=(40, 48)):
     """A history of clients that `client_of` makes, of a map, an actor and what is drawn."""
     draw = random.Random(seed)
     labels = LABELS[: draw.choice((2, 2, 3))]
     clients = draw.choice((2, 3))
-    fleet = Fleet(draw, labels, clients + draw.choice((1, 2)), draw.choice((1, 1, 2)), draw.choice(slots), page_blocks)
+    fleet = Fleet(draw, labels, clients + draw.choice((1, 2)), draw.choice((1, 1, 2)), draw.choice(page_blocks))
     names = ["a", "b b", "ç"][: draw.choice((1, 2, 3))]
     history = History(names, (3, 45, 150), weights=draw.choice(((4, 5, 2, 1), (4, 4, 4, 0), (2, 6, 1, 0))))
     returns = random.Random(-seed)
