@@ -3,8 +3,9 @@
 
     filled.py CHECKOUT FOLDER NAMES SIZES
 
-It opens FOLDER/socket and writes FOLDER/carol.ini. The pages, journals and tables of FOLDER/plan are as the client of CHECKOUT would have written them, with so
-many objects in the bucket `bench`, of sizes of this list by turns (`1000,20000`; up to 40 bytes stand in lines). Pieces are made when they are read. A line
+It opens FOLDER/socket and writes FOLDER/carol.ini. The pages and journals of FOLDER/plan are as a client from before chunks would have written them, with so many
+objects in the bucket `bench`, of sizes of this list by turns (`1000,20000`; up to 40 bytes stand in lines, others in slots). Pieces are made when they are read. What is
+put is kept in chunks. A line
 `0 bench counts` is told how many requests of each kind came since the last one, and their bytes.
 """
 
@@ -21,10 +22,11 @@ sys.dont_write_bytecode = True
 if __name__ == "__main__":
     CHECKOUT, FOLDER = sys.argv[1:3]
     sys.path.insert(0, os.path.join(CHECKOUT, "clients", "python"))
+sys.path.append(os.path.join(os.path.dirname(os.path.abspath(__file__)), "..", "..", "tests", "s3"))
 from gridfs_client.contents import digest_of, to_base64
 from gridfs_client.layout import Layout, Volume
 from gridfs_client.opening import turn_of
-from gridfs_client.tables import Table
+from stand_in import Server, about_chunks
 
 FOLDERS, STAMP = 1_000, 1_790_000_000_000
 
@@ -72,7 +74,7 @@ class Filled:
         self.sessions, self.share, self.most, self.volumes = tenant_of(plan)
         self.layout = Layout(self.sessions, tuple(Volume(*each) for each in self.volumes))
         self.last, self.told, self.files, self.pieces, self.slot_of = {}, {}, {}, {}, {}
-        self.counts, self.bytes = collections.Counter(), 0
+        self.counts, self.bytes, self.chunks = collections.Counter(), 0, Server(0, 1 << 40)
         told = [f"{files}.{blocks}" for files, blocks in self.volumes]
         if len(told) > 64:
             told = [f"{word}.{len(list(alike))}" for word, alike in itertools.groupby(told)]
@@ -84,7 +86,6 @@ class Filled:
         layout = self.layout
         pages, puts = collections.defaultdict(list), collections.Counter()
         classes = {session: Classes(layout, session) for session in range(1, self.sessions + 1)}
-        taken = collections.defaultdict(set)
         pages[layout.page_of(".s3/bucket/bench"), 1].append(f"1 {{t={STAMP}}} @ .s3/bucket/bench\n")
         for number in range(names):
             name = name_of(number)
@@ -102,14 +103,11 @@ class Filled:
             self.pieces[place.volume, place.file] = session, put, which
             if names <= 200_000:
                 self.slot_of[name] = place.volume, place.file
-            taken[session].add(slot)
             pages[page, session].append(f"{words} {size} {digest} {put} {session}:{slot} {name}\n")
         for (page, session), lines in pages.items():
             number = max(int(line.split(" ", 1)[0]) for line in lines)
             content = f"names 2 {number}\n{''.join(lines)}".encode()
             self.files[layout.page(session, page)] = self.files[layout.journal(session, page)] = number, session, content
-        for session, slots in taken.items():
-            self.files[layout.table(session)] = puts[session], session, Table(frozenset(slots)).to_bytes()
         lengths = [len(content) for _, _, content in self.files.values()]
         self.fullest = max(lengths, default=0)
 
@@ -180,11 +178,12 @@ async def main(names, sizes):
 
     async def serve(reader, writer):
         while line := await reader.readline():
-            to, name, body = line.decode().rstrip("\n").split(" ", 2)
-            if name == "bench":
+            to, name, body = line.rstrip(b"\n").split(b" ", 2)
+            if name == b"bench":
                 writer.write(tenant.count().encode() + b"\n")
-            elif to == "0" and name == "carol" and re.match("[a-z]", body) and (told := tenant.answer(body)):
-                writer.write(f"{name} 0 {told}\n".encode())
+            elif to == b"0" and name == b"carol" and re.match(b"[a-z]", body):
+                told = about_chunks(tenant, body) or (tenant.answer(body.decode()) or "").encode()
+                writer.write(b"carol 0 %b\n" % told if told else b"")
 
     await asyncio.start_unix_server(serve, path, limit=1 << 23)
     with open(os.path.join(FOLDER, "carol.ini"), "w", encoding="ascii") as out:

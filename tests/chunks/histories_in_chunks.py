@@ -8,6 +8,7 @@ that. A client that says that a content is damaged is wrong too."""
 import argparse
 import collections
 import contextlib
+import dataclasses
 import random
 import sys
 import time
@@ -17,9 +18,11 @@ from servers import PLACES, Net, Servers
 
 import registers
 from histories import History, Killed
-from gridfs_client import ClientError, NamedFiles, NoRoom, Pace, Replaced, SessionTaken, Unanswered, chunks
+from gridfs_client import ClientError, NamedFiles, Pace, Replaced, SessionTaken, Unanswered, chunks, pieces
 from gridfs_client.chunks import Chunks, Keeping, Question
 from gridfs_client.in_chunks import ChunkContents
+from gridfs_client.pages import text_of
+from gridfs_client.renewing import Renewal
 from gridfs_client.writers import Writer
 
 
@@ -27,6 +30,7 @@ from gridfs_client.writers import Writer
 PACE = Pace(again=0.5, again_at_most=2, timeout=60)
 SIZES = (3, 90, 150, 330)
 KILLS, LATE = (0, 0.002, 0.01, 0.02), (0.1, 0.02, 0.005)
+LEVELS, SPLITS = ((), (), (2,)), 0.1  # of more pages: into how many parts a page splits; and how often one does
 
 
 class Contents(History):
@@ -166,7 +170,8 @@ class Clients(registers.Registers):
 def try_chunks(seed, kind=NamedFiles, operations=50):
     draw = random.Random(seed)
     sessions = draw.choice((2, 3))
-    memory = Chunked(draw, sessions, page_blocks=16, slots=3)
+    levels = draw.choice(LEVELS)
+    memory = Chunked(draw, sessions, levels=levels)
     world = Clients(draw, memory, has_carriers(memory, kind), draw.choice(KILLS), draw.choice((0, 0, 0.1)), draw.choice(LATE), draw.choice((0, 0.5)))
     history = Contents(["a", "b b"][: draw.choice((1, 2))], SIZES, registers.Stream, (5, 5, 2, 1))
     left, faults = [operations], []
@@ -177,6 +182,8 @@ def try_chunks(seed, kind=NamedFiles, operations=50):
                 left[0] -= 1
                 if draw.random() < 0.4:
                     memory.happen()
+                if levels and draw.random() < SPLITS:
+                    registers.split(files, draw, history)
                 if len(client.numbers) == sessions and draw.random() < 0.2:
                     files.sweep()
                     history.counts["sweeps"] = history.counts.get("sweeps", 0) + 1
@@ -297,6 +304,11 @@ def sweeps_pages(self):
     return [self.bucket(page).client.seen[self.me - 1].page for page in range(self.layout.pages)]
 
 
+def sweeps_old_pages(self, is_known=False):
+    """A sweep goes by the pages of level 0 alone."""
+    return (self.bucket(page) for page in range(self.layout.pages))
+
+
 def takes_any_number(self, told, before=chunks.Keeper.take):
     """A number that somebody else has is taken for the own."""
     if told.word == "refused differs" and told.key in self.by_key:
@@ -311,13 +323,34 @@ def no_digest(self, cuts):
         yield piece or b""
 
 
+def any_piece(session, put, place, piece):
+    """What a slot holds is taken for the piece, whatever its head says."""
+    return piece.partition(b"\n")[2]
+
+
+def writes_first(self, bucket, name, source, words=None, before=NamedFiles.in_place):
+    """Something is written before it is known whether there is room."""
+    self.session.write(*self.layout.journal(self.me, bucket.number), text_of(bucket.journal))
+    return before(self, bucket, name, source)
+
+
+def renews_anew(self, bucket, line, before=Renewal.moved):
+    """A content that goes to chunks gets a new version."""
+    return dataclasses.replace(before(self, bucket, line), version=bucket.new_version().number)
+
+
 BUGS = {
+    "any_piece": patched(pieces, without_head=any_piece),
+    "waits_for_forgets": patched(Chunks, begin_to_forget=lambda self: self.forget_unneeded()),
+    "writes_first": patched(NamedFiles, in_place=writes_first),
+    "renews_anew": patched(Renewal, moved=renews_anew),
     "one_short": patched(Keeping, is_kept=one_short),
     "any_p": patched(Keeping, is_kept=any_p),
     "forgets_all_below": patched(Chunks, forget=forgets_all_below),
     "forgets_first": patched(Writer, change=forgets_first),
     "sweeps_one": patched(Chunks, numbers_at=sweeps_one),
-    "sweeps_pages": patched(Writer, journals=sweeps_pages, find_room=lambda self: None),
+    "sweeps_pages": patched(Writer, journals=sweeps_pages, carry_all=lambda self: None),
+    "sweeps_old_pages": patched(Writer, all_buckets=sweeps_old_pages),
     "takes_any_number": patched(chunks.Keeper, take=takes_any_number),
     "no_digest": patched(ChunkContents, read_cuts=no_digest),
 }

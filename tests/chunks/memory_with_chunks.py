@@ -10,7 +10,6 @@ from memory import Memory, MemorySession
 from servers import Net, Servers
 
 from gridfs_client import NamedFiles, OneByOne, Pace
-from gridfs_client.contents import InSlots
 from gridfs_client.in_chunks import ChunkContents
 
 SHORT = 100  # bytes of a chunk here
@@ -40,11 +39,19 @@ class Stepped(Net):
             self.coming.pop()[2]()
 
 
+def with_chunks(session, memory):
+    """Gives a session over these registers chunks, at nodes that are always up: its client dies at none of their lines."""
+    memory.servers = getattr(memory, "servers", None) or Servers(sessions=memory.layout.sessions)
+    session.carrier, session.pace = Net(memory.servers), PACE
+    session.carrier.told = memory.servers.plan()
+    return session
+
+
 class World(Memory):
     """Pages and journals in registers, and chunks at servers."""
 
     def __init__(self, sessions=2, pages=1, servers=None, seed=0, **more):
-        super().__init__(sessions, pages, **more)
+        super().__init__(sessions, pages, **{"page_blocks": 16, **more})
         self.servers, self.late, self.draw = servers or Servers(sessions=sessions), [], random.Random(seed)
 
     def client(self, number, at_step=None, kind=NamedFiles, helpers=(), others=()):
@@ -68,12 +75,13 @@ class World(Memory):
             self.servers.take(node, body)
 
     def named(self):
-        """The chunks that pages and journals name: column, session and number, each with its session's page."""
-        every = range(1, self.layout.sessions + 1)
-        files = self.client(1, None)
-        pages = [files.writer.bucket(page).read(place(session, page)).page for page in range(self.layout.pages) for session in every for place in (self.layout.page, self.layout.journal)]
-        parts = {part for page in pages for part in page.in_chunks() if not isinstance(part, InSlots)}
-        return {place for run in files.writer.contents.runs_in(parts) for place in run.places()}
+        """The chunks that pages and journals name which count: column, session and number."""
+        writers, parts = [self.client(session).writer for session in range(1, self.layout.sessions + 1)], set()
+        for writer in writers:
+            for bucket in writer.all_buckets():
+                bucket.look()
+                parts |= bucket.journal.in_chunks() | bucket.page_of(writer.me).in_chunks()
+        return {place for run in writers[0].contents.runs_in(parts) for place in run.places()}
 
     def kept(self):
         return {(place % self.servers.shape.columns, *key) for place, server in self.servers.at.items() for key in server.chunks}

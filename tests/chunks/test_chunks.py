@@ -308,11 +308,22 @@ class Asked(unittest.TestCase):
         self.assertGreater(net.clock, before + 29)
 
     def test_no_room_and_nodes_of_before(self):
-        net = Net(Servers(allowed=0))
-        self.assertEqual(client(net).ask_rooms(30), {})
+        chunks = client(Net(Servers(allowed=0)))
+        self.assertIsNone(chunks.allowed())
+        self.assertEqual((chunks.ask_rooms(30), chunks.allowed()), ({}, 0))
+        self.assertRegex(chunks.why_no_room(), "the plan gives the tenant none for chunks; once all nodes and all clients .* more NAME 16G in chunks")
+        # One that is of before keeps its column from being used.
         servers = Servers()
         servers.at[1].knows_chunks = False
-        self.assertEqual(client(Net(servers)).ask_rooms(30), {})
+        chunks = client(Net(servers))
+        self.assertEqual(sorted(chunks.usable(chunks.ask_rooms(30))), [0])
+        for server in servers.at.values():
+            server.knows_chunks = False
+        net = Net(servers)
+        chunks = client(net)
+        self.assertEqual(chunks.ask_rooms(30), {})
+        self.assertLess(net.clock, 0.5)
+        self.assertRegex(chunks.why_no_room(), "nodes 0, 1, 2 and 3 keep no chunks; once all nodes and all clients .* more NAME 16G in chunks")
 
     def test_numbers(self):
         servers = Servers()
@@ -321,6 +332,30 @@ class Asked(unittest.TestCase):
         server.chunks = {(1, number): b"x" for number in range(5, 5005, 2)} | {(2, 6): b"y"}
         self.assertEqual(list(client(net).numbers_at(2, 1)), list(range(5, 5005, 2)))
         self.assertEqual(list(client(net).numbers_at(0, 1)), [])
+
+    def test_forget_and_wait_for_nobody(self):
+        """Nodes are asked at once, and what they told is taken later; what is not told by then is asked again."""
+        servers = Servers()
+        net = Net(servers)
+        for server in servers.at.values():
+            server.chunks = {(1, number): b"x" for number in range(1, 9)}
+        servers.at[2].is_up = False
+        chunks = client(net)
+        chunks.not_needed([Run(0, 1, 1, 2), Run(1, 1, 3, 2)])
+        begun = net.clock
+        chunks.begin_to_forget()
+        self.assertEqual((net.clock - begun, len(net.sent), [len(server.chunks) for server in servers.at.values()]), (0, 4, [8] * 4))
+        chunks.not_needed([Run(1, 1, 5)])
+        net.receive(net.attach_chunks({}), 0.1)  # (time goes on)
+        chunks.begin_to_forget()
+        self.assertEqual([len(server.chunks) for server in servers.at.values()], [6, 6, 8, 6])
+        self.assertTrue(chunks.has_unneeded)
+        self.assertFalse(chunks.forget_unneeded(1))
+        self.assertEqual((chunks.unneeded, [len(server.chunks) for server in servers.at.values()]), ([Run(0, 1, 1, 2)], [6, 5, 8, 5]))
+        servers.at[2].is_up = True
+        self.assertTrue(chunks.forget_unneeded(1))
+        self.assertEqual((chunks.has_unneeded, [len(server.chunks) for server in servers.at.values()]), (False, [6, 5, 6, 5]))
+        self.assertEqual(len(net.asked), 1)  # (that of this test: none is kept of what has ended)
 
     def test_forget_many(self):
         servers = Servers()

@@ -1,5 +1,6 @@
 """Names whose contents are in chunks, step by step: what a client leaves that dies at each of its steps, and what another one sees."""
 
+import contextlib
 import hashlib
 import io
 import itertools
@@ -7,10 +8,8 @@ import os
 import random
 import unittest
 from dataclasses import replace
-from unittest import mock
 
 from memory_with_chunks import SHORT, Killed, World
-from servers import Servers
 
 from gridfs_client import BadSettings, Damaged, NamedFiles, NoRoom, NoSuchName, Replaced, Unanswered
 from gridfs_client.chunk_lines import CHUNK_CHARGE
@@ -19,6 +18,7 @@ from gridfs_client.pages import parse_line
 from gridfs_client.renewing import Renewed, renew
 from gridfs_client.status import usage_lines, usage_value
 from gridfs_client.usage import usage_of
+from in_slots import OldClient, tables
 from registers import Stream
 
 LONG, OLD, NEW = os.urandom(350), os.urandom(210), os.urandom(SHORT)
@@ -164,53 +164,86 @@ class Names(unittest.TestCase):
         self.servers.at[3].is_up = True
         self.swept()
 
-    def test_slots_are_read_and_freed(self):
-        with mock.patch.object(Servers, "take", lambda *_: b"refused bad"):
-            files = self.world.client(1)
-            files.put("name", OLD)
-            files.put("stays", OLD)
-            self.assertIsInstance(content_of(files, "name"), InSlots)
-            free = len(files.writer.keeper.free())
-        files = self.world.client(1)
-        self.assertEqual(self.world.client(2).get("name")[0], OLD)
-        files.put("name", LONG)
-        files.close()
-        self.assertIsInstance(content_of(files, "name"), InChunks)
-        self.assertGreater(len(files.writer.keeper.free()), free)
-        self.assertEqual(self.world.client(2).get("name")[0], LONG)
-        self.assertEqual(self.world.client(2).get("stays")[0], OLD)
-
-    def in_slots(self, **contents):
-        """Contents that were put before there was room for chunks, by session 1, with slots of session 2 where they want many."""
+    def in_slots(self, room=None, **contents):
+        """Contents that session 1 put before there were chunks, the long ones by turns in slots of session 2 too; what slot tables say."""
         self.world = World(slots=16)
         self.servers = self.world.servers
-        with mock.patch.object(Servers, "take", lambda *_: b"refused bad"):
-            files = self.world.client(1, helpers=(2,))
-            files.many_pieces = 3
-            for name, content in contents.items():
-                files.put(name, content, lambda: f"words-of-{name}")
-            files.close()
-            lines = [files.bucket(name).held(name) for name in contents]
-        self.assertTrue(all(isinstance(line.content, InSlots) for line in lines if line.content.size > 64))
-        return lines
+        self.give_room(room)
+        old = OldClient(self.world.client(1).session, self.world.layout, [self.world.client(2).session], least=250)
+        for name, content in contents.items():
+            old.put(name, content, words=f"words-of-{name}")
+        return self.told_by_tables()
 
-    def free(self, number):
-        """The slots that a session could take after a sweep."""
-        files = self.world.client(number)
-        files.writer.keeper.recall()
-        return len(files.writer.keeper.free())
+    def give_room(self, allowed):
+        for server in self.servers.at.values():
+            server.allowed = server.allowed if allowed is None else allowed
+
+    def told_by_tables(self):
+        return tables(lambda *place: self.world.read(place), self.world.layout)
+
+    def test_contents_in_slots_are_read_on(self):
+        """By clients of all sessions, with room for chunks and without. What takes their place is in chunks; nobody writes a slot or a table any more."""
+        told = self.in_slots(room=0, name=OLD, long=LONG, joined=NEW)
+        self.assertTrue(all(told))
+        self.joined_of("name", "long")
+        slots = {place: copy for place, copy in self.world.registers.items() if place[0] >= self.world.layout.names_volumes}
+        for allowed in (0, 64 << 20):
+            self.give_room(allowed)
+            for session in (1, 2):
+                files = self.world.client(session)
+                self.assertEqual([(each.name, each.size, each.words) for each in files.names()], [("joined", len(OLD + LONG), "joined"), ("long", len(LONG), "words-of-long"), ("name", len(OLD), "words-of-name")])
+                for name, content in (("name", OLD), ("long", LONG), ("joined", OLD + LONG)):
+                    self.assertEqual((files.get(name)[0], files.stat(name).pieces > 1), (content, True))
+        files, other = self.world.client(1), self.world.client(2)
+        files.put("name", LONG)
+        other.put("long", NEW)
+        files.remove("joined")
+        self.assertEqual([each.content.__class__ for each in (files.bucket("name").held("name"), other.bucket("long").held("long"))], [InChunks, InChunks])
+        for reader in (files, other):
+            self.assertEqual([content_or_none(reader, name) for name in ("name", "long", "joined")], [LONG, NEW, None])
+            reader.close()
+        self.swept()
+        self.assertEqual([content_or_none(self.world.client(2), name) for name in ("name", "long", "joined")], [LONG, NEW, None])
+        self.assertEqual(self.told_by_tables(), told)
+        self.assertEqual({place: copy for place, copy in self.world.registers.items() if place[0] >= self.world.layout.names_volumes}, slots)
+
+    def joined_of(self, *names):
+        """Gives the name `joined` what these hold, one behind the other, by session 1."""
+        files = self.world.client(1)
+        bucket = files.bucket("joined")
+        bucket.look(own=True)
+        files.commit(bucket, "joined", joined([part for name in names for part in bucket.held(name).content.parts]), "joined")
+
+    def test_no_room_for_chunks(self):
+        """A content that fits no line is refused before anything is written, and why is told; one that fits is put, and slots are read."""
+        told = self.in_slots(room=0, name=OLD)
+        files, before = self.world.client(2), dict(self.world.registers)
+        for content in (LONG, Stream(LONG), Stream(bytes(3 << 20))):
+            with self.assertRaisesRegex(NoRoom, "name: no room: the plan gives the tenant none for chunks; .*more NAME 16G in chunks"):
+                files.put("name", content)
+        for server in self.servers.at.values():
+            server.knows_chunks = False
+        with self.assertRaisesRegex(NoRoom, "name: no room: nodes 0, 1, 2 and 3 keep no chunks; .*more NAME 16G in chunks"):
+            self.world.client(1).put("name", LONG)
+        with self.assertRaisesRegex(BadSettings, "nodes 0, 1, 2 and 3 keep no chunks"):
+            renew(self.world.client(1))
+        self.assertEqual((dict(self.world.registers), self.told_by_tables(), self.world.kept()), (before, told, set()))
+        self.assertEqual(files.get("name")[0], OLD)
+        files.put("name", b"short")
+        self.assertEqual(self.world.client(1).get("name")[0], b"short")
 
     def test_renew(self):
-        free = [16, 16]
-        before = self.in_slots(name=OLD, stays=NEW, long=os.urandom(1_500), short=b"in its line")
-        self.assertLess(self.free(2), free[1])  # (some were lent)
+        told = self.in_slots(name=OLD, stays=NEW, long=os.urandom(1_500))
         other = self.world.client(2)
+        self.world.client(1).put("short", b"in its line", lambda: "words-of-short")
+        other.names()
+        before = [other.bucket(name).held(name) for name in ("name", "stays", "long", "short")]
         contents = {held.name: other.get(held.name)[0] for held in before}
         other.put("name", LONG)  # by then the first session's line is no more than an older one
         files = self.world.client(1)
         self.assertEqual(renew(files), Renewed(2, SHORT + 1_500, 0))
         files.close()
-        self.assertEqual([self.free(number) for number in (1, 2)], free)
+        self.assertEqual(self.told_by_tables(), told)
         for reader in (other, self.world.client(1)):
             self.assertEqual(reader.get("name")[0], LONG)
             for held in before[1:]:
@@ -302,11 +335,9 @@ class Names(unittest.TestCase):
         self.assertGreater(at, 15)
 
     def test_renew_without_room(self):
-        self.in_slots(name=OLD, long=LONG)
-        with mock.patch.object(Servers, "take", lambda *_: b"refused bad"):
-            self.assertRaises(BadSettings, renew, self.world.client(1))
-        for server in self.servers.at.values():
-            server.allowed = 3 * (SHORT + CHUNK_CHARGE)
+        self.in_slots(room=0, name=OLD, long=LONG)
+        self.assertRaises(BadSettings, renew, self.world.client(1))
+        self.give_room(3 * (SHORT + CHUNK_CHARGE))
         files = self.world.client(1)
         self.assertRaises(NoRoom, renew, files)  # (the first content has room, and has moved)
         files.close()
@@ -322,17 +353,12 @@ class Names(unittest.TestCase):
 
     def test_renew_in_a_full_page(self):
         """Words of chunks are longer than those of slots. What its page has no room for stays, and can be put and taken away as before."""
-        self.world = World(slots=30)
-        names, kept = [f"name-{number}" for number in range(30)], {}
-        with mock.patch.object(Servers, "take", lambda *_: b"refused bad"):
-            files = self.world.client(1)
-            try:
-                for name in names:
-                    files.put(name, OLD[: 65 + len(kept)])
-                    kept[name] = OLD[: 65 + len(kept)]
-            except NoRoom:
-                pass
-            files.close()
+        self.world, kept = World(slots=60), {}
+        old = OldClient(self.world.client(1).session, self.world.layout)
+        with contextlib.suppress(NoRoom):
+            for number in range(30):
+                old.put(f"name-{number}", OLD[: 65 + number])
+                kept[f"name-{number}"] = OLD[: 65 + number]
         files = self.world.client(1)
         told = renew(files)
         self.assertGreater(told.left, 0)
@@ -470,8 +496,9 @@ class Names(unittest.TestCase):
         other = self.world.client(2)
         with self.assertRaisesRegex(BadSettings, "name is in chunks: `grid` has to say"):
             other.get("name")
-        other.put("other", OLD)
-        self.assertIsInstance(content_of(other, "other"), InSlots)
+        with self.assertRaisesRegex(NoRoom, "other: no room: no node tells how the nodes are arranged"):
+            other.put("other", OLD)
+        other.put("other", b"short")
 
     def test_the_status_tells_room_by_column(self):
         files = self.world.client(1)
@@ -487,15 +514,6 @@ class Names(unittest.TestCase):
         self.assertEqual(lines, [f"chunks in column {each}: {used[each]} bytes used of {64 << 20}{end[each]}" for each in (0, 1)])
         self.assertEqual(usage_value(usage, None)["chunks"][1], {"column": 1, "used": used[1], "allowed": 64 << 20, "silent": (3,), "lacking": ()})
 
-    def test_the_status_tells_no_slots_where_there_are_none(self):
-        files = self.world.client(1)
-        files.put("name", LONG)
-        usage = usage_of(files)
-        self.assertTrue(any("slots" in line for line in usage_lines(usage, None)))
-        for usage in (replace(usage, slots_free=1), replace(usage, slots_free=0)):
-            self.assertEqual([line for line in usage_lines(usage, None) if "slots" in line or line.startswith("bytes")], [f"bytes: {len(LONG)} used"])
-        self.assertTrue(any("slots" in line for line in usage_lines(replace(usage, slots_taken=1), None)))
-
     def test_what_is_replaced_can_be_read_for_a_while(self):
         files = self.world.client(1)
         files.put("name", OLD)
@@ -503,7 +521,9 @@ class Names(unittest.TestCase):
         files.put("other", LONG)
         self.assertGreater(len(self.world.kept()), len(self.world.named()))
         files.forget_after = 0
-        files.put("last", NEW)
+        files.put("last", NEW)  # (which asks nodes to forget, and waits for none)
+        self.assertGreater(len(self.world.kept()), len(self.world.named()))
+        files.get("last")
         self.assertEqual(self.world.kept(), self.world.named())
 
 

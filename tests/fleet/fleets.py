@@ -22,10 +22,11 @@ from unittest import mock
 
 sys.dont_write_bytecode = True
 HERE = os.path.dirname(os.path.abspath(__file__))
-sys.path[:0] = [HERE, os.path.join(HERE, "..", "names")]
+sys.path[:0] = [HERE, *(os.path.join(HERE, "..", name) for name in ("names", "chunks"))]
 from histories import History, Killed
 from maps import Maps
 from memory import Memory, MemorySession
+from memory_with_chunks import with_chunks
 
 from gridfs_client import ClientError, NamedFiles, NoRoom, OneByOne, core, splits, ways
 from gridfs_client.buckets import Bucket
@@ -87,14 +88,14 @@ class Actor:
 
     def files(self, grid, numbers, ground, kind=NamedFiles):
         memory = self.fleet.memories[grid]
-        return kind(MemorySession(memory, self.take(grid, numbers), self.step), memory.layout, team=OneByOne(), ground=ground)
+        return kind(with_chunks(MemorySession(memory, self.take(grid, numbers), self.step), memory), memory.layout, team=OneByOne(), ground=ground)
 
 
 class Fleet(Maps):
-    def __init__(self, draw, labels, sessions, pages, slots, page_blocks, levels=itertools.repeat(())):
+    def __init__(self, draw, labels, sessions, pages, page_blocks, levels=itertools.repeat(())):
         super().__init__(labels)
         self.draw, self.sessions, self.held = draw, sessions, set()
-        self.memories = {label: Memory(sessions, pages, page_blocks, slots, 2, more) for label, more in zip(labels, levels)}
+        self.memories = {label: Memory(sessions, pages, page_blocks, levels=more) for label, more in zip(labels, levels)}
         self.counts = collections.Counter()
 
     def all(self):
@@ -143,13 +144,13 @@ def split(files, draw):
             some.grow() if draw.random() < 0.3 else some.writer.split(some.writer.bucket(draw.randrange(levels[-1].first)))
 
 
-def try_fleet(seed, operations=60, client_of=plain, page_blocks=40, slots=(8, 12), splits=0.0):
+def try_fleet(seed, operations=60, client_of=plain, page_blocks=(40, 48), splits=0.0):
     """A history of clients that `client_of` makes, of a map, an actor and what is drawn. `splits` of the operations are that a page splits."""
     draw, splitting = random.Random(seed), random.Random(f"splits {seed}")
     labels = LABELS[: draw.choice((2, 2, 3))]
     clients = draw.choice((2, 3))
     levels = [splitting.choice(((2,), (3,), (2, 2), ())) if splits else () for _ in labels]
-    fleet = Fleet(draw, labels, clients + draw.choice((1, 2)), draw.choice((1, 1, 2)), draw.choice(slots), page_blocks, levels)
+    fleet = Fleet(draw, labels, clients + draw.choice((1, 2)), draw.choice((1, 1, 2)), draw.choice(page_blocks), levels)
     names = ["a", "b b", "ç"][: draw.choice((1, 2, 3))]
     history = History(names, (3, 45, 150), weights=draw.choice(((4, 5, 2, 1), (4, 4, 4, 0), (2, 6, 1, 0))))
     returns = random.Random(-seed)

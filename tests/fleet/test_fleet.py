@@ -13,12 +13,15 @@ import unittest
 from unittest import mock
 
 HERE = os.path.dirname(os.path.abspath(__file__))
-sys.path[:0] = [os.path.join(HERE, "..", "names"), os.path.join(HERE, "..", "s3")]
+sys.path[:0] = [os.path.join(HERE, "..", name) for name in ("names", "chunks", "s3")]
 import fleets
 from endpoint import stand_in
 from histories import Killed
+from in_slots import OldClient, tables
 from maps import Maps
 from memory import Memory, MemorySession
+from memory_with_chunks import with_chunks
+from servers import Servers
 
 from gridfs_client import BadSettings, NamedFiles, NoRoom, NoSuchName, OneByOne, Unanswered, command, core, fleet_command, ways
 from gridfs_client.buckets import held_of
@@ -39,7 +42,7 @@ SETTINGS = "[gridfs]\ntenant = ann\nsocket = none\n"
 class Grids(Maps):
     """Grids of memory, and a map by which all names are at `east`, or go from there to `west`."""
 
-    def __init__(self, sessions=2, slots=8, pages=1, labels=("east", "west"), page_blocks=16, levels=()):
+    def __init__(self, sessions=2, slots=0, pages=1, labels=("east", "west"), page_blocks=64, levels=()):
         super().__init__(labels)
         self.memories = {label: Memory(sessions, pages, page_blocks, slots, 2, levels) for label in labels}
         self.steps, self.at_step = 0, lambda _: None
@@ -51,7 +54,7 @@ class Grids(Maps):
 
     def named(self, label, number, ground, watched=False):
         memory = self.memories[label]
-        return NamedFiles(MemorySession(memory, number, self.step if watched else None), memory.layout, team=OneByOne(), ground=ground)
+        return NamedFiles(with_chunks(MemorySession(memory, number, self.step if watched else None), memory), memory.layout, team=OneByOne(), ground=ground)
 
     def files(self, number, fleet_map=None, watched=False):
         return FleetFiles(fleet_map or self.map, lambda label, ground: self.named(label, number, ground, watched))
@@ -272,7 +275,7 @@ class Moves(unittest.TestCase):
     def test_taken_back(self):
         """A move whose new grid has no room is taken back, whatever was copied and changed there until then; and goes to another grid then."""
         for most in (*range(2, 12), *range(12, 60, 5)):
-            grids, held = self.filled(labels=("east", "west", "south"), slots=12)
+            grids, held = self.filled(labels=("east", "west", "south"))
             grids.begin(0, SLICES - 1, "west")
             if not self.ends_for_lack_of_room(grids, most):
                 self.assertGreater(most, 10)
@@ -334,12 +337,12 @@ class Moves(unittest.TestCase):
 
     def test_parts(self):
         """A content of several parts has them still after a move, at a grid of another layout too."""
-        grids = Grids(slots=12)
-        grids.memories["west"] = Memory(3, 5, 16, 12, 2)
+        grids = Grids(page_blocks=16)
+        grids.memories["west"] = Memory(3, 5, 16)
         files = grids.named("east", 1, Ground("east", lambda _: 0))
         bucket = files.bucket("joined")
         bucket.look(own=True)
-        parts = tuple(files.in_slots(bucket, "joined", Source(content)) for content in (LONG, b"short", LONG[:130]))
+        parts = tuple(files.in_place(bucket, "joined", Source(content)) for content in (LONG, b"short", LONG[:130]))
         files.commit(bucket, "joined", Joined(parts), "w")
         before = grids.files(1).stat("joined")
         grids.begin(0, SLICES - 1, "west")
@@ -350,6 +353,46 @@ class Moves(unittest.TestCase):
         moved = grids.named("west", 1, Ground("west", lambda _: 1))
         moved.bucket("joined").refresh()
         self.assertEqual([part.size for part in moved.bucket("joined").held("joined").content.parts], [200, 5, 130])
+
+    def in_slots(self):
+        """Grids with contents that a client from before chunks put at the old one, in slots that a session lent too."""
+        grids = Grids(slots=12)
+        sessions = [grids.named("east", number, Ground("east", lambda _: 0)).session for number in (1, 2)]
+        old = OldClient(sessions[0], grids.memories["east"].layout, sessions[1:])
+        old.put("long", LONG)
+        old.put("joined", LONG, LONG[:130], words="w")
+        return grids, tables(lambda *place: grids.memories["east"].read(place), grids.memories["east"].layout)
+
+    def test_contents_in_slots(self):
+        """They are read by each map, put over, and moved into chunks."""
+        grids, told = self.in_slots()
+        files = grids.files(2)
+        self.assertEqual([files.get(name)[0] for name in ("long", "joined")], [LONG, LONG + LONG[:130]])
+        grids.begin(0, SLICES - 1, "west")
+        grids.end()
+        for fleet_map in grids.maps:
+            files = grids.files(2, fleet_map)
+            self.assertEqual([files.get(name)[0] for name in ("long", "joined")], [LONG, LONG + LONG[:130]])
+            self.assertEqual(files.stat("joined").words, "w")
+        files.put("long", LONG + b"x")
+        self.assertEqual(grids.files(1).get("long")[0], LONG + b"x")
+        east = grids.memories["east"]
+        self.assertEqual(tables(lambda *place: east.read(place), east.layout), told)  # (which nobody writes)
+
+    def test_a_new_grid_without_room_for_chunks(self):
+        """The move is refused, and says why; the names are what they were."""
+        grids, _ = self.in_slots()
+        west = grids.memories["west"]
+        west.servers = Servers(sessions=2, allowed=0)
+        grids.begin(0, SLICES - 1, "west")
+        with self.assertRaisesRegex(NoRoom, "the plan gives the tenant none for chunks; .*more NAME 16G in chunks"):
+            grids.mover().run()
+        files = grids.files(2)
+        self.assertEqual([files.get(name)[0] for name in ("long", "joined")], [LONG, LONG + LONG[:130]])
+        with self.assertRaisesRegex(NoRoom, "more NAME 16G in chunks"):
+            files.put("long", bytes(300))
+        files.put("long", b"short")
+        self.assertEqual(grids.files(1).get("long")[0], b"short")
 
     def test_along(self):
         for name in ("a", "b/c", "ä"):
@@ -395,7 +438,7 @@ class Moves(unittest.TestCase):
 
     def test_other_layout(self):
         grids, held = self.filled(pages=2)
-        grids.memories["west"] = Memory(3, 5, 16, 8, 2)
+        grids.memories["west"] = Memory(3, 5, 16)
         grids.begin(0, SLICES - 1, "west")
         grids.end()
         self.expect(grids, held)
@@ -697,7 +740,7 @@ class OverGrids(unittest.TestCase):
 
     def test_a_grid_without_room(self):
         """A move that finds no room is taken back, and its slices go to a grid with room."""
-        plan = "grid 1 1\nroom 100000\ntenant carol 40000 4 1000 1024\ngo\n" + "carol open 8 4\n" * 2 + "carol open 12 256\ncarol open 4 64\n"
+        plan = "grid 1 1\nroom 100000\ntenant carol 40000 4 1000 1024\ngo\n" + "carol open 8 4\n" * 2 + "carol open 1 1\ncarol chunks 4000\n"
         with open("plan", "w") as out:
             out.write(plan)
         os.symlink(os.path.join(self.enterContext(stand_in("plan")), "carol.ini"), "small.ini")
@@ -742,7 +785,7 @@ class OverGrids(unittest.TestCase):
 
 
     def spread(self, count):
-        """Names at both grids, with their contents; some of these stand in slots."""
+        """Names at both grids, with their contents; some of these stand in chunks."""
         self.fleet("add", "west", "west.ini")
         self.fleet("spread")
         held = {f"folder/name {number}": f"{number} " * (1 + 40 * (number % 3)) for number in range(count)}
@@ -796,7 +839,7 @@ class OverGrids(unittest.TestCase):
         with open("west.ini", "w") as out:
             out.write(SETTINGS)
         told = self.client("status", status=6)
-        self.assertIn("west:\n  names, pages, slots, bytes: left out: none: No such file or directory", told)
+        self.assertIn("west:\n  names, pages, bytes: left out: none: No such file or directory", told)
         self.assertIn("not all is told: west: none: No such file or directory", told)
 
 

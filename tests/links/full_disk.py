@@ -12,13 +12,12 @@ from gridfs_grid.links import Command, Grid
 from gridfs_grid.places import CLIENT
 from processes import check
 
-FULL, ROOM = 3, 40_000  # the node, and the bytes that its journal may grow still: a short line has room there, and a long one has none
+FULL, ROOM = 3, 10_000  # the node, and the bytes that its journal may grow still: a short line has room there, and a long one has none
 SESSIONS, OF_FULL = 6, "4"  # of the tenant, and the first one whose home it is
 FEW = 6  # files of a folder
 TIMEOUT = 12  # seconds
-# Contents are in slots, so their pieces stand in journals.
-PLAN = "grid 2 2\nroom 138880\ntenant ann 138880 6 1000000 16384\ngo\n" + 12 * "ann open 6 16\n" + 17 * "ann open 64 64\n" + "ann open 40 64\nann open 4 16384\n"
-SIZE = 150_000  # bytes of a content, whose pieces have no room
+PLAN = "grid 2 2\nroom 10000\ntenant ann 10000 6 1000000 16\ngo\n" + 12 * "ann open 6 16\n" + "ann open 1 1\nann chunks 65536\n"
+SIZE = 16_000  # bytes of a content, which stands in journals as short chunks do, and has no room there
 
 
 class FullGrid(Grid):
@@ -114,8 +113,9 @@ def told(program, carry):
         grid.fill()
         status, seconds, why = asked(settings, "--session", OF_FULL, "put", "-", "by its session", given=b"y" * SIZE)
         check(grid.write_faults() > 1, f"the disk was not full: {grid.told(FULL)}")
-        check(status == 4 and seconds < 2 * TIMEOUT, f"a put by a session whose home has a full disk: {status} after {seconds:.0f} s: {why}")
-        # A command that knows nothing of it goes to other sessions; so does one that has several names to put.
+        check(status == 0 and seconds < 2 * TIMEOUT, f"a put by a session whose home has a full disk: {status} after {seconds:.0f} s: {why}")
+        contents["by its session"] = b"y" * SIZE  # (at another column)
+        # So does a command that knows nothing of it, and one that has several names to put.
         name = next(name for name in map("name {}".format, range(1000)) if turn_of(name, SESSIONS) == int(OF_FULL) - 1)
         contents[name] = b"z" * SIZE
         faults = grid.write_faults()

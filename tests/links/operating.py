@@ -116,7 +116,7 @@ def nodes_begin():
     check(modes == [0o755] * 3, f"the modes of programs are {modes}")
     check(not os.path.exists("/run/bundle"), "the bundle stays")
     check(asked_of_systemd("enable") == list(NODES), "not all are enabled")
-    client("ann", "put", "-", "name", given=b"hello" * 60)
+    client("ann", "put", "-", "name", given=b"hello" * 10)
     refuses(1, "journal: there is one", "bring", "--new", "desk", "0")
 
 
@@ -133,7 +133,7 @@ def plans_go_on():
     lines = told.splitlines()
     check(len(lines) == len(steps) and all(map(str.startswith, lines, steps)), told)
     client("bob", "put", "-", "his", given=b"bob")
-    check(client("ann", "get", "name") == b"hello" * 60, "the content is another one")
+    check(client("ann", "get", "name") == b"hello" * 10, "the content is another one")
 
 
 def a_node_that_does_not_come():
@@ -174,22 +174,22 @@ def authorities_change():
             with open(path, "rb") as file:
                 out.write(file.read())
     does("bring", "--authorities", "desk")
-    check(ann_by("first", "get", "name").stdout == b"hello" * 60, "the old authority is not believed any more")
+    check(ann_by("first", "get", "name").stdout == b"hello" * 10, "the old authority is not believed any more")
     does("bundles", "desk", "later", "--days", "30")
     shutil.copytree("desk/tenants/ann", "second")
     does("bring", "desk")
-    check(ann_by("second", "get", "name").stdout == b"hello" * 60, "the new certificate is not taken")
+    check(ann_by("second", "get", "name").stdout == b"hello" * 10, "the new certificate is not taken")
     os.unlink("desk/trusted.crt")
     does("bundles", "desk", "later", "--days", "30")
     does("bring", "desk")
-    check(client("ann", "get", "name") == b"hello" * 60, "the content is another one")
+    check(client("ann", "get", "name") == b"hello" * 10, "the content is another one")
     check(ann_by("first", "get", "name").returncode in (4, 6), "the old authority is believed")
 
 
 def journals_tell():
     told, wanted = json.loads(does("room", "--json", "desk")), json.loads(client("ann", "status", "--json"))
     found = told["tenants"]["ann"]
-    check(told["has_whole_row"] and {key: found[key] for key in ("names", "slots", "bytes")} == {key: wanted[key] for key in ("names", "slots", "bytes")}, f"{found}, not {wanted}")
+    check(told["has_whole_row"] and {key: found[key] for key in ("names", "in_slots", "bytes")} == {key: wanted[key] for key in ("names", "in_slots", "bytes")}, f"{found}, not {wanted}")
     does("room", "--metrics", "metrics", "desk")
     with open("metrics", encoding="ascii") as file:
         check('gridfs_tenant_names{node="0,1",tenant="bob"} 1\n' in file.read(), "the metrics")
@@ -204,7 +204,7 @@ def journals_tell():
         done = subprocess.run([JOURNALS, "get", "ann", f"out{row[0]}", *paths], capture_output=True, text=True)
         check(done.returncode == 0, done.stderr)
         with open(f"out{row[0]}/name", "rb") as file:
-            check(file.read() == b"hello" * 60, "another content was kept")
+            check(file.read() == b"hello" * 10, "another content was kept")
 
 
 def is_operated(folder, program, carry):

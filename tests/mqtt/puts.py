@@ -1,4 +1,4 @@
-"""A put of a long content with nginx in front: how many bytes the client sends for it, counted on their way."""
+"""A put of a long content with nginx in front: how many bytes the client sends for it, to both nodes of a column, counted on their way."""
 
 import os
 import socket
@@ -8,12 +8,12 @@ import threading
 from gridfs_grid.mqtt import Grid
 from peers import CLIENT
 
-PLAN = "grid 2 2\nroom 300000\ntenant ann 280000 4 1 16384\ngo\nann open 8 1024\nann open 8 1024\nann open 16 16384\n"
+PLAN = "grid 2 2\nroom 300000\ntenant ann 280000 4 1 16384\ngo\nann open 8 1024\nann open 8 1024\nann open 1 1\nann chunks 65536\n"
 SIZE = 10_000_000
-# Half of what `setup` gives: four pieces at once, of 2 MiB of digits each, then take eight seconds, longer than a client waits that reckons with
+# Half of what `setup` gives: four chunks at once, at two nodes each, then take eight seconds, longer than a client waits that reckons with
 # its whole rate for each of them.
 RATE = "1m"
-MOST = 1.25  # times the digits of the content
+MOST = 1.25  # times the content at both nodes
 
 
 class Relay:
@@ -79,4 +79,4 @@ def put(program, carry):
         grid.end()
     if not 2 * SIZE <= sent <= MOST * 2 * SIZE:
         wrong.append(f"a put of {SIZE} bytes has sent {sent}")
-    return f"{sent / 2 / SIZE:.3f} of a content's digits were sent", wrong
+    return f"{sent / 2 / SIZE:.3f} of what two nodes take were sent", wrong

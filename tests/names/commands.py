@@ -7,6 +7,7 @@ import hashlib
 import json
 import os
 import pty
+import re
 import shlex
 import signal
 import socket
@@ -38,6 +39,8 @@ ann open 64 2
 bob open 4 16
 bob open 4 16
 bob open 8 4
+ann chunks 4096
+bob chunks 2
 """
 SECONDS = 60
 STOPS = 6  # interrupted puts
@@ -103,10 +106,11 @@ class Commands:
         self.told("rm", ["rm", "x/y", "ä b"], b"")
         before = self.run("ls")
         status, told, why = self.run("sweep", GRIDFS_SESSION="1")
-        self.held("a sweep of one session", (status, told.endswith(b" emptied; sessions 2, 3 and 4 could not be had\n"), why), (0, True, ""))
+        swept = rb"removals: \d+ forgotten, %b left(; chunks: \d+ forgotten)?"
+        self.held("a sweep of one session", (status, bool(re.fullmatch(swept % rb"\d+" + rb"; sessions 2, 3 and 4 could not be had\n", told)) or told, why), (0, True, ""))
         status, told, why = self.run("sweep")
-        self.held("sweep", (status, told.startswith(b"removals: ") and b" forgotten, 0 left; slots: " in told and told.endswith(b" emptied\n"), why), (0, True, ""))
-        self.told("a sweep behind it", ["sweep", "--json"], b'{"forgotten": 0, "left": 0, "emptied": 0, "absent": []}\n')
+        self.held("sweep", (status, bool(re.fullmatch(swept % b"0" + b"\n", told)) or told, why), (0, True, ""))
+        self.told("a sweep behind it", ["sweep", "--json"], b'{"forgotten": 0, "left": 0, "absent": []}\n')
         self.held("ls behind a sweep", self.run("ls"), before)
         self.told("ls of nothing", ["ls"], b"")
         for word in ("get", "stat", "rm"):
@@ -207,10 +211,9 @@ class Commands:
             self.held(f"status tells {line}", line in told.splitlines(), True)
         value = json.loads(self.run_until('"columns_up": [0, 1]', "--grid", "2x2", "status", "--json")[1])
         keys = ["tenant", "nodes", "rows", "columns", "is_arrangement_said", "rows_up", "columns_up", "goes_on", "sessions"]
-        keys += ["names", "pages", "slots", "bytes", "left_out"]
+        keys += ["names", "pages", "in_slots", "bytes", "left_out", "chunks"]
         self.held("status --json", (list(value), value["goes_on"], value["names"], value["bytes"]["used"]), (keys, True, 1, 3_000))
-        slots = value["slots"]
-        self.held("its slots", (slots["used"] - slots["without_a_name"], slots["used"] + slots["free"]), (4, 192))
+        self.held("its chunks", [(each["used"], each["allowed"]) for each in value["chunks"]].count((0, 4 << 20)), 1)
         self.refused("a grid of other nodes", ["--grid", "3x3", "status"], 2, "3x3 are 9 nodes, and there are 4")
         self.refused("a grid that has no form", ["--grid", "2", "status"], 2, "'2' is no ROWSxCOLUMNS")
         self.told("--version", ["--version"], b"gridfs-client 0.1.0\n")
@@ -284,9 +287,9 @@ class Commands:
         self.told("rm of it", ["rm", "here"], b"")
 
     def full(self):
-        self.refused("a content for which there are no slots", ["put", "-", "big"], 3, "no room: ", given=bytes(5_000), tenant="bob")
-        self.told("one for which there are", ["put", "-", "small"], b"", given=bytes(700), tenant="bob")
-        self.refused("the next one", ["put", "-", "other"], 3, "no room: ", given=bytes(900), tenant="bob", GRIDFS_SESSION="1", GRIDFS_HELPERS="0")
+        self.refused("a content for which there is no room", ["put", "-", "big"], 3, "no room: ", given=bytes(5_000), tenant="bob")
+        self.told("one for which there is", ["put", "-", "small"], b"", given=bytes(700), tenant="bob")
+        self.refused("the next one", ["put", "-", "other"], 3, "no room: ", given=bytes(1_600), tenant="bob", GRIDFS_SESSION="1")
         for number in range(40):
             status, _, why = self.run("put", "-", f"a name of some length, {number}", given=b"x", tenant="bob", GRIDFS_SESSION="1")
             if status:
@@ -318,7 +321,7 @@ class Commands:
     # Interrupts, terminals
 
     def interrupts(self):
-        """What an interrupted put leaves is finished or taken back by the next change, and no slot is lost."""
+        """What an interrupted put leaves is finished or taken back by the next change, and no room is lost."""
         contents = [bytes([number]) * 15_000 for number in range(STOPS)]
         held, seen = Held(), []
         for number, content in enumerate(contents):
@@ -341,8 +344,9 @@ class Commands:
             self.held(f"what is held after interrupt {number} may be so", held.may_be(told[1] if told[0] == 0 else held.content), True)
         self.held("some were interrupted", any(seen), True)
         self.told("put of nothing in its place", ["put", "-", "torn"], b"", given=b"")
-        self.told("all slots are free", ["put", "-", "all"], b"", given=bytes(100_000), GRIDFS_HELPERS="3")
-        self.told("rm of it", ["rm", "all", "torn"], b"")
+        self.told("rm of it", ["rm", "torn"], b"")
+        self.held("a sweep behind it", self.run("sweep")[0], 0)
+        self.held("all room is free", [each["used"] for each in json.loads(self.run("status", "--json")[1])["chunks"]], [0, 0])
 
     def interrupted(self, content, write):
         """A put by session 1, which is interrupted in place of the answer to its first write, of the journal, or to its second one, of the page."""
@@ -434,38 +438,6 @@ def served(program):
     finally:
         grid.terminate()
         grid.wait()
-
-
-SECRET, LATER = b"what-column-1-has", b"what-column-0-has"
-
-
-def told_by_journals(program, what):
-    """The numbers of the nodes, none of which runs, whose journals have this, once they were written anew."""
-    found = []
-    for number in range(4):
-        journal = f"grid/node{number}.journal"
-        subprocess.run([program, "node", "--plan", "grid/plan", "--journal", journal, "--anew", str(number)], check=True, capture_output=True, stdin=subprocess.DEVNULL)
-        with open(journal, "rb") as file:
-            found += [number] * (what in file.read())
-    return found
-
-
-def try_erasing(program):
-    """A slot that nodes of one column have as it was, and those of the other one as it became: a sweep leaves the older copy, and one that erases leaves none."""
-    commands = Commands({})
-    with served(program):
-        for session, content in ("2", SECRET), ("1", LATER):
-            commands.held("write", commands.run("write", "4", "0", "-", given=content, GRIDFS_SESSION=session)[0], 0)
-    commands.held("both are in journals", [told_by_journals(program, each) for each in (SECRET, LATER)], [[1, 3], [0, 2]])
-    with served(program):
-        commands.held("sweep", json.loads(commands.run("sweep", "--json")[1])["emptied"], 1)
-        commands.held("what is told", commands.run("read", "4", "0")[1], b"")
-    commands.held("a sweep", [told_by_journals(program, each) for each in (SECRET, LATER)], [[1, 3], []])
-    with served(program):
-        status, told, why = commands.run("sweep", "--erase")
-        commands.held("sweep --erase", (status, told, why), (0, b"removals: 0 forgotten, 0 left; slots: 192 emptied\n", ""))
-    commands.held("a sweep that erases", [told_by_journals(program, each) for each in (SECRET, LATER)], [[], []])
-    return f"{commands.tried} compared: erasing", commands.wrong
 
 
 PARTS = (

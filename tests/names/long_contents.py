@@ -2,7 +2,7 @@
 
     long_contents.py MIB    puts so many MiB from a file and from a pipe, gets them again, and tells the most memory of the process, in KiB
 
-All nodes are one object here, which answers each line at once and keeps contents compressed; a plan with room is told, whose files have 1 MiB.
+All nodes are one object here, which answers each line at once and keeps contents compressed; they have room for chunks.
 """
 
 import os
@@ -14,25 +14,45 @@ import zlib
 
 import histories as _  # which sets the path of the client
 
-from gridfs_client import NamedFiles, PlanTold, Session, Threads, layout_of
+from gridfs_client import NamedFiles, PlanTold, Session, layout_of
 from gridfs_client.carriers import Carrier
+from gridfs_client.chunk_lines import content_in, escaped
+from gridfs_client.grid import Shape
 
 MIB = 1 << 20
-PLAN = PlanTold(4, 0, 4, 4_000_000, 16_384, ((8, 1024), (8, 1024), *[(64, 16_384)] * 20))
+PLAN = PlanTold(4, 0, 4, 4_000_000, 16_384, ((8, 1024), (8, 1024), (1, 1)))
 
 
 class AllNodes(Carrier):
-    """Registers behind the lines of nodes: each operation is done as soon as it begins."""
+    """Registers and chunks behind the lines of nodes: each operation is done as soon as it begins."""
 
     def __init__(self):
         super().__init__()
-        self.files, self.last, self.guard = {}, {}, threading.Lock()
+        self.files, self.last, self.chunks, self.guard = {}, {}, {}, threading.Lock()
+        self.told, self.shape = PLAN, Shape(2, 2)
 
     def send(self, node, body):
-        kind, session, operation, *rest = body.split(b" ", 5)
+        if body == b"plan":  # (which tells of no looks, so volumes are listed)
+            volumes = " ".join(f"{files}.{blocks}" for files, blocks in PLAN.volumes)
+            self.deliver(str(node), f"plan {PLAN.nodes} {PLAN.home} {PLAN.sessions} {PLAN.share} {PLAN.most} {volumes}")
+            return
+        kind, *rest = body.split(b" ", 4 if body.startswith((b"get", b"keep")) else 5)
         with self.guard:
-            answer = self.answer(kind, session, int(operation), rest)
-        self.deliver(str(node), answer.decode())
+            answer = self.of_chunks(kind, rest) if kind in (b"room", b"keep", b"get", b"forget") else self.answer(kind, rest[0], int(rest[1]), rest[2:])
+        self.deliver_line(str(node), answer)
+
+    def of_chunks(self, kind, words):
+        if kind == b"room":
+            return b"room 0 %d 0 0" % (1 << 40)
+        key = tuple(words[:2])
+        if kind == b"keep":
+            if key not in self.chunks:
+                self.chunks[key] = zlib.compress(content_in(words[2]), 1)
+            return b"kept %b %b 0" % key
+        if kind == b"forget":
+            return b"forgot %b %b %b %b" % tuple(words)
+        content, first, length = zlib.decompress(self.chunks[key]), int(words[2]), int(words[3])
+        return b"got %b %b %d %d ~%b" % (*key, len(content), first, escaped(content[first : first + length]))
 
     def answer(self, kind, session, operation, rest):
         last = self.last.get(session, 0)
@@ -67,8 +87,7 @@ def is_content(file, count):
 
 def main(count):
     carrier = AllNodes()
-    sessions = [Session(carrier, number, PLAN.home_of(number)) for number in range(1, PLAN.sessions + 1)]
-    files = NamedFiles(sessions[0], layout_of(PLAN), helpers=lambda: sessions[1:], team=Threads())
+    files = NamedFiles(Session(carrier, 1, PLAN.home_of(1)), layout_of(PLAN))
     with tempfile.TemporaryFile() as content, tempfile.TemporaryFile() as copy:
         write_content(content, count)
         content.seek(0)

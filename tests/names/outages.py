@@ -18,6 +18,7 @@ ann open 8 16
 ann open 8 16
 ann open 32 15
 bob open 8 2
+ann chunks 1024
 """
 SHORT = "6"  # seconds that a command waits for nodes that are down
 
@@ -39,7 +40,7 @@ def has(lines, text):
 
 
 def one_is_down(commands):
-    lines = ["  row 1   2  (3)", "node 3 is silent", "wholly up: row 0, column 0", "session 4: home 3, silent", "names: 1", "bytes: 5 used, 30720 free"]
+    lines = ["  row 1   2  (3)", "node 3 is silent", "wholly up: row 0, column 0", "session 4: home 3, silent", "names: 1", "bytes: 5 used"]
     status, told, why = commands.run_until("\nnode 3 is silent\n", "status")
     commands.held("status with a node down", (status, has(lines, told), why), (0, lines, ""))
 
@@ -50,7 +51,7 @@ def a_row_is_down(commands):
     asked = (["status"], ["status", "--json"], ["--timeout", SHORT, "put", "told", "a"], ["--timeout", SHORT, "mirror", "tree", "grid:"])
     with ThreadPoolExecutor(len(asked)) as pool:
         status, value, put, mirror = pool.map(lambda words: commands.run_until(silence, *words), asked)
-    lines = ["  row 1  (2) (3)", silence, "wholly up: row 0, no column", f"names, pages, slots, bytes: left out: {silence}"]
+    lines = ["  row 1  (2) (3)", silence, "wholly up: row 0, no column", f"names, pages, bytes: left out: {silence}"]
     commands.held("status with a row down", (status[0], has(lines, status[1]), status[2]), (4, lines, f"gridfs-client: {silence}\n"))
     told = json.loads(value[1])
     seen = value[0], told["goes_on"], told["names"], told["left_out"], value[2]

@@ -34,7 +34,7 @@ DEPLOY, PACKAGE = os.path.join(TOP, "deploy", "mqtt"), os.path.join(TOP, "client
 LONG, MOST_MEMORY = 100, 84  # MiB of a content, and of a process that moves it and plays the nodes too
 ATTEMPTS, LEAST_OPERATIONS, MOST_OPERATIONS = 10, 50, 2_000  # of trials over nodes; a bug has to be found within the most
 GROUPS = {"broker": "broker", "package": "checkers"}  # of tests/packages, which these parts want
-SHAPES = ("MIXED", "CROWDED", "LENDING", "REMOVING", "DYING", "SWEEPING", "UNSURE", "LOOKING", "SPLITTING", "DIVIDED", "PARTED")
+SHAPES = ("MIXED", "REMOVING", "DYING", "SWEEPING", "UNSURE", "LOOKING", "SPLITTING", "DIVIDED")
 LISTED = ("LISTING", "MIXED", "UNSURE", "SPLITTING")  # with listings that skim pages
 
 
@@ -156,12 +156,16 @@ def in_pipes(program, seconds, kills, has_room=False):
     counts, wrong = collections.Counter(), []
     for attempt in range(ATTEMPTS):
         os.mkdir(f"attempt{attempt}")
-        counted, wrong = trial.run(trial.Pipes(os.path.abspath(f"attempt{attempt}"), program, has_room), seconds, kills)
+        place = trial.Pipes(os.path.abspath(f"attempt{attempt}"), program, has_room)
+        counted, wrong = trial.run(place, seconds, kills)
         counts.update(counted)
-        if wrong or counts["operations"] >= LEAST_OPERATIONS:
+        for number in place.nodes:
+            with open(f"{place.folder}/journal{number}", "rb") as journal:
+                counts["chunks in journals"] += sum(line.startswith(b"chunk ") for line in journal)
+        if wrong or counts["operations"] >= LEAST_OPERATIONS and counts["chunks in journals"]:
             break
     else:
-        wrong = [f"only {counts['operations']} operations have ended"]
+        wrong = [f"only {counts['operations']} operations have ended, and {counts['chunks in journals']} chunks are kept"]
     return f"in pipes{', a plan with room' * has_room}, {attempt + 1} times {seconds} seconds: {told_of(counts)}", wrong
 
 

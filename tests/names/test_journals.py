@@ -44,7 +44,7 @@ class Recorded(Memory):
     """What is written goes to the nodes of one column."""
 
     def __init__(self, folder, draw):
-        super().__init__(SESSIONS, pages=2, slots=6)
+        super().__init__(SESSIONS, pages=2, slots=6)  # (which older clients had)
         self.draw, self.path = draw, lambda number: os.path.join(folder, f"journal.{number}")
         opened = "".join(f"ann open {volume.files} {volume.blocks}\n" for volume in self.layout.volumes)
         self.plan = f"grid 2 2\nroom 9000\ntenant bob 10 1 9 16\ntenant ann 900 {SESSIONS} 9 64\ngo\nbob open 1 1\n{opened}"

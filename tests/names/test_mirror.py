@@ -27,7 +27,7 @@ class Mirrors(unittest.TestCase):
         self.addCleanup(room.cleanup)
         self.room, self.folder, self.other = room.name, os.path.join(room.name, "folder"), os.path.join(room.name, "other")
         os.mkdir(self.folder)
-        self.memory, self.at_step, self.told, self.taken = Memory(sessions=3, pages=2, slots=12), None, [], []
+        self.memory, self.at_step, self.told, self.taken = Memory(sessions=3, pages=2), None, [], []
 
     # What is there
 
@@ -36,7 +36,6 @@ class Mirrors(unittest.TestCase):
         number = 1 + turn_of(name, 3)
         self.taken.append(number)
         files = self.memory.client(number, self.at_step, helpers=[each for each in (1, 2, 3) if each != number])
-        files.many_pieces = 4
         yield files
         files.close()
 
@@ -266,7 +265,7 @@ class Skipping(Mirrors):
         self.write("small", b"1")
         report = self.up()
         self.assertEqual((self.held(), report.status), ({"small": b"1"}, 3))
-        self.assertIn("no room: 10000 bytes are wanted", report.skipped[os.path.join(self.folder, "large")])
+        self.assertIn("more NAME 16G in chunks", report.skipped[os.path.join(self.folder, "large")])
 
     def test_a_fault_that_ends_it(self):
         """No answer is no fault of one file: it ends the mirror."""
@@ -287,7 +286,7 @@ class Interrupted(Mirrors):
         self.write_all()
         old = {path: b"old" for path in FILES} | {"gone": b"old"}
         for step in range(1, 200):
-            self.memory, self.at_step = Memory(sessions=3, pages=2, slots=12), None
+            self.memory, self.at_step = Memory(sessions=3, pages=2), None
             self.put(old)
             self.at_step = kill_at(step)
             try:
@@ -352,7 +351,7 @@ class Used(Mirrors):
 
     def test_to_the_folder(self):
         for step in range(1, 60):
-            self.memory, self.at_step = Memory(sessions=3, pages=2, slots=12), None
+            self.memory, self.at_step = Memory(sessions=3, pages=2), None
             self.put(FILES)
             shutil.rmtree(self.other, ignore_errors=True)
             self.change_at(step)
@@ -371,7 +370,7 @@ class Used(Mirrors):
     def test_to_the_grid(self):
         self.write_all()
         for step in range(1, 60):
-            self.memory = Memory(sessions=3, pages=2, slots=12)
+            self.memory = Memory(sessions=3, pages=2)
             self.change_at(step)
             self.assertEqual(self.up().status, 0)
             found = self.held()
@@ -396,13 +395,6 @@ class Turns(Mirrors):
         self.assertEqual(set(writers), {1, 2, 3})
         self.assertEqual(self.taken[1:], [1, 2, 3])  # (the first one is for the listing)
 
-    def test_sessions_that_help_are_given_back(self):
-        """After a long content other commands find a session that is free."""
-        for number in range(3):
-            self.write(f"long {number}", b"x" * 600)
-        self.write("short", b"1")
-        self.up()
-        self.assertEqual(len(self.taken), 1 + 3 + 1)
 
 
 if __name__ == "__main__":

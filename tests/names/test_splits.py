@@ -5,6 +5,7 @@ from contextlib import suppress
 from dataclasses import replace
 
 from histories import HERE, Killed
+from in_slots import OldClient
 from memory import Memory, Write
 
 from gridfs_client import BadSettings, Copy, Damaged, Layout, NoRoom, Tag, Unanswered, Volume, core, splits
@@ -28,7 +29,7 @@ def held(files):
 
 def filled(**words):
     """Names at two sessions, of which one is put over and one is removed."""
-    memory, contents = Memory(sessions=2, slots=8, **words), {}
+    memory, contents = Memory(sessions=2, **words), {}
     for session, names in ((1, NAMES[:5]), (2, NAMES[3:])):
         files = memory.client(session)
         for name in names:
@@ -206,7 +207,7 @@ class Splitting(unittest.TestCase):
 
     def test_a_full_page(self):
         """A put that finds no room goes on to more pages where it may; else it is refused, and nothing has changed."""
-        memory = Memory(levels=(4,), slots=1)
+        memory = Memory(levels=(4,), page_blocks=16)
         files = memory.client(1)
         with self.assertRaises(NoRoom):
             for number in range(100):
@@ -341,7 +342,7 @@ class Splitting(unittest.TestCase):
                 self.assertEqual((files.get(beside)[0], memory.client(2).get(beside)[0]), (b"beside", b"beside"), (died, step))
 
     def test_no_room_for_a_signpost(self):
-        memory = Memory(levels=(2,))
+        memory = Memory(levels=(2,), page_blocks=16)
         lines = tuple(core.Line(f"{number:03}", 1, None) for number in range(200))
         while len(text_of(core.Page(lines, (), 1))) > memory.layout.page_room:
             lines = lines[1:]
@@ -354,18 +355,13 @@ class Splitting(unittest.TestCase):
 
 class Kinds(unittest.TestCase):
     def test_slots(self):
-        """A content in slots stays where it is, and its slots are free once another one takes its place."""
+        """A content in slots stays where it is, and is read by the new page's line."""
         memory = Memory(slots=8, levels=(2,))
-        memory.client(1).put("a", b"x" * 300)
-        taken = memory.client(1).writer.keeper.free()
+        OldClient(memory.client(1).session, memory.layout).put("a", b"x" * 300)
         grow(memory)
         self.assertEqual(memory.client(2).get("a")[0], b"x" * 300)
-        files = memory.client(1)
-        files.put("a", b"short")
-        files.close()
-        self.assertGreater(len(memory.client(1).writer.keeper.free()), len(taken))
+        memory.client(1).put("a", b"short")
         memory.client(2, others=(1,)).sweep()
-        self.assertEqual(len(memory.client(1).writer.keeper.free()), 8 + 2)  # (and the files of two marks)
         self.assertEqual(memory.client(2).get("a")[0], b"short")
 
 

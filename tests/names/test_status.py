@@ -12,6 +12,7 @@ from unittest import mock
 
 sys.path.insert(0, os.path.dirname(os.path.abspath(__file__)))
 from histories import HERE, Killed
+from in_slots import OldClient
 from memory import Memory
 from test_names import kill_at
 from test_sessions import Home, Played
@@ -348,37 +349,23 @@ class Waiting(unittest.TestCase):
 
 class Used(unittest.TestCase):
     def test_usage(self):
-        memory = Memory(sessions=2, pages=2, slots=8, slot_blocks=2)
+        memory = Memory(sessions=2, pages=2, slots=8)
         empty = usage_of(memory.client(1))
-        self.assertEqual((empty.names, empty.bytes_used, empty.slots_taken, empty.slots_free, empty.pages), (0, 0, 0, 16, 4))
-        memory.client(1).put("a", b"x" * 300)
+        self.assertEqual((empty.names, empty.bytes_used, empty.names_in_slots, empty.bytes_in_slots, empty.pages), (0, 0, 0, 0, 4))
+        self.assertNotIn("in slots", "".join(usage_lines(empty, None)))
+        old = OldClient(memory.client(1).session, memory.layout)
+        old.put("a", b"x" * 300)
+        old.put("joined", b"x" * 20, b"y" * 30)
         memory.client(2).put("b", b"x" * 200)
         memory.client(2).put("c", b"in the line")
         used = usage_of(memory.client(1))
-        self.assertEqual((used.names, used.bytes_used), (3, 511))
-        self.assertEqual((used.slots_taken, used.slots_free, used.slots_without_a_name), (5, 11, 0))
-        self.assertEqual((empty.bytes_free - used.bytes_free) // 128, 5)
+        self.assertEqual((used.names, used.bytes_used, used.names_in_slots, used.bytes_in_slots), (4, 561, 2, 350))
+        self.assertIn("in slots, from before chunks: 2 names, 350 bytes (docs/SLOTS.md)", usage_lines(used, None))
+        self.assertEqual(usage_value(used, None)["in_slots"], {"names": 2, "bytes": 350})
         pages = [memory.layout.page(session, page) for session in (1, 2) for page in (0, 1)]
         longest = max((len(memory.read(place).content.partition(b"\n")[2]), place) for place in pages)
         self.assertEqual((used.fullest.bytes, memory.layout.page(used.fullest.session, used.fullest.page)), longest)
         self.assertEqual(used.fullest.percent, 100 * longest[0] // (memory.layout.page_room * 7 // 8))
-
-    def test_slots_of_a_client_that_died(self):
-        """Those that it had taken are of no name until the content is in force."""
-        seen = []
-        for step in range(1, 40):
-            memory = Memory(sessions=2, pages=1, slots=8, slot_blocks=2)
-            try:
-                memory.client(1, kill_at(step)).put("a", b"x" * 300)
-            except Killed:
-                memory.pending.clear()
-            used = usage_of(memory.client(2))
-            seen.append((used.slots_taken, used.slots_without_a_name, used.names))
-            self.assertEqual(used.slots_taken + used.slots_free, 16)
-        self.assertEqual(list(dict.fromkeys(seen)), [(0, 0, 0), (3, 3, 0), (3, 0, 1)])
-        self.assertIn("slots: 3 used, 13 free", usage_lines(used, None))
-        unnamed = dataclasses.replace(used, slots_without_a_name=2)
-        self.assertIn("slots: 3 used, of which 2 are freed when room is wanted, 13 free", usage_lines(unnamed, None))
 
     def test_what_is_told(self):
         memory = Memory()
@@ -386,7 +373,7 @@ class Used(unittest.TestCase):
         left_out = usage_value(None, "no row is wholly up")
         self.assertEqual(value.keys(), left_out.keys())
         self.assertEqual((left_out["names"], left_out["left_out"]), (None, "no row is wholly up"))
-        self.assertEqual(usage_lines(None, "no row is wholly up"), ["names, pages, slots, bytes: left out: no row is wholly up"])
+        self.assertEqual(usage_lines(None, "no row is wholly up"), ["names, pages, bytes: left out: no row is wholly up"])
 
 
 if __name__ == "__main__":

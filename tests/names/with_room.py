@@ -13,7 +13,7 @@ from histories import Held
 
 from gridfs_client import NamedFiles, Session, SocketCarrier, ask_plan, layout_of
 
-PLAN = os.path.join(TOP, "examples", "nodes", "plan-with-room")
+PLAN = os.path.join(TOP, "examples", "nodes", "plan-in-chunks")
 TENANT = "carol"
 SIZES = {"1 KiB": 1 << 10, "100 KiB": 100 << 10, "2 MB": 2_000_000}
 LONG, MOST_MEMORY = 60_000_000, 64  # bytes of a content, and MiB of the client that moves it

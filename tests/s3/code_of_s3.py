@@ -9,5 +9,5 @@ TOP = os.path.join(HERE, "..", "..")
 CODE = os.environ.get("GRIDFS_S3_CODE", os.path.join(TOP, "clients", "python"))
 GATEWAY = os.path.join(CODE, "gridfs-s3")
 CLIENT = os.path.join(TOP, "clients", "python")
-sys.path[:0] = [CODE, CLIENT, os.path.join(HERE, "..", "names")]
+sys.path[:0] = [CODE, CLIENT, *(os.path.join(HERE, "..", name) for name in ("names", "chunks"))]
 import gridfs_s3  # noqa: E402, F401 (now, since other tests' modules put the folder of the repository's code first)

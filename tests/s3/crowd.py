@@ -1,6 +1,6 @@
 #!/usr/bin/python3
 """Many at once want more room than a session has, over small pages: each request is done or told that there is no room, none waits for ever, and after
-it all slots are free and removals are swept.
+it all room is free and removals are swept.
 
     crowd.py SECONDS        over a stand-in for a grid; the status is 1 where something is wrong
 """
@@ -18,9 +18,9 @@ import endpoint
 from botocore.exceptions import BotoCoreError, ClientError
 
 PLAN = (
-    "grid 1 1\nroom 100000\ntenant carol 20000 4 1000 1024\ngo\n" + "carol open 8 128\n" * 4 + "carol open 12 1024\ncarol open 4 64\n"
-)  # slots of 3 x 64 KiB for each session, and pages of 8 KiB
-SLOTS = 12 * 65_536 + 4 * 4_096
+    "grid 1 1\nroom 100000\ntenant carol 20000 4 1000 1024\ngo\n" + "carol open 8 128\n" * 4 + "carol open 1 1\ncarol chunks 800\n"
+)  # pages of 8 KiB
+ROOM = 800 << 10
 CLIENTS, PATIENCE = 10, 120
 
 
@@ -81,10 +81,10 @@ class Crowd:
 
 
 def left_in(gateway):
-    """The bytes of slots that are free, by the metrics, of the sessions whose tables are known."""
+    """The bytes that are free, by the metrics."""
     with urllib.request.urlopen(f"{gateway.url}/metrics") as told:
         lines = told.read().decode().splitlines()
-    return float(next(line.split()[-1] for line in lines if line.startswith('gridfs_s3_slot_bytes{grid="",state="left"')))
+    return float(next(line.split()[-1] for line in lines if line.startswith('gridfs_s3_chunk_bytes{grid="",state="left"')))
 
 
 def main(seconds):
@@ -95,16 +95,16 @@ def main(seconds):
         s3.create_bucket(Bucket="crowd")
         crowd = Crowd(gateway, float(seconds))
         wrong = crowd.run()
-        # All is taken away, and each slot is free again.
+        # All is taken away, and all room is free again.
         while found := s3.list_objects_v2(Bucket="crowd").get("Contents"):
             for told in s3.delete_objects(Bucket="crowd", Delete={"Objects": [{"Key": each["Key"]} for each in found]}).get("Errors", []):
                 wrong.append(f"{told['Key']} can't be taken away: {told['Code']}")
         gateway.kill()
         gateway.start()
         until = time.monotonic() + 60
-        while (left := left_in(gateway)) < SLOTS and time.monotonic() < until:
+        while (left := left_in(gateway)) < ROOM and time.monotonic() < until:
             time.sleep(0.2)
-        wrong += [f"{left:.0f} of {SLOTS} bytes of slots are free"] if left != SLOTS else []
+        wrong += [f"{left:.0f} of {ROOM} bytes are free"] if left != ROOM else []
         wrong += ["a traceback"] if "Traceback" in gateway.told() else []
     print("".join(f"{line}\n" for line in wrong[:20]) + f"{crowd.counts}")
     return bool(wrong)

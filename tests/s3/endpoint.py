@@ -15,7 +15,7 @@ from code_of_s3 import GATEWAY, HERE
 import gridfs_client.contents
 
 SECRET = "a.secret.of.the.tests"
-PLAN = os.environ.get("GRIDFS_S3_PLAN", os.path.join(HERE, "plan"))
+PLAN = os.path.join(HERE, "plan")
 PATIENCE = 60  # seconds until something is up, on a machine that does much else
 
 

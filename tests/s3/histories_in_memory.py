@@ -19,6 +19,7 @@ sys.path.insert(0, os.path.dirname(os.path.abspath(__file__)))
 import code_of_s3  # noqa: F401  (which says where the code is)
 import registers
 from bodies_in_memory import Body
+from memory_with_chunks import with_chunks
 from gridfs_client import ClientError, NoSuchName, Replaced, Unanswered
 from gridfs_s3 import index
 from gridfs_s3.errors import S3Error
@@ -28,10 +29,10 @@ from gridfs_s3.store import PageFull, Store
 from gridfs_s3.versions import Target
 
 SHAPES = [
-    registers.Shape(names=(1, 2), sessions=(2, 3, 4), pages=(1,), slots=(6, 12), kills=(0, 0.002, 0.01), gone=(0,), late=(0.1, 0.02, 0.005), many_sessions=(0.5, 0.9)),
-    registers.Shape(names=(1, 2), sessions=(3, 4), pages=(1,), slots=(8,), kills=(0, 0.005), gone=(0,), many_sessions=(0.7,), unanswered=(0.01, 0.03)),
-    registers.Shape(names=(1,), sessions=(2, 3), pages=(1,), slots=(8,), kills=(0.01,), gone=(0,), late=(0.02, 0.005), many_sessions=(1,), unanswered=(0, 0.02)),
-    registers.Shape(names=(2, 3), sessions=(2, 3), pages=(1, 2), slots=(6, 9), sizes=(45, 150, 250), kills=(0, 0.01), gone=(0,), late=(0.1, 0.005), many_sessions=(0.5, 1), unanswered=(0, 0.01)),
+    registers.Shape(names=(1, 2), sessions=(2, 3, 4), pages=(1,), kills=(0, 0.002, 0.01), gone=(0,), late=(0.1, 0.02, 0.005), many_sessions=(0.5, 0.9)),
+    registers.Shape(names=(1, 2), sessions=(3, 4), pages=(1,), kills=(0, 0.005), gone=(0,), many_sessions=(0.7,), unanswered=(0.01, 0.03)),
+    registers.Shape(names=(1,), sessions=(2, 3), pages=(1,), kills=(0.01,), gone=(0,), late=(0.02, 0.005), many_sessions=(1,), unanswered=(0, 0.02)),
+    registers.Shape(names=(2, 3), sessions=(2, 3), pages=(1, 2), kills=(0, 0.01), gone=(0,), late=(0.1, 0.005), many_sessions=(0.5, 1), unanswered=(0, 0.01)),
 ]
 SPLITTING = [
     registers.Shape(
@@ -42,7 +43,7 @@ SPLITTING = [
         names=(1, 2), sessions=(2,), pages=(1,), sizes=(3,), kills=(0.02, 0.05), gone=(0,), late=(0.01, 0.05), many_sessions=(0, 1), weights=((4, 6, 4, 2),), levels=((2,),), splits=0.25,
     ),
     registers.Shape(
-        names=(2, 3), sessions=(2, 3), pages=(1, 2), slots=(6, 9), sizes=(3, 45), kills=(0, 0.01), gone=(0,), late=(0.1, 0.005), many_sessions=(1,), weights=((4, 4, 3, 6),), levels=((2,), (2, 2)), splits=0.2,
+        names=(2, 3), sessions=(2, 3), pages=(1, 2), sizes=(3, 45), kills=(0, 0.01), gone=(0,), late=(0.1, 0.005), many_sessions=(1,), weights=((4, 4, 3, 6),), levels=((2,), (2, 2)), splits=0.2,
     ),
 ]  # fmt: skip
 ALONE = 2  # in the last shape there is one gateway at a time, which has all sessions: it settles a page before its first change
@@ -58,21 +59,17 @@ class WentBack(Exception):
 class Objects:
     """Puts, gets, removals and listings by any session of a gateway, as histories ask for them."""
 
-    many_pieces, times, digests = 2, {}, {}  # (digests: of contents, by what their ETags show of them)
+    times, digests = {}, {}  # (digests: of contents, by what their ETags show of them)
 
     def __init__(self, session, layout, helpers, team):
         shared = Shared()
         self.draw, self.is_settled = random.Random(session.number), False
-        self.stores = [Store(each, layout, shared) for each in (session, *helpers())]
+        self.stores = [Store(with_chunks(each, each.client.world.memory), layout, shared) for each in (session, *helpers())]
         self.times = {}
         shared.may_grow, self.layout = True, layout
-        for store in self.stores:
-            store.many_pieces, store.team = 2, team
 
     def store(self):
-        found = self.draw.choice(self.stores)
-        found.more = lambda is_all: [each for each in self.stores if each is not found]
-        return found
+        return self.draw.choice(self.stores)
 
     def settle(self):
         """Before the first change, where the gateway has all sessions, as a gateway does."""
@@ -94,8 +91,6 @@ class Objects:
                     for each in self.stores:
                         each.sweep_own(full.page)
                 store.shared.swept[full.page] = float("inf")
-            finally:
-                store.end_turn()
         raise AssertionError
 
     def put(self, name, content):
@@ -116,7 +111,7 @@ class Objects:
         upload, half = upload_name("bucket", store.begin_upload("bucket", name, {}), name), len(content) // 2
         for number, part in ((1, b"x" * 50), (3, content[half:]), (2, b"left out"), (1, content[:half])):
             store.put_part(upload, number, Body(part), 5)
-        found = {part.number: slots for part, slots in store.uploaded(store.upload(upload))}
+        found = {part.number: where for part, where in store.uploaded(store.upload(upload))}
         store.complete(upload, Target(name), values, [found[1], found[3]], None)
 
     def change_words(self, name, values):
@@ -138,16 +133,12 @@ class Objects:
                 return self.get_once(name)
 
     def get_once(self, name):
-        store = self.store()
-        try:
-            held, parts, data = store.read(name, lambda held: (0, held.content.size) if held else absent(name))
-            content = data + b"".join(parts)
-            if hashlib.sha256(content).hexdigest() != of_words(held.words)["s"]:
-                raise S3Error("InternalError", f"{name}: a content with the words of another one")
-            self.look_at_time(held)
-            return content, held
-        finally:
-            store.end_turn()
+        held, parts, data = self.store().read(name, lambda held: (0, held.content.size) if held else absent(name))
+        content = data + b"".join(parts)
+        if hashlib.sha256(content).hexdigest() != of_words(held.words)["s"]:
+            raise S3Error("InternalError", f"{name}: a content with the words of another one")
+        self.look_at_time(held)
+        return content, held
 
     def look_at_time(self, held):
         """Of one key no later version has an earlier time, where there is one gateway at a time."""

@@ -98,7 +98,7 @@ class Objects:
 
     def complete(self, store, upload, name, values):
         held = store.own_upload(upload)
-        store.complete(upload, Target(name), values, [slots for _, slots in store.uploaded(held)], None)
+        store.complete(upload, Target(name), values, [where for _, where in store.uploaded(held)], None)
 
     def remove(self, name):
         if not self.do(name, lambda store: store.delete(name)):
@@ -153,7 +153,7 @@ BUGS = {
 def wrong_in(seed):
     """Why a history is wrong; None where it is right."""
     try:
-        history, fleet = fleets.try_fleet(seed, 50, Objects, 80, (24,))
+        history, fleet = fleets.try_fleet(seed, 50, Objects, (80,))
     except (ClientError, S3Error, AssertionError, Elsewhere) as fault:
         return f"{type(fault).__name__}: {fault}", {}, 0
     wrong, _ = history.wrong()

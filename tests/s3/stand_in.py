@@ -4,7 +4,7 @@
     stand_in.py PLAN FOLDER
 
 It opens FOLDER/socket and writes NAME.ini for each tenant, as `./grid` does. Nothing is kept, and nothing is lost. At SIGHUP it reads the plan again, and tenants have the
-volumes of that. A line `0 counts` is told how many requests of each kind came since the last one. Tenants with a line `chunks` in the plan have chunks too.
+volumes of that, and chunks if they had none. A line `0 counts` is told how many requests of each kind came since the last one. Tenants with a line `chunks` in the plan have chunks too.
 """
 
 import asyncio
@@ -125,7 +125,7 @@ async def main(plan, folder):
     def read_again():
         with open(plan) as text:
             for name, found in tenants_of(text.read()).items():
-                tenants[name].volumes = found.volumes
+                tenants[name].volumes, tenants[name].chunks = found.volumes, tenants[name].chunks or found.chunks
 
     asyncio.get_running_loop().add_signal_handler(signal.SIGHUP, read_again)
     await asyncio.start_unix_server(serve, path, limit=1 << 23)

@@ -43,7 +43,7 @@ from gridfs_s3.places import KEYS, Object, Part, check_bucket, name_of, of_words
 from gridfs_s3.requests import Asked, http_date, judge, range_of, range_wanted, seconds_of_date
 from gridfs_s3.sessions import Pool
 from gridfs_s3.shared import Turns
-from gridfs_s3.workers import Crowded, Gathering, Lending, Wanted
+from gridfs_s3.workers import Lending, Wanted
 
 
 def held(name, words=None, content=b"hi"):
@@ -531,39 +531,11 @@ class Room(Case):
 
 
 class Sessions(Case):
-    def test_who_has_one_does_not_wait_for_others(self):
-        """Not even in the moment in which the lock is free, and another one is next: that one could wait for this one."""
-
-        async def scenario():
-            pool, entered, go, never = Pool(None, Gathering(), Lending(), Turns()), asyncio.Event(), asyncio.Event(), asyncio.Event()
-
-            async def first():
-                async with pool.gathering:
-                    entered.set()
-                    await go.wait()
-                await pool.others([])
-
-            async def second():
-                async with pool.gathering:
-                    await never.wait()
-
-            tasks = [asyncio.create_task(first())]
-            await entered.wait()
-            tasks.append(asyncio.create_task(second()))
-            await asyncio.sleep(0)
-            go.set()
-            with self.assertRaises(Crowded):
-                await asyncio.wait_for(tasks[0], 5)
-            tasks[1].cancel()
-
-        asyncio.run(scenario())
-
-
     def test_who_has_fewest_is_next(self):
         """So who asks for much has others wait for one of his requests only. Among equals it goes by turns."""
 
         async def scenario():
-            pool = Pool(None, Gathering(), Lending(), Turns())
+            pool = Pool(None, Lending(), Turns())
             pool.workers = {number: types.SimpleNamespace(number=number, is_busy=True, is_silent=False, who="ann") for number in (1, 2)}
             wanted = [Wanted(None, pool.loop.create_future(), who) for who in ("ann", "ann", "bob", "bob")]
             pool.waiting.extend(wanted)

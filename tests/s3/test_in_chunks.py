@@ -1,9 +1,11 @@
 """Objects in chunks: the gateway's objects over registers and nodes in memory, which die at each step; uploads of many parts; and through a gateway what a range
 reads, what a part and a completion keep, and what a gateway that is killed leaves."""
 
+import hashlib
 import itertools
 import os
 import random
+import subprocess
 import sys
 import time
 import unittest
@@ -14,9 +16,10 @@ sys.path[:0] = [HERE, os.path.join(HERE, "..", "chunks"), os.path.join(HERE, "..
 import code_of_s3
 import endpoint
 from bodies_in_memory import Body
+from in_slots import OldClient
 from memory_with_chunks import Killed, World
 
-from gridfs_client import OneByOne
+from gridfs_client import OneByOne, Session, SocketCarrier, ask_plan, layout_of
 from gridfs_client.contents import InChunks, Inline, Joined, PartList
 from gridfs_client.core import Line, Page, Signpost
 from gridfs_client.errors import Replaced
@@ -26,7 +29,7 @@ from gridfs_client.runs import Run
 from gridfs_s3 import sweeping
 from gridfs_s3.errors import S3Error
 from gridfs_s3.part_lists import Uploaded
-from gridfs_s3.places import upload_name
+from gridfs_s3.places import to_words, upload_name
 from gridfs_s3.shared import Shared
 from gridfs_s3.store import NoLine, Store
 from gridfs_s3.versions import Target
@@ -48,7 +51,7 @@ program.main(sys.argv[1:])
 
 
 def new_world():
-    return World(sessions=2, pages=1, page_blocks=64, slots=4)
+    return World(sessions=2, pages=1, page_blocks=64)
 
 
 def store(world, number=1, at_step=None):
@@ -110,7 +113,7 @@ class Steps(unittest.TestCase):
             objects, done = store(world, 1, kill_at(step)), False
             try:
                 change(objects, words)
-                objects.recall()
+                objects.forget_gone()
                 done = True
             except Killed:
                 objects.session.carrier.die()
@@ -219,6 +222,8 @@ class Steps(unittest.TestCase):
         for world, upload, done in self.each_step(self.begun, complete, 4):
             seen = content_of(store(world, 2))
             self.assertIn(seen, (whole,) if done else (OLD, whole))
+            # The upload is there as long as the object is the old one, and goes with the change.
+            self.assertEqual(any(held.name.startswith(".s3/up/") for held in store(world, 2).all()), seen == OLD)
             if done:
                 self.assertIsInstance(store(world, 2).look(NAME).content, Joined)
                 self.assertRaises(S3Error, store(world, 2).upload, upload_name(BUCKET, upload, NAME))
@@ -276,11 +281,11 @@ class Many(unittest.TestCase):
         self.assertEqual(content_of(other), whole)
         for first, end in ((0, 1), (5, 6), (len(whole) - 1, len(whole)), (10_000, 10_450), (0, len(whole) - 1), (9_990, 25_010)):
             self.assertEqual(content_of(other, NAME, first, end), whole[first:end])
-        self.objects.recall()
+        self.objects.forget_gone()
         self.assertEqual(self.world.kept(), self.world.named())
         self.assertEqual(content_of(store(self.world, 2)), whole)
         self.objects.delete(NAME)
-        self.objects.recall()
+        self.objects.forget_gone()
         self.assertFalse(self.world.kept())
 
     def test_a_range_reads_the_list_and_the_chunks_that_it_touches(self):
@@ -307,26 +312,26 @@ class Many(unittest.TestCase):
                 self.assertTrue(at == end or at in ends and most <= len(told) < most + 130, (at, len(told)))
             self.assertEqual(at, end)
         put(self.objects, NAME, b"new" * 500)
-        self.objects.recall()
+        self.objects.forget_gone()
         with self.assertRaises(Replaced):
             list(store(self.world, 2).content(held, most, len(whole), most))
 
     def test_some_of_them_are_chosen(self):
         wanted = [number for number in self.parts if number % 3]
         complete(self.objects, self.upload, wanted)
-        self.objects.recall()
+        self.objects.forget_gone()
         self.assertEqual(content_of(store(self.world, 2)), b"".join(self.parts[number] for number in wanted))
         self.assertEqual(self.world.kept(), self.world.named())
 
     def test_few_of_them_are_chosen(self):
         complete(self.objects, self.upload, [5, 390])
-        self.objects.recall()
+        self.objects.forget_gone()
         self.assertEqual(content_of(store(self.world, 2)), self.parts[5] + self.parts[390])
         self.assertEqual(self.world.kept(), self.world.named())
 
     def test_given_up(self):
         self.objects.delete(upload_name(BUCKET, self.upload, NAME))
-        self.objects.recall()
+        self.objects.forget_gone()
         self.assertFalse(self.world.kept())
 
     def test_a_part_without_bytes(self):
@@ -340,7 +345,7 @@ class Through(unittest.TestCase):
     """A gateway over a stand-in with room for chunks."""
 
     def setUp(self):
-        self.room = self.enterContext(endpoint.stand_in(os.path.join(HERE, "plan-with-chunks")))
+        self.room = self.enterContext(endpoint.stand_in())
         (self.gateway,) = self.enterContext(endpoint.gateways(self.room))
         self.client = self.gateway.client()
         self.client.create_bucket(Bucket="bucket")
@@ -350,6 +355,40 @@ class Through(unittest.TestCase):
 
     def get(self, key, **words):
         return self.client.get_object(Bucket="bucket", Key=key, **words)["Body"].read()
+
+    def test_an_object_in_slots(self):
+        """One that a gateway from before chunks put is got, by ranges too, copied, given tags, moved into chunks while the gateway serves, and put over."""
+        self.gateway.end()
+        contents = {key: os.urandom(9_000) for key in ("kept", "put over")}
+        carrier = SocketCarrier("carol", f"{self.room}/socket")
+        told = ask_plan(carrier)
+        old = OldClient(Session(carrier, 3, told.home_of(3)), layout_of(told))
+        for key, content in contents.items():
+            old.put(f"bucket/{key}", content, words=to_words({"t": "1", "m": hashlib.md5(content).hexdigest()}))
+        carrier.close()
+        self.gateway.start()
+
+        def expect(key, content):
+            self.assertEqual((self.get(key), self.get(key, Range="bytes=4000-8100")), (content, content[4000:8101]))
+            self.assertEqual(self.client.head_object(Bucket="bucket", Key=key)["ETag"], f'"{hashlib.md5(content).hexdigest()}"')
+
+        for key, content in contents.items():
+            expect(key, content)
+        self.counts()
+        self.client.copy_object(Bucket="bucket", Key="copy", CopySource="bucket/kept")
+        self.assertEqual(self.counts()["keep"], 1)
+        self.client.put_object_tagging(Bucket="bucket", Key="kept", Tagging={"TagSet": [{"Key": "a", "Value": "b"}]})
+        contents |= {"copy": contents["kept"], "put over": os.urandom(8_500)}
+        self.client.put_object(Bucket="bucket", Key="put over", Body=contents["put over"])
+        for key, content in contents.items():
+            expect(key, content)
+        words = [os.path.join(code_of_s3.CLIENT, "gridfs-client"), "--config", f"{self.room}/carol.ini", "--locks", f"{self.room}/locks", "renew"]
+        done = subprocess.run([sys.executable, "-B", *words], capture_output=True, text=True, timeout=120)
+        self.assertEqual((done.stdout, done.stderr), ("contents: 1 moved to chunks, 9000 bytes; 0 left in slots, since their pages are too full\n", ""))
+        for key, content in contents.items():
+            expect(key, content)
+        self.assertEqual(self.client.get_object_tagging(Bucket="bucket", Key="kept")["TagSet"], [{"Key": "a", "Value": "b"}])
+        self.assertNotIn("Traceback", self.gateway.told())
 
     def test_ranges(self):
         content = os.urandom(9 * MIB + 5)

@@ -34,23 +34,32 @@ class Lasting(unittest.TestCase):
         with endpoint.stand_in() as room:  # (whose folder the plan may stand in)
             plan, folder, processes = os.path.join(room, "plan"), os.path.join(room, "grid"), {}
             with open(plan, "w") as out:
-                out.write("grid 2 2\nroom 3000000\ntenant carol 2900000 4 1000 16384\ngo\n" + "carol open 16 256\n" * 4 + "carol open 16 1024\n")
+                out.write("grid 2 2\nroom 3000000\ntenant carol 2900000 4 1000 16384\ngo\n" + "carol open 16 256\n" * 4 + "carol open 1 1\n")
             with endpoint.stand_in(plan, folder, processes), endpoint.gateways(folder) as (found,):
                 s3 = found.client()
                 s3.create_bucket(Bucket="one")
-                s3.put_object(Bucket="one", Key="first", Body=b"x" * 500_000)
-                with self.assertRaises(s3.exceptions.ClientError) as fault:
-                    s3.put_object(Bucket="one", Key="second", Body=b"y" * 900_000)
-                self.assertEqual(fault.exception.response["Error"]["Code"], "InsufficientStorage")
+                s3.put_object(Bucket="one", Key="first", Body=b"x" * 500)
+                for size in (5_000, 900_000):  # (of which one comes into memory before it is refused)
+                    with self.assertRaises(s3.exceptions.ClientError) as fault:
+                        s3.put_object(Bucket="one", Key="second", Body=b"y" * size)
+                    error = fault.exception.response["Error"]
+                    self.assertEqual((error["Code"], fault.exception.response["ResponseMetadata"]["HTTPStatusCode"]), ("InsufficientStorage", 507))
+                    self.assertIn("more NAME 16G in chunks", error["Message"])
                 with open(plan, "a") as out:
-                    out.write("carol open 16 4096\n")
+                    out.write("carol chunks 4096\ncarol open 1 1\n")
                 processes[folder].send_signal(signal.SIGHUP)
                 until = time.monotonic() + 60
                 while "the plan has 6 volumes now, 1 more than before" not in found.told():
                     self.assertLess(time.monotonic(), until, found.told())
                     time.sleep(0.2)
-                s3.put_object(Bucket="one", Key="second", Body=b"y" * 900_000)
-                for key, content in (("first", b"x" * 500_000), ("second", b"y" * 900_000)):
+                while True:
+                    try:
+                        s3.put_object(Bucket="one", Key="second", Body=b"y" * 900_000)
+                        break
+                    except s3.exceptions.ClientError:
+                        self.assertLess(time.monotonic(), until, found.told())
+                        time.sleep(0.2)
+                for key, content in (("first", b"x" * 500), ("second", b"y" * 900_000)):
                     self.assertEqual(s3.get_object(Bucket="one", Key=key)["Body"].read(), content)
                 self.assertNotIn("Traceback", found.told())
 
@@ -60,7 +69,7 @@ class Lasting(unittest.TestCase):
         with tempfile.TemporaryDirectory() as folder:
             plan = os.path.join(folder, "plan")
             with open(plan, "w") as out:
-                out.write("grid 1 1\nroom 100000\ntenant carol 20000 4 1000 1024\ngo\n" + "carol open 8 128\n" * 2 + "carol open 12 1024\ncarol open 4 64\n")
+                out.write("grid 1 1\nroom 100000\ntenant carol 20000 4 1000 1024\ngo\n" + "carol open 8 128\n" * 2 + "carol open 1 1\ncarol chunks 100000\n")
             with endpoint.stand_in(plan) as room, endpoint.gateways(room) as (found,):
                 s3, held = found.client(), {}
                 s3.create_bucket(Bucket="one")
@@ -90,7 +99,7 @@ class Lasting(unittest.TestCase):
         with tempfile.TemporaryDirectory() as folder:
             plan = os.path.join(folder, "plan")
             with open(plan, "w") as out:
-                out.write("grid 1 1\nroom 100000\ntenant carol 20000 2 1000 1024\ngo\n" + "carol open 4 128\n" * 2 + "carol open 12 1024\ncarol open 4 64\n")
+                out.write("grid 1 1\nroom 100000\ntenant carol 20000 2 1000 1024\ngo\n" + "carol open 4 128\n" * 2 + "carol open 1 1\ncarol chunks 100000\n")
             with endpoint.stand_in(plan) as room, endpoint.gateways(room) as (found,):
                 s3 = found.client()
                 s3.create_bucket(Bucket="one")
@@ -98,27 +107,6 @@ class Lasting(unittest.TestCase):
                     upload = {"Bucket": "one", "Key": "key", "UploadId": s3.create_multipart_upload(Bucket="one", Key="key")["UploadId"]}
                     s3.upload_part(**upload, PartNumber=1, Body=b"part")
                     s3.abort_multipart_upload(**upload)
-
-    def test_parts_in_a_page(self):
-        """How many parts an upload may have in a page of 8 KiB, by clients that tell checksums; and what it is told then, while there is room for contents."""
-        with tempfile.TemporaryDirectory() as folder:
-            plan = os.path.join(folder, "plan")
-            with open(plan, "w") as out:
-                out.write("grid 1 1\nroom 100000\ntenant carol 20000 2 1000 1024\ngo\n" + "carol open 4 128\n" * 2 + "carol open 400 8\ncarol open 4 64\n")
-            with endpoint.stand_in(plan) as room, endpoint.gateways(room) as (found,):
-                s3, parts = found.client(), []
-                s3.create_bucket(Bucket="one")
-                upload = {"Bucket": "one", "Key": "key", "UploadId": s3.create_multipart_upload(Bucket="one", Key="key", ChecksumAlgorithm="CRC32")["UploadId"]}
-                with self.assertRaises(s3.exceptions.ClientError) as fault:
-                    for number in range(1, 200):
-                        told = s3.upload_part(**upload, PartNumber=number, Body=b"part", ChecksumAlgorithm="CRC32")
-                        parts.append({"PartNumber": number, "ETag": told["ETag"], "ChecksumCRC32": told["ChecksumCRC32"]})
-                error = fault.exception.response["Error"]
-                self.assertEqual(error["Code"], "InsufficientStorage")
-                self.assertIn(f"the list of this upload's parts is full with {len(parts)}", error["Message"])
-                self.assertGreater(len(parts), 66)
-                s3.complete_multipart_upload(**upload, MultipartUpload={"Parts": parts})
-                self.assertEqual(s3.get_object(Bucket="one", Key="key")["Body"].read(), b"part" * len(parts))
 
     def test_two_gateways_of_a_machine(self):
         """With the same sessions, and locks in folders of their own, as units have them: the second one is refused, or goes on without these sessions. Once the

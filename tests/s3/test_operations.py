@@ -537,7 +537,7 @@ class Tags(Case):
         return found["Body"].read(), told, [(each["Key"], each["LastModified"], each["ETag"]) for each in listed]
 
     def objects(self):
-        """Keys of objects of several kinds, which have no tags yet: contents in a line and in slots, of parts, and under a digest."""
+        """Keys of objects of several kinds, which have no tags yet: contents in a line and in chunks, of parts, and under a digest."""
         words = {"Metadata": {"a": "b"}, "ContentType": "x/y", "CacheControl": "no-store"}
         self.put("short", b"hi", **words, ChecksumAlgorithm="CRC32")
         self.put("long", os.urandom(100_000), **words, ChecksumAlgorithm="SHA256")
@@ -936,7 +936,7 @@ class Requests(Case):
         with urllib.request.urlopen(f"{URL}/metrics") as told:
             text = told.read().decode()
         self.assertRegex(text, r'gridfs_s3_requests_total\{operation="PutObject",status="200",tenant="\w+"\} \d+')
-        self.assertRegex(text, r'gridfs_s3_(slot|chunk)_bytes\{grid="",state="left",tenant="\w+"\} [1-9]')
+        self.assertRegex(text, r'gridfs_s3_chunk_bytes\{grid="",state="left",tenant="\w+"\} [1-9]')
         self.assertEqual(self.ask("GET", "/metrics", sign=False, headers={"X-Forwarded-For": "1.2.3.4"})[0], 403)
 
 

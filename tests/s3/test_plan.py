@@ -1,4 +1,4 @@
-"""The plan that S3 begins with (deploy/s3/plan), and what docs/S3.md says of room: of names in pages, of contents in chunks and in slots."""
+"""The plan that S3 begins with (deploy/s3/plan), and what docs/S3.md says of room: of names in pages, and of contents in chunks."""
 
 import base64
 import collections
@@ -71,7 +71,7 @@ class Shipped(unittest.TestCase):
             self.assertEqual(client.get_object(**words)["Body"].read(), b"".join(b"%d" % number for number in range(1, count + 1)))
 
     def test_room_is_told(self):
-        """By metrics and by the page for a browser: that of chunks, where the tenant has some."""
+        """By metrics and by the page for a browser."""
         allowed = tenants()["carol"].chunks.allowed
         with endpoint.stand_in(PLAN) as room, endpoint.gateways(room) as (gateway,):
             client = gateway.client()
@@ -146,9 +146,6 @@ class Contents(unittest.TestCase):
             kib = -(-count * (size + charge * -(-size // (1 << 20))) // KIB)
             self.assertEqual(self.fill(f"carol open 1 1\ncarol chunks {kib}\n", size, 2 * count), count)
 
-    def test_room_in_slots(self):
-        """An object takes slots whole, long ones too once the short ones are taken."""
-        self.assertEqual(self.fill("carol open 4 256\ncarol open 4 1024\n", 10_000, 20), 8)
 
 
 if __name__ == "__main__":

@@ -19,8 +19,8 @@ import endpoint
 from code_of_s3 import GATEWAY
 
 PLAN = "grid 2 2\nroom 3000000\n" + "".join(f"tenant {name} 1400000 8 1000 16384\n" for name in ("carol", "dave")) + "go\n" + "".join(
-    f"{name} open {files} {blocks}\n" for name in ("carol", "dave") for files, blocks in ((16, 256), (16, 256), (64, 64), (64, 256))
-)  # fmt: skip
+    f"{name} open {files} {blocks}\n" for name in ("carol", "dave") for files, blocks in ((16, 256), (16, 256), (1, 1))
+) + "carol chunks 100000\ndave chunks 100000\n"  # fmt: skip
 PATIENCE, TENANTS = 60, ("carol", "dave")
 
 

@@ -11,16 +11,18 @@ import unittest
 from unittest import mock
 
 HERE = os.path.dirname(os.path.abspath(__file__))
-sys.path[:0] = [HERE, os.path.join(HERE, "..", "names")]
+sys.path[:0] = [HERE, os.path.join(HERE, "..", "chunks"), os.path.join(HERE, "..", "names")]
 import code_of_s3  # noqa: F401  (which says where the code is)
 from bodies_in_memory import Body
 from histories import Killed
-from memory import Memory
+from in_slots import OldClient, tables
+from memory_with_chunks import World
 
-from gridfs_client import BadSettings, Layout, OneByOne, Unanswered
-from gridfs_client.contents import Joined
+from gridfs_client import BadSettings, Layout, NoRoom, OneByOne, Unanswered
+from gridfs_client.contents import InChunks, Joined, joined
+from gridfs_client.streams import Source
 from gridfs_s3.errors import S3Error, error_of
-from gridfs_s3.places import of_words, parts_of, upload_name
+from gridfs_s3.places import Part, of_words, upload_name, words_of
 from gridfs_s3.shared import Shared
 from gridfs_s3.store import Store
 from gridfs_s3.versions import Target
@@ -41,7 +43,7 @@ def client(memory, number=1, at_step=None, shared=None):
 class MorePages(unittest.TestCase):
     def test_a_page_that_has_split(self):
         """A gateway that knows an earlier plan follows no names to the pages of a later one: it tells so, whatever it knew before, and nothing else; and nothing is changed."""
-        memory = Memory(sessions=3, page_blocks=64, slots=24, slot_blocks=4, levels=(2,))
+        memory = World(sessions=3, page_blocks=256, levels=(2,))
         whole, memory.layout = memory.layout, Layout(3, memory.layout.volumes[:3])
         shared = Shared()
         one, two = client(memory, 1, shared=shared), client(memory, 2, shared=shared)
@@ -63,8 +65,8 @@ class MorePages(unittest.TestCase):
         self.assertEqual(memory.registers, before)
 
 
-def fresh():
-    return Memory(sessions=2, pages=1, page_blocks=64, slots=24, slot_blocks=4)
+def fresh(slots=0):
+    return World(sessions=2, pages=1, page_blocks=256, slots=slots)
 
 
 def put(objects, name, content, word="x"):
@@ -83,7 +85,7 @@ def part(objects, upload, number, content):
 def complete(objects, upload):
     name = upload_name(BUCKET, upload, NAME)
     held = objects.upload(name)
-    chosen = [slots for _, slots in objects.uploaded(held)]
+    chosen = [where for _, where in objects.uploaded(held)]
     return objects.complete(name, Target(NAME), {"m": "joined", "n": "3"}, chosen, None)
 
 
@@ -93,6 +95,18 @@ def kill_at(step):
             raise Killed
 
     return at_step
+
+
+def begun_upload(memory, in_slots):
+    """An upload of session 1 with three parts, of which those of these numbers are in slots, as a gateway from before chunks put them."""
+    old, files = OldClient(client(memory).session, memory.layout), client(memory)
+    upload, placed = files.begin_upload(BUCKET, NAME, {}), {}
+    bucket = files.bucket(NAME)
+    for number, content in enumerate(PARTS, 1):
+        placed[number] = old.part(content) if number in in_slots else files.in_place(bucket, NAME, Source(content))
+    words = words_of((Part(number, hashlib.md5(PARTS[number - 1]).hexdigest(), placed[number].size, 5) for number in placed), {})
+    files.change(upload_name(BUCKET, upload, NAME), lambda *_: joined([*placed.values()]), lambda: {"p": words})
+    return upload
 
 
 def uploads(objects):
@@ -120,18 +134,14 @@ class Steps(unittest.TestCase):
         mine = client(memory, 1)
         for page in range(mine.layout.pages):
             mine.settle(page)
-        mine.free_slots()
+        mine.sweep_chunks()
         seen = content_of(mine, name)
         self.assertIn(seen, (old, new))
         memory.surface()
         other = client(memory, 2)
         self.assertEqual(content_of(other, name), seen)
-        # The table says of exactly those slots that they are taken which lines name.
         again = client(memory, 1)
         again.settle(0)
-        named = again.writer.bucket(0).journal.slots(1)
-        taken = again.writer.keeper.needed().taken()
-        self.assertEqual(taken, named)
         self.assertEqual(content_of(again, name), seen)
         return seen, len(uploads(again))
 
@@ -161,47 +171,12 @@ class Steps(unittest.TestCase):
         steps, seen = self.each_step(lambda files: put(files, NAME, OLD), lambda files, _: put(files, NAME, new), lambda memory: self.judge(memory, OLD, new))
         self.assertEqual({each[0] for each in seen}, {OLD, new})
 
-    def test_parts(self):
-        def prepare(files):
-            put(files, NAME, OLD)
-            upload = files.begin_upload(BUCKET, NAME, {"k": "key"})
-            part(files, upload, 1, PARTS[0])
-            return upload
-
-        def change(files, upload):
-            part(files, upload, 3, PARTS[2])
-            part(files, upload, 1, PARTS[1])
-
-        def judge(memory):
-            seen = self.judge(memory, OLD, OLD)
-            files = client(memory, 1)
-            (held,) = uploads(files)
-            found = [(each.number, each.md5) for each in parts_of(of_words(held.words))]
-            numbers = tuple(number for number, _ in found)
-            whole = b"".join(files.content(held, 0, held.content.size))
-            one, two, three = (hashlib.md5(each).hexdigest() for each in PARTS)
-            known = {one: PARTS[0], two: PARTS[1], three: PARTS[2]}
-            self.assertEqual(whole, b"".join(known[md5] for _, md5 in found))
-            return seen[0], numbers, found[0][1] == one
-
-        _, seen = self.each_step(prepare, change, judge)
-        self.assertEqual({each[1:] for each in seen}, {((1,), True), ((1, 3), True), ((1, 3), False)})
-
     def uploaded(self, files):
         put(files, NAME, OLD)
         upload = files.begin_upload(BUCKET, NAME, {"k": "key"})
         for number in (2, 1, 3):
             part(files, upload, number, PARTS[number - 1])
         return upload
-
-    def test_complete(self):
-        _, seen = self.each_step(self.uploaded, complete, lambda memory: self.judge(memory, OLD, b"".join(PARTS)))
-        # The upload is there as long as the object is the old one, and goes with the change.
-        self.assertEqual(seen, {(OLD, 1), (b"".join(PARTS), 0)})
-
-    def test_given_up(self):
-        _, seen = self.each_step(self.uploaded, lambda files, upload: files.delete(upload_name(BUCKET, upload, NAME)), lambda memory: self.judge(memory, OLD, OLD))
-        self.assertEqual(seen, {(OLD, 1), (OLD, 0)})
 
     def test_touch(self):
         def change(files, _):
@@ -211,7 +186,7 @@ class Steps(unittest.TestCase):
         self.assertEqual({each[2] for each in seen}, {"x", "y"})
 
     def test_complete_beside_another_writer(self):
-        """The other session puts the object between any two steps of a completion: one of both is the last, and no slot is lost."""
+        """The other session puts the object between any two steps of a completion: one of both is the last."""
         step, seen = 0, set()
         while True:
             step += 1
@@ -248,9 +223,10 @@ class Steps(unittest.TestCase):
                 raise S3Error("PreconditionFailed")
 
         with self.assertRaises(S3Error):
-            files.put_object(NAME, Body(b"new" * 200), dict, refuse_late)
+            files.put_object(NAME, Body(b"new" * 400), dict, refuse_late)
         self.assertEqual(content_of(files, NAME), OLD)
-        self.assertEqual(files.writer.keeper.needed().taken(), files.writer.bucket(0).journal.slots(1))
+        files.close()
+        self.assertEqual(memory.kept(), set())
 
     def after_a_dead_writer(self, step, is_late, is_settled):
         """A client of session 2 dies at a step of a put. New clients of both sessions come; that of session 1 puts where it sees nothing. What the name
@@ -319,7 +295,7 @@ class Steps(unittest.TestCase):
             self.assertEqual(list(objects.settled), [] if is_lost else [0], failing)
 
     def test_completion_that_is_refused(self):
-        """The parts stay where they are, and nothing else takes their slots."""
+        """The parts stay where they are, and are not forgotten."""
         memory = fresh()
         files = client(memory)
         upload = self.uploaded(files)
@@ -328,11 +304,13 @@ class Steps(unittest.TestCase):
             raise S3Error("PreconditionFailed")
 
         name = upload_name(BUCKET, upload, NAME)
-        chosen = [slots for _, slots in files.uploaded(files.upload(name))]
+        chosen = [where for _, where in files.uploaded(files.upload(name))]
         with self.assertRaises(S3Error):
             files.complete(name, Target(NAME), {"m": "joined"}, chosen, refuse)
         for number in range(6):
-            put(files, "bucket/other", b"%d" % number * 900)
+            put(files, "bucket/other", b"%d" % number * 1100)
+        files.forget_after = 0
+        files.forget_gone()
         complete(files, upload)
         self.assertEqual(content_of(files, NAME), b"".join(PARTS))
 
@@ -373,40 +351,77 @@ class Steps(unittest.TestCase):
 
 class Contents(unittest.TestCase):
     def test_ranges(self):
-        """All ranges of a content of parts, over pieces."""
-        memory, files = fresh(), None
+        """All ranges of a content of parts, over pieces: in chunks, in slots, and in both."""
+        for in_slots in ((), (1, 2, 3), (1, 3), (2,)):
+            memory = fresh(slots=40)
+            files, upload = client(memory), begun_upload(memory, in_slots)
+            complete(files, upload)
+            held, whole = files.look(NAME), b"".join(PARTS)
+            self.assertIsInstance(held.content, Joined)
+            draw = random.Random(1)
+            for first in {*range(0, len(whole), 183), 0, 499, 500, 509, 510, len(whole) - 1}:
+                for end in {first + 1, draw.randrange(first, len(whole)) + 1, len(whole)}:
+                    self.assertEqual(b"".join(files.content(held, first, end)), whole[first:end])
+            # The client for files by name tells the same.
+            self.assertEqual(files.get(NAME)[0], whole)
+
+    def test_an_upload_of_before(self):
+        """One that a gateway from before chunks began, whose parts are in slots: a part more comes in chunks, one is put anew, and it is completed, or given up."""
+        for is_completed in (True, False):
+            memory = fresh(slots=40)
+            upload = begun_upload(memory, (1, 2, 3))
+            told, files, name = tables(lambda *place: memory.read(place), memory.layout), client(memory), upload_name(BUCKET, upload, NAME)
+            part(files, upload, 4, b"d" * 30)
+            part(files, upload, 2, b"e" * 40)
+            wheres = [where for _, where in files.uploaded(files.upload(name))]
+            self.assertEqual([isinstance(where, InChunks) for where in wheres], [False, True, False, True])
+            if is_completed:
+                complete(files, upload)
+                self.assertEqual(content_of(client(memory, 2), NAME), PARTS[0] + b"e" * 40 + PARTS[2] + b"d" * 30)
+                put(files, NAME, b"f" * 1200)
+                self.assertEqual(content_of(client(memory, 2), NAME), b"f" * 1200)
+            else:
+                files.delete(name)
+            self.assertEqual(uploads(client(memory, 2)), [])
+            files.close()
+            self.assertEqual(memory.kept(), memory.named())
+            self.assertEqual(tables(lambda *place: memory.read(place), memory.layout), told)  # (which nobody writes)
+
+    def test_no_room_for_chunks(self):
+        """What fits no line is told 507, with the reason, and nothing is changed; what fits one is put."""
+        memory = fresh()
+        for server in memory.servers.at.values():
+            server.allowed = 0
         files = client(memory)
-        upload = files.begin_upload(BUCKET, NAME, {})
-        for number, content in enumerate(PARTS, 1):
-            part(files, upload, number, content)
-        complete(files, upload)
-        held, whole = files.look(NAME), b"".join(PARTS)
-        self.assertIsInstance(held.content, Joined)
-        draw = random.Random(1)
-        for first in {*range(0, len(whole), 83), 0, 499, 500, 509, 510, len(whole) - 1}:
-            for end in {first + 1, first + 300, draw.randrange(first, len(whole)) + 1, len(whole)}:
-                self.assertEqual(b"".join(files.content(held, first, min(end, len(whole)))), whole[first:end])
-        # The client for files by name tells the same.
-        self.assertEqual(files.get(NAME)[0], whole)
+        put(files, NAME, OLD)
+        upload, before = files.begin_upload(BUCKET, NAME, {}), dict(memory.registers)
+        for call in (lambda: put(files, NAME, bytes(1025)), lambda: part(files, upload, 1, b"x")):
+            with self.assertRaises(NoRoom) as told:
+                call()
+            error = error_of(told.exception)
+            self.assertEqual((error.code, error.status), ("InsufficientStorage", 507))
+            self.assertRegex(error.message, "the plan gives the tenant none for chunks; .*more NAME 16G in chunks")
+        self.assertEqual((dict(memory.registers), content_of(files, NAME)), (before, OLD))
 
     def test_replaced_while_it_is_read(self):
-        memory = fresh()
-        put(client(memory), NAME, OLD * 5)
+        """By a client from before chunks, which uses its slots anew."""
+        memory = fresh(slots=24)
+        old = OldClient(client(memory, 1).session, memory.layout)
+        old.put(NAME, OLD * 5)
         reader = client(memory, 2)
         held = reader.look(NAME)
         found = reader.content(held, 0, held.content.size)
         next(found)
-        writer = client(memory, 1)
-        for number in range(20):  # until the slots are used anew
-            put(writer, NAME, b"%d" % number * 900)
+        for number in (18, 19):
+            old.put_anew(NAME, b"%d" % number * 450)
         with self.assertRaises(Exception) as fault:
             b"".join(found)
         self.assertEqual(type(fault.exception).__name__, "Replaced")
         self.assertEqual(reader.read(NAME, lambda held: (0, held.content.size))[2][:2], b"19")
 
     def test_spoilt(self):
-        memory = fresh()
-        put(client(memory), NAME, b"x" * 600)
+        memory = fresh(slots=24)
+        OldClient(client(memory, 1).session, memory.layout).put(NAME, b"x" * 600)
         place = next(place for place, copy in memory.registers.items() if copy.content.endswith(b"xxx"))
         copy = memory.registers[place]
         memory.registers[place] = type(copy)(copy.tag, copy.content[:-1] + b"y")

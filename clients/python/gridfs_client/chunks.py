@@ -29,6 +29,7 @@ LONG, MOST_SLOW = 1 << 16, 20.0  # bytes of what tells how slow a connection is,
 FULL = 0.05  # seconds until it is looked again whether a line may be sent
 LEAST = 0.001  # seconds for which answers are looked for at least
 ROOM_LASTS = 5.0  # seconds for which what was told of room is believed
+MORE_ROOM = "once all nodes and all clients are of this version, a later plan has to give it some (a wish of tools/plan: more NAME 16G in chunks; docs/SLOTS.md)"
 
 
 @dataclass(frozen=True)
@@ -65,6 +66,7 @@ class Ahead:
         self.bytes, self.guard, self.downlink = 0, threading.Lock(), Uplink()
         self.slow: dict[Uplink, float] = {}  # how often as long as reckoned what goes one way takes
         self.rooms: Rooms = {}
+        self.without: tuple[int, ...] = ()  # nodes that told that they keep no chunks
         self.asked = self.looked = float("-inf")
         self.turn = 0
 
@@ -270,6 +272,38 @@ Told = dict[Question, ChunkTold]
 Progress = Callable[[int], None]
 
 
+class Asking:
+    """Questions under way: each is asked until it is answered, as long as somebody has it go on."""
+
+    def __init__(self, chunks: "Chunks", questions: Iterable[Question]):
+        self.chunks, self.left, self.asked, self.found = chunks, deque(questions), dict[Question, Line](), dict[Question, ChunkTold]()
+        self.box, self.begun = chunks.carrier.attach_chunks({question.key: None for question in self.left}), chunks.carrier.now()
+
+    def go_on(self, seconds: float) -> bool:
+        """Asks what is due, and takes an answer that comes in so many seconds; whether it was one of these."""
+        chunks, count = self.chunks, len(self.found)
+        while self.left and len(self.asked) < MOST_QUESTIONS:
+            question = self.left.popleft()
+            self.asked[question] = Line(chunks, question.place, question.body, len(question.body), uplink_of(chunks.carrier))
+        wait = chunks.send_due(self.asked.values())
+        answer = chunks.carrier.receive(self.box, max(0, min(wait, seconds)))
+        if isinstance(answer, ChunkTold):
+            for question in [each for each in self.asked if chunks.is_answer(each, answer)]:
+                self.asked.pop(question).end(True)
+                self.found[question] = answer
+                chunks.silent.discard(question.place)
+        return len(self.found) > count
+
+    @property
+    def is_over(self) -> bool:
+        return not self.left and not self.asked
+
+    def end(self) -> None:
+        self.chunks.carrier.detach(self.box)
+        for line in self.asked.values():
+            line.end()
+
+
 class Chunks:
     """The chunks of one session, and what it reads of those of others. One call at a time."""
 
@@ -283,6 +317,7 @@ class Chunks:
         self.turn = number
         self.silent: set[int] = set()  # places that did not answer soon
         self.unneeded: list[Run] = []  # what may be kept somewhere, and nothing is to name
+        self.forgetting: tuple[Asking, dict[Question, Run]] | None = None  # what nodes are asked to forget meanwhile
 
     def another(self) -> "Chunks":
         """For calls beside those of this one."""
@@ -307,30 +342,15 @@ class Chunks:
 
     def ask(self, questions: Sequence[Question], seconds: float, is_enough: Callable[[Told, float], bool] = lambda *_: False) -> Told:
         """Asks until all is answered, no answer came for so many seconds, or it is enough, of what was told after so many seconds. What was told."""
-        found: Told = {}
-        left, asked = deque(questions), dict[Question, Line]()
-        keys = {question.key: None for question in questions}
-        box, begun = self.carrier.attach_chunks(keys), self.carrier.now()
-        until = begun + seconds
+        asking = Asking(self, questions)
+        until = asking.begun + seconds
         try:
-            while len(found) < len(questions) and (now := self.carrier.now()) < until:
-                while left and len(asked) < MOST_QUESTIONS:
-                    question = left.popleft()
-                    asked[question] = Line(self, question.place, question.body, len(question.body), uplink_of(self.carrier))
-                if is_enough(found, now - begun):
-                    break
-                wait = self.send_due(asked.values())
-                answer = self.carrier.receive(box, min(wait, max(0, until - self.carrier.now())))
-                if isinstance(answer, ChunkTold):
-                    for question in [each for each in asked if self.is_answer(each, answer)]:
-                        asked.pop(question).end(True)
-                        found[question], until = answer, self.carrier.now() + seconds
-                        self.silent.discard(question.place)
+            while not asking.is_over and (now := self.carrier.now()) < until and not is_enough(asking.found, now - asking.begun):
+                if asking.go_on(until - now):
+                    until = self.carrier.now() + seconds
         finally:
-            self.carrier.detach(box)
-            for line in asked.values():
-                line.end()
-        return found
+            asking.end()
+        return asking.found
 
     def is_answer(self, question: Question, answer: ChunkTold) -> bool:
         return answer.node == self.node_at(question.place) and answer.key == question.key and answer.word in (question.word, "bad")
@@ -354,8 +374,16 @@ class Chunks:
             raise Unanswered(f"session {self.number}: no node told its room for chunks in {self.pace.timeout:g} s")
         return self.ahead.rooms
 
-    def allowed(self) -> int:
-        """The bytes that the columns may have in all, as far as it was told."""
+    def why_no_room(self) -> str:
+        """Why the tenant has no room for chunks, as nodes told it last, and what to do. (One whose plan gives room to nobody answers as one of before chunks.)"""
+        without = self.ahead.without
+        what = f"node{'s' * (len(without) > 1)} {listed(without)} keep{'s' * (len(without) == 1)} no chunks" if without else "the plan gives the tenant none for chunks"
+        return f"{what}; {MORE_ROOM}"
+
+    def allowed(self) -> int | None:
+        """The bytes that the columns may have in all, as far as it was told. None where no node told it."""
+        if self.ahead.asked < 0:
+            return None
         every = ([self.ahead.rooms[place].allowed for place in self.shape.column(column) if place in self.ahead.rooms] for column in range(self.shape.columns))
         return sum(max(allowed, default=0) for allowed in every)
 
@@ -373,14 +401,15 @@ class Chunks:
         if not found:
             return None
         rooms = rooms_in(found)
-        self.ahead.rooms = rooms if any(room.allowed for room in rooms.values()) and not is_refused(found) else {}
+        self.ahead.rooms = rooms if any(room.allowed for room in rooms.values()) else {}
+        self.ahead.without = tuple(sorted(told.node for told in found.values() if told.word == "bad"))
         self.ahead.asked = self.carrier.now()
         return self.ahead.rooms
 
     def is_enough(self, told: Told, seconds: float) -> bool:
-        """Whether others need not be waited for: a node knows no chunks, or each had some time, and a column is up or nobody gives room."""
+        """Whether others need not be waited for: each had some time, and a column is up or nobody gives room."""
         rooms = rooms_in(told)
-        return is_refused(told) or seconds > self.pace.again and bool(told) and (bool(self.usable(rooms)) or not any(room.allowed for room in rooms.values()))
+        return seconds > self.pace.again and bool(told) and (bool(self.usable(rooms)) or not any(room.allowed for room in rooms.values()))
 
     def usable(self, rooms: Rooms) -> dict[int, int]:
         """The columns all of whose nodes answer and give room, each with the free bytes of the fullest node."""
@@ -412,20 +441,50 @@ class Chunks:
         """No line names these, and none that could still be seen."""
         self.unneeded += runs
 
+    @property
+    def has_unneeded(self) -> bool:
+        return bool(self.unneeded or self.forgetting)
+
     def forget_unneeded(self, seconds: float = SOON) -> bool:
         """Has the nodes forget what is noted as unneeded, as far as they answer soon one after another: what is left stays noted. Whether all did."""
+        self.end_forgetting()
         runs, self.unneeded = self.unneeded, []
         self.unneeded = self.forget(runs, seconds)[:MOST_NOTED]
         return not self.unneeded
 
-    def forget(self, runs: Iterable[Run], seconds: float, floor: int = 0) -> list[Run]:
-        """Has the nodes of their columns forget these, for good: no number up to the last of a run, or to the floor, is kept any more. Those of which not all nodes
-        told so."""
-        asked = {
+    def begin_to_forget(self) -> None:
+        """Asks the nodes to forget what is noted, or some of it, and waits for nobody: what they told since is taken by the next call."""
+        if self.forgetting is None and self.unneeded:
+            runs, self.unneeded = self.unneeded, []
+            asked = self.to_forget(runs, 0)
+            self.forgetting = Asking(self, asked), asked
+        if self.forgetting:
+            asking = self.forgetting[0]
+            while asking.go_on(0):
+                pass
+            if asking.is_over or self.carrier.now() > asking.begun + SOON:
+                self.end_forgetting()
+
+    def end_forgetting(self) -> None:
+        """What was begun by then, and not told, is noted again, behind the rest."""
+        if self.forgetting:
+            asking, asked = self.forgetting
+            self.forgetting = None
+            asking.end()
+            self.unneeded = [*self.unneeded, *dict.fromkeys(run for question, run in asked.items() if question not in asking.found)][:MOST_NOTED]
+
+    def to_forget(self, runs: Iterable[Run], floor: int) -> dict[Question, Run]:
+        """What the nodes of their columns are asked for."""
+        return {
             Question(place, b"forget %d %d %d %d" % (run.session, max(floor, run.last), run.first, run.last), "forgot", (run.session, run.first)): run
             for run in runs
             for place in self.shape.column(run.column)
         }
+
+    def forget(self, runs: Iterable[Run], seconds: float, floor: int = 0) -> list[Run]:
+        """Has the nodes of their columns forget these, for good: no number up to the last of a run, or to the floor, is kept any more. Those of which not all nodes
+        told so."""
+        asked = self.to_forget(runs, floor)
         told = self.ask(list(asked), seconds)
         return list(dict.fromkeys(run for question, run in asked.items() if question not in told))
 
@@ -507,10 +566,6 @@ class Chunks:
                     raise Unanswered(f"session {self.number}: no node told {getting.name()} in {round(waited, 1):g} s")
                 if getting.line.sent and getting.line.left() <= 0:
                     getting.ask_next(True)
-
-
-def is_refused(told: Told) -> bool:
-    return any(answer.word == "bad" for answer in told.values())
 
 
 def rooms_in(told: Told) -> Rooms:

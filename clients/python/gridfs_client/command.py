@@ -260,9 +260,8 @@ def parser() -> argparse.ArgumentParser:
          **{"--dry-run": dict(is_given, help="tell what would be done, and do nothing"),
             "--delete": dict(is_given, help="remove what is in the target and not in the source")})  # fmt: skip
     word("status", status, "tell which nodes answer, and what the tenant has used of its room")
-    word("sweep", sweep, "forget names that were taken away, and find room that dead commands left taken; of all sessions that nobody uses",
-         **{"--catch-up": dict(is_given, help="after damage: first let pages that are older than others ask for catch up"),
-            "--erase": dict(is_given, help="write each slot that no name needs empty at every column, so that no node keeps an older copy")})  # fmt: skip
+    word("sweep", sweep, "forget names that were taken away, and chunks that dead commands left; of all sessions that nobody uses",
+         **{"--catch-up": dict(is_given, help="after damage: first let pages that are older than others ask for catch up")})  # fmt: skip
     word("renew", renew, "move contents that are in slots to chunks, once a plan gives room for these; by one session after another, so that others go on")
     word("grow", grow, "let names go on to more pages, once a plan gives these and all nodes have it; by one session after another, so that others go on")
     # What lies below names: the numbered files themselves.
@@ -381,8 +380,8 @@ def stat(opened: Opened | OpenedFleet, args: argparse.Namespace) -> None:
 def sweep(opened: Opened | OpenedFleet, args: argparse.Namespace) -> None:
     names = opened.names()
     caught_up = names.catch_up() if args.catch_up else 0
-    swept = names.sweep(args.erase)
-    text = f"removals: {swept.forgotten} forgotten, {swept.left} left; slots: {swept.emptied} emptied"
+    swept = names.sweep()
+    text = f"removals: {swept.forgotten} forgotten, {swept.left} left"
     value = {key: each for key, each in vars(swept).items() if key not in ("chunks", "silent") or each}
     if swept.chunks:
         text += f"; chunks: {swept.chunks} forgotten"
@@ -521,7 +520,7 @@ def status_of_grids(grids: OpenGrids, args: argparse.Namespace) -> None:
     lines = [line for grid, (_, told, _) in found.items() for line in (f"{grid}:", *(f"  {each}" for each in told))]
     usages = [value["bytes"] and (value["names"], value["bytes"]) for value, _, _ in found.values()]
     known = [usage for usage in usages if usage]
-    whole = {"names": sum(names for names, _ in known), "bytes": {key: sum(size[key] for _, size in known) for key in ("used", "free")}}
+    whole = {"names": sum(names for names, _ in known), "bytes": {key: sum(size[key] or 0 for _, size in known) for key in ("used", "free")}}
     lines.append(f"all: {whole['names']} names, {whole['bytes']['used']} bytes used, {whole['bytes']['free']} free")
     tell(args, {"grids": {grid: value for grid, (value, _, _) in found.items()}} | whole, *lines)
     for grid, (_, _, fault) in found.items():

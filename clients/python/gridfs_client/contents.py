@@ -68,16 +68,6 @@ class Strand:
         return f"{self.session}:" + ",".join(str(run.start) if len(run) == 1 else f"{run.start}-{run.stop - 1}" for run in self.runs)
 
 
-def strand_of(session: int, slots: Iterable[int]) -> Strand:
-    runs: list[range] = []
-    for slot in slots:
-        if runs and slot == runs[-1].stop:
-            runs[-1] = range(runs[-1].start, slot + 1)
-        else:
-            runs.append(range(slot, slot + 1))
-    return Strand(session, tuple(runs))
-
-
 def parse_strand(text: str) -> Strand:
     """A ValueError for a run that goes down, and for slots that no tenant has."""
     session, runs = text.split(":")
@@ -155,10 +145,6 @@ class InChunks:
     def parts(self) -> "tuple[InChunks, ...]":
         return (self,)
 
-    def order(self) -> Iterator[tuple[int, int]]:
-        """It is in no slots."""
-        return iter(())
-
     def text(self) -> str:
         return f"{self.size} {self.digest} {';'.join(run.text() for run in self.runs)}"
 
@@ -185,9 +171,6 @@ class PartList:
     def list(self) -> InChunks:
         return InChunks(self.length, self.digest, self.runs)
 
-    def order(self) -> Iterator[tuple[int, int]]:
-        return iter(())
-
     def text(self) -> str:
         return f"{self.size} {self.digest} {self.length}*{';'.join(run.text() for run in self.runs)}"
 
@@ -213,9 +196,6 @@ class Joined:
     @property
     def pieces(self) -> int:
         return sum(part.pieces for part in self.parts)
-
-    def order(self) -> Iterator[tuple[int, int]]:
-        return (choice for part in self.parts for choice in part.order())
 
     def text(self) -> str:
         return "&".join(part.text() for part in self.parts)

@@ -18,7 +18,7 @@ from dataclasses import dataclass, field, replace
 from functools import cached_property
 
 from .answers import Tag
-from .contents import Content, InSlots, Part, parts_of, slots_of
+from .contents import Content, InSlots, Part, parts_of
 
 
 @dataclass(frozen=True, order=True)
@@ -118,21 +118,9 @@ class Page:
         """Sessions, and the number that the page of each has at least, where it is seen beside this one."""
         return ((session, number) for session, number in enumerate(self.after, 1) if number)
 
-    def slots(self, session: int) -> set[int]:
-        """The slots of a session that lines name."""
-        return {slot for part in self.parts() for strand in part.strands if strand.session == session for slot in strand.slots}
-
-    def parts(self) -> Iterator[InSlots]:
-        """What lines say of contents in slots."""
-        return slots_of(line.content for line in self.lines)
-
     def in_chunks(self) -> set[Part]:
         """The contents in chunks, and the lists of such, that lines name."""
         return {part for part in parts_of(line.content for line in self.lines) if not isinstance(part, InSlots)}
-
-    def puts(self) -> set[int]:
-        """The puts whose slots lines name."""
-        return {part.put for part in self.parts()}
 
 
 @dataclass(frozen=True)

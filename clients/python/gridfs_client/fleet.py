@@ -16,7 +16,7 @@ from .errors import BadName, BadSettings, ClientError, Damaged, NoRoom, NoSuchNa
 from .fleet_map import FleetMap
 from .layout import Layout
 from .listing import Listing, Looked
-from .names import Entry, Listed, NamedFiles, Swept, copied_whole, entry_of, listed_of, no_words
+from .names import Entry, Listed, NamedFiles, Swept, copied_whole, entry_of, listed_of, no_words, where_of
 from .pages import check_name, check_words, text_of
 from .streams import Source
 from .ways import Found, Ground, Opens, Walk, slice_of
@@ -209,7 +209,7 @@ class FleetFiles:
         """A content that stands at one grid, placed at another one; no line at the first one is to name it."""
         with spool() as room:
             if self.grid(grid).copy_to(held, room) is not None:
-                raise Damaged(f"{held.name}: its slots don't hold it")
+                raise Damaged(f"{held.name}: {where_of(held.content)} don't hold it")
             room.seek(0)
             placed = self.grid(target).placed(self.bucket(target, held.name), held.name, Source(room), lambda: held.words)
         self.grid(grid).unplace(self.bucket(grid, held.name), held.content)
@@ -255,11 +255,11 @@ class FleetFiles:
         except ClientError as fault:
             return fault
 
-    def sweep(self, erase: bool = False) -> Swept:
-        found = [self.grid(grid).sweep(erase) for grid in self.map.grids]
-        forgotten, left, emptied = (sum(counts) for counts in zip(*((each.forgotten, each.left, each.emptied) for each in found)))
+    def sweep(self) -> Swept:
+        found = [self.grid(grid).sweep() for grid in self.map.grids]
+        forgotten, left = (sum(counts) for counts in zip(*((each.forgotten, each.left) for each in found)))
         absent = sorted({number for each in found for number in each.absent})
-        return Swept(forgotten, left, emptied, absent, sum(each.chunks for each in found), tuple(sorted({place for each in found for place in each.silent})))
+        return Swept(forgotten, left, absent, sum(each.chunks for each in found), tuple(sorted({place for each in found for place in each.silent})))
 
     def catch_up(self) -> int:
         return sum(self.grid(grid).catch_up() for grid in self.map.grids)

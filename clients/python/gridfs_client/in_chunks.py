@@ -9,7 +9,7 @@ from typing import cast
 
 from .carriers import Carrier
 from .chunk_lines import CHUNK_CHARGE, MOST_CHUNK
-from .chunks import ROOM_LASTS, Chunks, Rooms, Wanted
+from .chunks import MORE_ROOM, ROOM_LASTS, Chunks, Rooms, Wanted
 from .contents import InChunks, InSlots, PartList, Part, digest_in_hex, parse_part, to_base64
 from .errors import CarrierFault, Damaged, NoRoom, Unanswered
 from .runs import Place, Run, runs_of
@@ -54,7 +54,8 @@ class ChunkContents:
     # Writing
 
     def expect_room(self, name: str, size: int | None) -> int:
-        """The column for a content of so many bytes. NoRoom where all columns together have too little; Unanswered where none is wholly up."""
+        """The column for a content of so many bytes. NoRoom where the tenant has no room for chunks, or all columns together have too little; Unanswered where none
+        is wholly up."""
         wanted, least = self.room_for(size or 1), self.room_for(min(size or 1, self.most))
         for lasts in (ROOM_LASTS, 0):  # (as it was told last, and then as it is)
             rooms = self.chunks.rooms(lasts)
@@ -65,6 +66,8 @@ class ChunkContents:
         if usable:
             told = ", ".join(f"column {each} has {free}" for each, free in usable.items())
             raise NoRoom(f"{name}: no room: {f'{size} bytes take {wanted}' if size else 'some bytes are wanted'}, and {told} free")
+        if not rooms or self.chunks.ahead.without:
+            raise NoRoom(f"{name}: no room: {self.chunks.why_no_room()}")
         raise Unanswered(f"session {self.chunks.number}: no column of nodes that give room for chunks is wholly up")
 
     def room_for(self, size: int) -> int:
@@ -202,6 +205,11 @@ class ChunkContents:
         with suppress(CarrierFault):
             self.chunks.forget_unneeded()
 
+    def begin_to_forget(self) -> None:
+        """Asks them to, and waits for none."""
+        with suppress(CarrierFault):
+            self.chunks.begin_to_forget()
+
     def sweep(self, named: Iterable[Part]) -> tuple[int, set[int]]:
         """Has nodes forget all chunks of the session but those that its journals name, all of which it has carried. How many there were, and the places of nodes
         that did not answer. Nothing that an earlier client sent is kept any more. Damaged, Gone: a list that is named can't be read, and nothing is forgotten."""
@@ -209,6 +217,7 @@ class ChunkContents:
         for _ in found.list():
             pass
         found.spare(named)
+        self.chunks.end_forgetting()
         self.chunks.unneeded.clear()
         return found.forget()
 
@@ -253,6 +262,13 @@ class Sweep:
         """Has nodes forget what is left, once all that lines name was spared. How many chunks that were, and the places of nodes that did not answer."""
         self.chunks.forget(runs_of(sorted(self.orphans)), self.chunks.pace.timeout / 2, self.floor)
         return len(self.orphans), self.silent
+
+
+def why_none(contents: ChunkContents | None) -> str:
+    """Why a tenant has no room for chunks, and what to do; without contents since it is not said how the nodes are arranged."""
+    if contents is None:
+        return f"no node tells how the nodes are arranged, by which chunks are kept, and `grid` does not say it; {MORE_ROOM}"
+    return contents.chunks.why_no_room()
 
 
 def contents_of(session: Files) -> ChunkContents | None:

@@ -113,7 +113,7 @@ class Journals:
         return any(all(row * len(columns) + column in places for column in columns) for row in range(self.plan.rows))
 
     def write_pages(self, out: IO[bytes]) -> None:
-        """Writes what `usage_of` wants as one more journal, to be read with others: the plan, and of each tenant with names its pages and slot tables. No node
+        """Writes what `usage_of` wants as one more journal, to be read with others: the plan, and of each tenant with names its pages. No node
         starts with that: its batches have no digest."""
         write_batch(out, 1, [self.plan.text])
         write_batch(out, 2, [each for tenant in self.plan.tenants for each in self.lines_of_pages(tenant)])

@@ -34,9 +34,7 @@ a journal is damaged or copies don't go together, 6 for other faults of files, a
 METRICS: dict[str, tuple[str, Callable[[Usage], float]]] = {
     "names": ("names that hold a content", lambda usage: usage.names),
     "used_bytes": ("bytes of these contents", lambda usage: usage.bytes_used),
-    "free_bytes": ("bytes that free slots have room for", lambda usage: usage.bytes_free),
-    "slots_used": ("slots that are taken", lambda usage: usage.slots_taken),
-    "slots_free": ("slots that are free", lambda usage: usage.slots_free),
+    "slot_bytes": ("bytes of these that are in slots, from before chunks", lambda usage: usage.bytes_in_slots),
     "fullest_page_ratio": ("how full the fullest page is", lambda usage: usage.fullest.bytes / usage.fullest.most),
 }
 
@@ -101,7 +99,7 @@ def room(args: argparse.Namespace) -> None:
         tenants = {tenant: {"share": shares[tenant]} | usage_value(*each) for tenant, each in found.items()}
         out(json_of({"nodes": nodes, "has_whole_row": is_whole, "tenants": tenants}).encode() + b"\n")
         return
-    lines = [f"{'tenant':<16} {'names':>7} {'bytes used':>14} {'bytes free':>14} {'slots free':>10} {'of':>6} {'fullest page':>12}"]
+    lines = [f"{'tenant':<16} {'names':>7} {'bytes used':>14} {'in slots':>14} {'fullest page':>12}"]
     for tenant, (usage, why) in found.items():
         lines.append(f"{tenant:<16} {row_of(usage)}" if usage else f"{tenant:<16} left out: {why}")
     if not is_whole:
@@ -110,8 +108,7 @@ def room(args: argparse.Namespace) -> None:
 
 
 def row_of(usage: Usage) -> str:
-    slots = usage.slots_free + usage.slots_taken
-    return f"{usage.names:>7} {usage.bytes_used:>14} {usage.bytes_free:>14} {usage.slots_free:>10} {slots:>6} {usage.fullest.percent:>11}%"
+    return f"{usage.names:>7} {usage.bytes_used:>14} {usage.bytes_in_slots:>14} {usage.fullest.percent:>11}%"
 
 
 def metrics(usages: dict[str, Usage], nodes: str) -> Iterator[str]:

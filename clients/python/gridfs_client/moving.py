@@ -4,7 +4,7 @@
 2. The signpost is put into each page of each session of the old grid: from then on its lines of these slices stay as they are.
 3. Each name whose line that counts stands at the old grid is copied, and each bucket of the new grid gets a number above those of the old one.
 4. The map says the new grid.
-5. The lines of the slices go from the pages of the old grid, and with them the slots of their contents.
+5. The lines of the slices go from the pages of the old grid, and with them the chunks of their contents.
 6. The map says that the move has ended.
 
 A move that has not come yet can be taken back, by a move of the same slices to the old grid. That puts its signposts into the pages of the new one, and copies
@@ -260,7 +260,7 @@ class Mover:
             if held:
                 content = self.placed(fleet.grid(found.grid), target, bucket, held)
                 if content is None:
-                    continue  # (the slots are used anew: the line has gone)
+                    continue  # (its chunks are forgotten, or its slots used anew: the line has gone)
                 again = fleet.drive(ways.walk(name, self.start(name), True))
                 if ways.greatest(again) != found:
                     target.unplace(bucket, content)
@@ -280,7 +280,7 @@ class Mover:
         return any(each.grid == self.move.target and original(each.version) == original(found.version) for each in ways.lines(walk))
 
     def placed(self, source: NamedFiles, target: NamedFiles, bucket: Bucket, held: Held) -> Content | None:
-        """What a name holds, in its place at the new grid: each part by itself, so that it has the same parts. None where a slot holds something else by now."""
+        """What a name holds, in its place at the new grid: each part by itself, so that it has the same parts. None where the old one has not all of it any more."""
         if isinstance(held.content, Inline):
             return target.placed(bucket, held.name, Source(held.content.content), lambda: held.words)
         parts: list[Part] = []

@@ -1,7 +1,7 @@
 """Contents that are in slots go to chunks, where the tenant has room for these. Names, versions, words and bytes stay as they are.
 
 Who has a session changes its pages alone. A line keeps its version, and says of the same bytes where they are now: so no change of another session is undone,
-whatever comes meanwhile. A slot is free once a page was carried that does not name it.
+whatever comes meanwhile. What stood in a slot stays there, and nothing names it once the page was carried.
 """
 
 from collections.abc import Iterable
@@ -12,7 +12,7 @@ from .contents import Content, InChunks, InSlots, Part, joined, parts_of, slots_
 from .core import Line, Page, Version
 from .errors import BadSettings, Damaged, NoRoom
 from .fleet import spool
-from .in_chunks import ChunkContents
+from .in_chunks import ChunkContents, why_none
 from .names import NamedFiles
 from .runs import MOST_NUMBER, Run
 from .streams import Source
@@ -101,7 +101,7 @@ class Renewal:
     def in_chunks(self, held: Held, part: InSlots) -> Part:
         with spool() as room:
             if self.files.copy_part(held, part, room) is not None:
-                raise Damaged(f"{held.name}: its slots don't hold it")  # (nobody else can have used them anew)
+                raise Damaged(f"{held.name}: its slots don't hold it")  # (only an older client with this session could have used them anew)
             room.seek(0)
             return self.contents.put(Source(room), self.contents.expect_room(held.name, part.size), lambda *_: None)
 
@@ -117,5 +117,5 @@ def renew(files: NamedFiles) -> Renewed:
     then stays moved."""
     contents = files.writer.contents
     if contents is None or not contents.rooms():
-        raise BadSettings("the tenant has no room for chunks: a later plan has to give it some")
+        raise BadSettings(why_none(contents))
     return Renewal(files, contents).run()

@@ -44,7 +44,7 @@ SETTINGS: dict[str, Setting] = {
     "via": Setting(None, "COMMAND", "a command that carries lines TO FROM BODY, in place of links"),
     "map": Setting(None, "FILE", "a map of several grids, which has the settings of each (gridfs-fleet), in place of a tenant and its grid"),
     "session": Setting("all", "N|N-M|all", "the first of these sessions that no other command here uses and whose home answers"),
-    "helpers": Setting("3", "N", "how many more of these move a content in many pieces, besides"),
+    "helpers": Setting("3", "N", "how many more of these list many pages, besides"),
     "timeout": Setting("30", "SECONDS", "how long an answer is waited for, from the beginning of the command or from the last one"),
     "locks": Setting(None, "FOLDER", "where commands tell each other the sessions they use (~/.cache/gridfs): one for all users of a tenant"),
     "grid": Setting(None, "ROWSxCOLUMNS", "how the nodes are arranged, as 2x3: nodes of before do not tell it"),

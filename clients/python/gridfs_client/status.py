@@ -37,14 +37,14 @@ def nodes_value(nodes: Nodes) -> dict[str, Any]:
 def usage_value(usage: Usage | None, left_out: str | None) -> dict[str, Any]:
     """The tenant's part, for JSON: the same keys, whether it is known or left out."""
     if usage is None:
-        return {"names": None, "pages": None, "slots": None, "bytes": None, "left_out": left_out}
+        return {"names": None, "pages": None, "in_slots": None, "bytes": None, "left_out": left_out}
     page = usage.fullest
     fullest = {"session": page.session, "page": page.page, "bytes": page.bytes, "most": page.most, "percent": page.percent}
     return {
         "names": usage.names,
         "pages": {"count": usage.pages, "fullest": fullest},
-        "slots": {"used": usage.slots_taken, "free": usage.slots_free, "without_a_name": usage.slots_without_a_name},
-        "bytes": {"used": usage.bytes_used, "free": usage.bytes_free},
+        "in_slots": {"names": usage.names_in_slots, "bytes": usage.bytes_in_slots},
+        "bytes": {"used": usage.bytes_used, "free": usage.bytes_free if usage.columns else None},
         "left_out": None,
     } | ({"chunks": [asdict(column) for column in usage.columns]} if usage.columns else {})
 
@@ -78,24 +78,14 @@ def nodes_lines(nodes: Nodes) -> list[str]:
 
 def usage_lines(usage: Usage | None, left_out: str | None) -> list[str]:
     if usage is None:
-        return [f"names, pages, slots, bytes: left out: {left_out}"]
+        return [f"names, pages, bytes: left out: {left_out}"]
     page = usage.fullest
     return [
         f"names: {usage.names}",
         f"pages: {usage.pages}, the fullest at {page.percent} percent (page {page.page} of session {page.session}, {page.bytes} of {page.most} bytes)",
-        *slot_lines(usage),
+        f"bytes: {usage.bytes_used} used",
+        *[f"in slots, from before chunks: {usage.names_in_slots} names, {usage.bytes_in_slots} bytes (docs/SLOTS.md)"] * bool(usage.names_in_slots),
         *map(column_line, usage.columns),
-    ]
-
-
-def slot_lines(usage: Usage) -> list[str]:
-    """What is used, and slots, where the plan has any: a tenant whose contents are all in chunks has one small file behind its names."""
-    if usage.columns and not usage.slots_taken and usage.slots_free <= 1:
-        return [f"bytes: {usage.bytes_used} used"]
-    unnamed = usage.slots_without_a_name
-    return [
-        f"slots: {usage.slots_taken} used{f', of which {unnamed} are freed when room is wanted' if unnamed else ''}, {usage.slots_free} free",
-        f"bytes: {usage.bytes_used} used, {usage.bytes_free} free{' in slots' * bool(usage.columns)}",
     ]
 
 

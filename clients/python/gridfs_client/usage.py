@@ -3,11 +3,10 @@
 from collections.abc import Iterator
 from dataclasses import dataclass
 
-from .contents import slots_of
+from .contents import InSlots
 from .layout import Layout
 from .names import NamedFiles
 from .pages import length_of_lines
-from .tables import parse_table
 
 
 @dataclass(frozen=True)
@@ -37,36 +36,32 @@ class ColumnUsage:
 
 @dataclass(frozen=True)
 class Usage:
-    """The names with their bytes, the pages, and the slots with the bytes that free ones have room for. A slot is taken as long as its session's
-    table says so. Some that are taken hold no name's content: it is being written, or was replaced or left by a client that died. Where room is
-    wanted, these are found and freed."""
+    """The names with their bytes, how many of both are in slots, from before chunks, and the pages."""
 
     names: int
     bytes_used: int
-    bytes_free: int
+    names_in_slots: int
+    bytes_in_slots: int
     pages: int
     fullest: Fullest
-    slots_taken: int
-    slots_without_a_name: int
-    slots_free: int
     columns: tuple[ColumnUsage, ...] = ()  # where the tenant has room for chunks
+
+    @property
+    def bytes_free(self) -> int:
+        """What all columns have room for."""
+        return sum(max(0, column.allowed - column.used) for column in self.columns)
 
 
 def usage_of(files: NamedFiles) -> Usage:
-    """What all names take: a listing of them, and a read of each slot table. It is no snapshot."""
-    entries, layout = files.names(), files.layout
-    taken = taken_slots(files)
-    free = [slot for session, slots in layout.all_slots.items() for number, slot in enumerate(slots) if number not in taken[session]]
-    named = named_slots(files)
+    """What all names take: a listing of them. It is no snapshot."""
+    entries, layout, in_slots = files.names(), files.layout, sizes_in_slots(files)
     return Usage(
         names=len(entries),
         bytes_used=sum(entry.size for entry in entries),
-        bytes_free=sum(slot.room for slot in free),
+        names_in_slots=len(in_slots),
+        bytes_in_slots=sum(in_slots),
         pages=layout.sessions * sum(not bucket.has_split() for bucket in files.writer.buckets.values()),
         fullest=fullest_page(files, layout),
-        slots_taken=sum(map(len, taken.values())),
-        slots_without_a_name=sum((session, slot) not in named for session, slots in taken.items() for slot in slots),
-        slots_free=len(free),
         columns=tuple(column_usages(files)),
     )
 
@@ -85,20 +80,10 @@ def column_usages(files: NamedFiles) -> Iterator[ColumnUsage]:
         yield ColumnUsage(column, max((room.used for room in every), default=0), min((room.allowed for room in every), default=0), silent, lacking)
 
 
-def taken_slots(files: NamedFiles) -> dict[int, frozenset[int]]:
-    """The slots of each session that its table says are taken."""
-    found = {}
-    for session in range(1, files.layout.sessions + 1):
-        volume, file = files.layout.table(session)
-        table = parse_table(files.session.read(volume, file).content, f"file {file} of volume {volume}")
-        found[session] = table.taken() & frozenset(range(len(files.layout.slots(session))))
-    return found
-
-
-def named_slots(files: NamedFiles) -> set[tuple[int, int]]:
-    """Session and number of each slot that has a piece of what a name holds."""
-    contents = (held.content for bucket in files.writer.buckets.values() for held in bucket.names())
-    return {choice for part in slots_of(contents) for choice in part.order()}
+def sizes_in_slots(files: NamedFiles) -> list[int]:
+    """The bytes in slots of each name that has some there, as it was listed last."""
+    every = (held.content.parts for bucket in files.writer.buckets.values() if not bucket.has_split() for held in bucket.names())
+    return [sum(part.size for part in found) for parts in every if (found := [part for part in parts if isinstance(part, InSlots)])]
 
 
 def fullest_page(files: NamedFiles, layout: Layout) -> Fullest:

@@ -1,33 +1,27 @@
-"""What the one client of a session writes: its journals, its pages, its slots and its chunks."""
+"""What the one client of a session writes: its journals, its pages and its chunks."""
 
 import time
 
 from collections.abc import Callable, Collection, Iterable, Iterator
-from contextlib import suppress
 from itertools import chain
 
 from . import splits, ways
 from .buckets import Bucket
-from .contents import InSlots, Part
+from .contents import InSlots, Part, PartList
 from .core import Line, Page
-from .errors import Damaged, Unanswered
-from .in_chunks import Gone, contents_of
+from .errors import Damaged
+from .in_chunks import ChunkContents, Gone, contents_of
 from .layout import Layout
 from .pages import length_of_lines, length_of_signposts
 from .sessions import Files
-from .tables import Borrower, SlotKeeper
 
 
 class Writer:
-    """The journals, pages and slots of one session."""
-
-    keeper_type = SlotKeeper
+    """The journals and pages of one session."""
 
     def __init__(self, session: Files, layout: Layout):
         self.session, self.layout = session, layout
         self.me = session.number
-        self.keeper = self.keeper_type(session, layout)
-        self.lenders: dict[int, SlotKeeper] = {}  # of other sessions that this client has
         self.buckets: dict[int, Bucket] = {}
         self.contents = contents_of(session)  # in chunks, where it may have some
         self.gone: dict[int, set[Part]] = {}  # of each page, what is in chunks and no line names any more
@@ -76,18 +70,11 @@ class Writer:
         return self.bucket(self.layout.page_of(name, bucket.level_number + 1))
 
     def change(self, bucket: Bucket, journal: Page) -> None:
-        """Announces and carries a journal, and notes the slots that its page doesn't name any more: once that was carried, no page that does is seen
+        """Announces and carries a journal, and notes the chunks that its page doesn't name any more: once that was carried, no page that does is seen
         again."""
-        gone = bucket.change(journal).without(journal)
-        if not any(line.content and line.content.parts for line in gone.lines):
-            return
-        self.not_named(bucket.number, gone.in_chunks() - journal.in_chunks())
-        self.keeper.release(gone.slots(self.me) - journal.slots(self.me))
-        ended = gone.puts() - journal.puts()
-        self.release_puts(ended)
-        if any(strand.session != self.me for part in gone.parts() if part.put in ended for strand in part.strands):
-            with suppress(Unanswered):
-                self.keeper.flush()  # so that those who lent slots can see it
+        gone = bucket.change(journal).without(journal).in_chunks()
+        if gone:
+            self.not_named(bucket.number, gone - journal.in_chunks())
 
     def not_named(self, page: int, parts: Iterable[Part]) -> None:
         """Of these contents no line of a page names those that are in chunks any more, and none that could still be seen."""
@@ -97,20 +84,32 @@ class Writer:
 
     def forget_gone(self, least: float = 0) -> None:
         """Has nodes forget the chunks of contents that no line names any more, where that is so for so many seconds."""
-        if self.contents and time.monotonic() - self.gone_since >= least and (self.gone or self.contents.chunks.unneeded):
+        if self.contents and self.has_gone(least):
             gone, self.gone = self.gone, {}
             for page, parts in gone.items():
-                journal = self.bucket(page).client.journal
-                if journal is not None:  # (else a change got no answer: a sweep finds them)
-                    self.contents.not_needed(parts, journal.in_chunks())
+                self.not_needed(self.contents, page, parts)
             self.contents.forget()
 
-    def release_puts(self, puts: Iterable[int]) -> None:
-        """These puts need no slots of others any more."""
-        for put in puts:
-            self.keeper.end_borrowing(put)
-            for lender in self.lenders.values():
-                lender.give_back(Borrower(self.me, put))
+    def begin_to_forget(self, least: float) -> None:
+        """Asks nodes for the same, and waits for none of them. (What lists name has to be read first: that comes with `forget_gone`.)"""
+        if self.contents and self.has_gone(least):
+            for page in [page for page in self.gone if not self.has_lists(page)]:
+                self.not_needed(self.contents, page, self.gone.pop(page))
+            self.contents.begin_to_forget()
+
+    def has_gone(self, least: float = 0) -> bool:
+        """Whether chunks are there that nothing names any more, for so many seconds."""
+        return self.contents is not None and (bool(self.gone) or self.contents.chunks.has_unneeded) and time.monotonic() - self.gone_since >= least
+
+    def has_lists(self, page: int) -> bool:
+        """Whether lists are among what a page names, or named."""
+        journal = self.bucket(page).client.journal
+        return any(isinstance(part, PartList) for part in (*self.gone[page], *(journal.in_chunks() if journal else ())))
+
+    def not_needed(self, contents: ChunkContents, page: int, parts: set[Part]) -> None:
+        journal = self.bucket(page).client.journal
+        if journal is not None:  # (else a change got no answer: a sweep finds them)
+            contents.not_needed(parts, journal.in_chunks())
 
     def tidy(self, bucket: Bucket, anew: bool = False) -> int:
         """Changes no name, where a line can go, or the page is to say that it was made beside another one's removal. With `anew` also where this client
@@ -135,16 +134,11 @@ class Writer:
         room = bucket.level.lines_room if for_removals else bucket.level.contents_room
         return length_of_lines(journal.lines) + length_of_signposts(journal) <= room
 
-    def find_room(self) -> None:
-        """Looks through all pages of the session for slots that are taken and not needed: left by a client that died, or of lines that can go. A
-        request for each page, and four where this client hasn't carried it yet."""
-        slots, puts = set[int](), set[int]()
+    def carry_all(self) -> None:
+        """Sees that this client has carried all pages of the session, without lines that can go: so nothing that an earlier one left comes into them. A request
+        for each page, and four where it hasn't carried it yet."""
         for bucket in self.all_buckets():
             self.tidy(bucket, anew=True)
-            slots |= bucket.journal.slots(self.me)
-            puts |= bucket.journal.puts()
-        self.keeper.retain(slots, puts)
-        self.keeper.flush()
 
     def sweep_chunks(self) -> tuple[int, set[int]]:
         """Has nodes forget the chunks that no page of the session names, all of which were just carried: how many there were, and the places of nodes that did
@@ -189,10 +183,3 @@ class Writer:
         if lines:
             bucket.carry_for_later(splits.cleared(bucket.journal))
         return len(lines)
-
-    def release(self, choices: Iterable[tuple[int, int]]) -> None:
-        """Slots (session, number) that no line was ever to name are needed no more."""
-        for session, number in choices:
-            keeper = self.keeper if session == self.me else self.lenders.get(session)
-            if keeper:
-                keeper.release([number])

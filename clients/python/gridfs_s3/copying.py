@@ -26,7 +26,6 @@ from .requests import Asked, answer, iso, judge
 from .store import Body, Condition, NoLine, PageFull, Store
 from .trips import Elsewhere
 from .versions import Place
-from .workers import Crowded
 
 Told = TypeVar("Told")
 
@@ -137,9 +136,8 @@ class Copies(Operations):
                     data, rest = await reader.run(begin, keep=True)
                     copied = Copied(data, rest, part[1] - part[0], known_of(found[0], part))
                     is_writing = True
-                    besides = tuple(worker for _, worker in (*reader.workers, *writer.workers))
-                    return await writer.run(lambda store: put(store, copied, found[0]), besides=besides)
-                except (Crowded, NotSettled):
+                    return await writer.run(lambda store: put(store, copied, found[0]))
+                except NotSettled:
                     pass
                 except Elsewhere as fault:
                     await self.gateway.go_on(wants[is_writing], fault)
@@ -156,7 +154,6 @@ class Copies(Operations):
                         writer.release()
             if page is not None:
                 await writer.pool.sweep(page)
-            await self.grids.gathering.is_over()
         raise S3Error("ServiceUnavailable", "Many others change this at the same time. Nothing was changed.")
 
     async def copy_object(self, asked: Asked) -> web.Response:

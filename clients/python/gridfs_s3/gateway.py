@@ -27,7 +27,6 @@ from .requests import Asked, matches
 from .store import Condition, NoLine, PageFull, Store
 from .trips import Elsewhere
 from .versions import Place, expect_id, is_there
-from .workers import Crowded
 
 Told = TypeVar("Told")
 KNOWN_FOR = 2.0  # seconds for which a bucket that was there is taken to be there
@@ -134,13 +133,13 @@ class Gateway:
         seen = await self.glance(name)
         return seen.held if seen.is_known else await self.look(name, lambda store: store.look(name, seen.looked))
 
-    async def look(self, name: str, work: Callable[[Store], Told], helpers: int = 0, has_begun: Callable[[], bool] = lambda: False) -> Told:
+    async def look(self, name: str, work: Callable[[Store], Told], has_begun: Callable[[], bool] = lambda: False) -> Told:
         """Has some session do what changes nothing; another one where its home is silent, as long as nothing of an answer is out."""
         want, silent = Want(name), 0
         for _ in range(TURNS):
             taken = await self.take(want)
             try:
-                return await taken.run(work, helpers, is_soon=silent < 2)
+                return await taken.run(work, is_soon=silent < 2)
             except Elsewhere as fault:
                 await self.go_on(want, fault)
             except (Unanswered, SessionTaken):
@@ -149,9 +148,7 @@ class Gateway:
                     raise
         raise S3Error("ServiceUnavailable", "The name goes from grid to grid again and again.")
 
-    async def change(
-        self, name: str, work: Callable[[Store], Told], helpers: int = 0, number: int | None = None, condition: Condition | None = None
-    ) -> Told:
+    async def change(self, name: str, work: Callable[[Store], Told], number: int | None = None, condition: Condition | None = None) -> Told:
         """Has a session change something, this one or any; another one where its page has no room, or its home is silent and nothing was written yet. The
         condition is one by which the work is done."""
         want, silent, has_searched = Want(name, number), 0, False
@@ -160,11 +157,9 @@ class Gateway:
             async with self.judging(condition, name):
                 taken = await self.take(want)
                 try:
-                    return await taken.run(work, helpers, is_soon=number is None and silent < 2)
+                    return await taken.run(work, is_soon=number is None and silent < 2)
                 except Elsewhere as fault:
                     await self.go_on(want, fault)
-                except Crowded:
-                    await self.grids.gathering.is_over()
                 except PageFull as full:
                     await taken.pool.sweep(full.page)
                 except NoLine:
@@ -342,8 +337,10 @@ class Gateway:
     def expect_room(self, size: int) -> None:
         """507 InsufficientStorage for what would have no room if nothing else were there. (What has none now is seen once it is here.)"""
         pools = list(self.grids.pools.values())
-        if all(pool.is_open for pool in pools) and size > max(pool.most_bytes for pool in pools):
-            raise S3Error("InsufficientStorage", "The tenant has no room for so long a content.")
+        rooms = [pool.most_bytes if pool.is_open else None for pool in pools]
+        if all(room is not None and size > room for room in rooms):
+            why = "" if any(rooms) else f": {pools[0].why_no_room()}"
+            raise S3Error("InsufficientStorage", f"The tenant has no room for so long a content{why}.")
 
     async def document(self, asked: Asked, name: str, is_of_content: bool = True) -> Element:
         """The root of the XML of a request's body. The errors of a body; 400 MalformedXML; 501 NotImplemented for an element that is not known."""

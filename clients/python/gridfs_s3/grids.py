@@ -21,7 +21,7 @@ from .sessions import Pool
 from .shared import Turns
 from .store import Store
 from .trips import Elsewhere, Trip
-from .workers import Gathering, Lending, Worker
+from .workers import Lending, Worker
 
 Told = TypeVar("Told")
 asked_by: ContextVar[web.BaseRequest] = ContextVar("asked_by")  # the request for which something is done
@@ -72,21 +72,19 @@ class Taken:
         for pool, worker in self.workers:
             pool.release(worker)
 
-    async def run(
-        self, work: Callable[[Store], Told], helpers: int = 0, keep: bool = False, besides: tuple[Worker, ...] = (), is_soon: bool = False
-    ) -> Told:
-        return await self.pool.run(self.worker, work, helpers, keep, besides, is_soon, self.trip, self.others)
+    async def run(self, work: Callable[[Store], Told], keep: bool = False, is_soon: bool = False) -> Told:
+        return await self.pool.run(self.worker, work, keep, is_soon, self.trip, self.others)
 
 
 class Grids:
     """The pool of each grid; without a map there is one, whose word is empty."""
 
     def __init__(self, settings: Settings, index: Index | None = None):
-        self.settings, self.turns, self.gathering, self.lending = settings, Turns(), Gathering(), Lending()
+        self.settings, self.turns, self.gathering, self.lending = settings, Turns(), asyncio.Lock(), Lending()
         self.map = read_map(settings.values["map"]) if "map" in settings.values else None
         self.pools: dict[str, Pool] = {}
         if not self.map:
-            self.pools[""] = Pool(settings, self.gathering, self.lending, self.turns, index=index)
+            self.pools[""] = Pool(settings, self.lending, self.turns, index=index)
 
     @property
     def tenant(self) -> str:
@@ -110,7 +108,7 @@ class Grids:
         new = {grid: file for grid, file in fleet_map.grids.items() if grid not in self.pools}
         for grid, file in new.items():
             settings = self.settings.of_grid(fleet_map.path, grid, file)
-            self.pools[grid] = Pool(settings, self.gathering, self.lending, self.turns, self.ground(grid))
+            self.pools[grid] = Pool(settings, self.lending, self.turns, self.ground(grid))
         self.map = fleet_map
         await asyncio.gather(*(self.pools[grid].begin() for grid in new))
 

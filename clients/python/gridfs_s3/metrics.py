@@ -16,24 +16,10 @@ waits = Histogram("gridfs_s3_wait_seconds", "Until a request had a session", TEN
 taken = Counter("gridfs_s3_received_bytes", "Bytes of contents that were put", TENANT, registry=registry)
 given = Counter("gridfs_s3_sent_bytes", "Bytes of contents that were got", TENANT, registry=registry)
 expired = Counter("gridfs_s3_expired", "Objects and uploads that went by the lifecycle of their bucket", ["tenant", "what"], registry=registry)
-room = Gauge("gridfs_s3_slot_bytes", "Bytes of the slots of this gateway's sessions, as far as they are known", ["tenant", "state", "grid"], registry=registry)
 chunks = Gauge("gridfs_s3_chunk_bytes", "Bytes of chunks at all columns, as nodes told them some seconds ago", ["tenant", "state", "grid"], registry=registry)
 pages = Gauge("gridfs_s3_fullest_page_ratio", "How full the fullest page is that is known: at 1 a put is refused", ["tenant", "grid"], registry=registry)
 sessions = Gauge("gridfs_s3_sessions", "Sessions: all, busy, or with a home that is silent", ["tenant", "state", "grid"], registry=registry)
 waiting = Gauge("gridfs_s3_waiting", "Requests that wait for a session", ["tenant", "grid"], registry=registry)
-
-
-def room_of(pool: Pool) -> tuple[int, int]:
-    """The bytes of contents, and those for which there is room: in chunks, where the tenant may have some, else in slots."""
-    (slots, slots_left), (used, left) = in_slots(pool), pool.in_chunks
-    return slots + used, left if used or left else slots_left
-
-
-def in_slots(pool: Pool) -> tuple[int, int]:
-    """The bytes of slots that are taken and free, of the sessions whose tables are known."""
-    known = [worker.store for worker in pool.workers.values() if worker.store.writer.keeper.table is not None]
-    rooms = [store.room() for store in known]
-    return sum(used for used, _ in rooms), sum(left for _, left in rooms)
 
 
 def fullest(pool: Pool) -> float:
@@ -44,9 +30,9 @@ def fullest(pool: Pool) -> float:
 def text(tenant: str, grids: Grids) -> bytes:
     """All that is counted, in Prometheus' form."""
     for grid, pool in grids.pools.items():
-        for gauge, (used, left) in ((room, in_slots(pool)), (chunks, pool.in_chunks)):
-            gauge.labels(tenant, "used", grid).set(used)
-            gauge.labels(tenant, "left", grid).set(left)
+        used, left = pool.in_chunks
+        chunks.labels(tenant, "used", grid).set(used)
+        chunks.labels(tenant, "left", grid).set(left)
         pages.labels(tenant, grid).set(fullest(pool))
         workers = pool.workers.values()
         sessions.labels(tenant, "busy", grid).set(sum(worker.is_busy for worker in workers))

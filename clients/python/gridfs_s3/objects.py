@@ -25,8 +25,6 @@ from .store import Body, Condition, Store
 from .trips import Elsewhere
 from .versions import HEADER as VERSION, MARKER, Place, Target, target_of
 
-MANY = 4 << 20  # bytes from which on idle sessions help
-HELPERS = 3
 LONGEST_PUT = 5 << 30
 ATTRIBUTES = {"Checksum", "ETag", "ObjectParts", "ObjectSize", "StorageClass"}
 DIRECTIVE = "x-amz-metadata-directive"  # whose metadata an object gets: its source's (COPY), or those of this request (REPLACE)
@@ -246,7 +244,7 @@ class Get:
                 self.spool.close()
             self.spool, begin = Spool(), self.next
             self.begin_file()
-            await self.gateway.look(self.place.name, self.send_on, HELPERS, lambda begin=begin: self.next > begin)  # type: ignore[misc]
+            await self.gateway.look(self.place.name, self.send_on, lambda begin=begin: self.next > begin)  # type: ignore[misc]
 
     async def run(self) -> web.StreamResponse:
         try:
@@ -269,7 +267,7 @@ class Get:
     async def answered(self) -> web.StreamResponse:
         self.take_memory()
         try:
-            rest = await self.told_by_its_line() or await self.gateway.look(self.place.name, self.send, HELPERS, lambda: self.response is not None)
+            rest = await self.told_by_its_line() or await self.gateway.look(self.place.name, self.send, lambda: self.response is not None)
             if rest:
                 held, data = rest
                 await self.begin(held)
@@ -391,7 +389,7 @@ class Objects(Operations):
             return store.put_object(target.name, source, lambda: {**values, **values_by(source, algorithm), **target.values}, condition, target.about)
 
         await self.gateway.need_bucket(asked.bucket)  # (it may have been removed while the content came)
-        return Object(asked.key, await self.gateway.change(target.name, work, HELPERS if source.told_size >= MANY else 0, condition=condition))
+        return Object(asked.key, await self.gateway.change(target.name, work, condition=condition))
 
     async def delete_object(self, asked: Asked) -> web.Response:
         """204, also where there is no such key. In a bucket with versions a marker is put, or that version goes which is named. With If-Match: 412

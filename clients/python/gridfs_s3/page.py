@@ -1,6 +1,5 @@
 """A page for a person's browser: the tenant's buckets, what is in them, the room, and the nodes of the grid. It has no script."""
 
-import asyncio
 import base64
 import hmac
 import time
@@ -14,7 +13,7 @@ from botocore.credentials import Credentials
 from gridfs_client.asking import ask_all
 from gridfs_client.errors import Unanswered
 
-from . import metrics, signing
+from . import signing
 from .errors import S3Error
 from .gateway import Gateway
 from .index import Names, Row
@@ -23,7 +22,6 @@ from .listing import Listings
 from .places import BUCKETS, check_bucket
 from .requests import Asked
 from .sessions import Pool
-from .workers import Worker
 
 GOOD_FOR = 900  # seconds of a link to an object
 MOST = 500  # rows of a page
@@ -115,16 +113,10 @@ class Page:
             rows.append(f'<tr><td class="k">{link}</td><td class="n">{count}</td><td class="n">{size_of(size)}</td></tr>')
         buckets = silent or table('<tr><th>Bucket</th><th class="n">Objects</th><th class="n">Size</th></tr>', rows, "There are no buckets.")
         pools = list(self.gateway.grids.pools.values())
-        await asyncio.gather(*(self.load(pool, worker) for pool in pools for worker in list(pool.workers.values())))
-        used, left = map(sum, zip(*map(metrics.room_of, pools)))
+        used, left = map(sum, zip(*(pool.in_chunks for pool in pools)))
         room = f'<p>Room: <meter max="{used + left or 1}" value="{used}"></meter> {size_of(used)} used, {size_of(left)} left.</p>'
         nodes = [f"<h2>{escape(f'Nodes of {pool.grid}' if pool.grid else 'Nodes')}</h2>{await self.nodes(pool)}" for pool in pools]
         return f"<h1>{escape(self.gateway.tenant)}</h1>{room}{buckets}{''.join(nodes)}"
-
-    async def load(self, pool: Pool, worker: Worker) -> None:
-        """Has a session know its table of slots, where it has the time."""
-        if worker.store.writer.keeper.table is None and pool.is_idle(worker):
-            await pool.run(await pool.lease(worker.number), lambda store: store.writer.keeper.load())
 
     async def nodes(self, pool: Pool) -> str:
         """The nodes of a grid in their rows and columns, with those that don't answer."""

@@ -4,20 +4,18 @@ import hashlib
 from collections.abc import Callable, Generator, Iterable, Iterator, Sequence
 from contextlib import closing
 from dataclasses import dataclass
-from functools import partial
 from itertools import groupby
 
 from gridfs_client.answers import Row
 from gridfs_client.buckets import Bucket, Held, held_of
 from gridfs_client.contents import Inline, InSlots, Part, digest_in_hex
-from gridfs_client.errors import Damaged, Replaced, Unanswered
+from gridfs_client.errors import Damaged, Replaced
 from gridfs_client.in_chunks import Cut, Gone
-from gridfs_client.layout import Layout
-from gridfs_client.names import BEGINNINGS, NamedFiles, read_piece, refresh, where_of
+from gridfs_client.layout import Layout, Slot
+from gridfs_client.names import BEGINNINGS, NamedFiles, refresh, where_of
 from gridfs_client.pieces import head, without_head
 from gridfs_client.sessions import Files
 from gridfs_client.ways import Ground
-from gridfs_client.writers import Writer
 
 from .looker import Looked
 from .places import VERSIONS, beside, bucket_in, version_in
@@ -27,12 +25,11 @@ from .trips import Elsewhere, Trip
 
 @dataclass(frozen=True)
 class Span:
-    """A piece of a content: of which part, its place in that, the file where it stands, its first byte in the whole, and how many it has."""
+    """A piece of a content: of which part, its place in that, the slot where it stands, its first byte in the whole, and how many it has."""
 
     part: InSlots
     place: int
-    volume: int
-    file: int
+    slot: Slot
     begin: int
     length: int
 
@@ -48,31 +45,13 @@ def first_of(cuts: Iterable[Cut], most: int | None) -> Iterator[Cut]:
 
 
 class Reader(NamedFiles):
-    """What names hold, by one session, and by others that can be had; by one thread at a time."""
+    """What names hold, by one session; by one thread at a time."""
 
     def __init__(self, session: Files, layout: Layout, shared: Shared, ground: Ground | None = None):
         super().__init__(session, layout, ground=ground)
         self.shared, self.grid = shared, ground.grid if ground else ""
         self.writer: SharedWriter = SharedWriter(shared, session, layout, ground)
         self.trip: Trip | None = None  # what is done now is about a name over several grids
-        # Gives other sessions for as long as what is done now lasts: those that are idle, or all.
-        self.more: Callable[[bool], Sequence[Reader]] = lambda _: ()
-
-    # Other sessions
-
-    def all_writers(self) -> list[Writer]:
-        """The writers of this session, and of others that can be had now."""
-        if not self.helpers:
-            self.gather(False)
-        return [self.writer, *self.helpers.values()]
-
-    def gather(self, is_all: bool) -> None:
-        self.helpers = {each.me: each.writer for each in self.more(is_all)}
-        self.writer.lenders = {number: writer.keeper for number, writer in self.helpers.items()}
-
-    def end_turn(self) -> None:
-        """Others are given back."""
-        self.helpers, self.writer.lenders, self.more, self.trip = {}, {}, lambda _: (), None
 
     # Looks
 
@@ -126,13 +105,9 @@ class Reader(NamedFiles):
                 begin += part.size
                 continue
             left = part.size
-            for place, (session, number) in enumerate(part.order()):
-                slots = self.layout.slots(session)
-                if number >= len(slots):
-                    raise Damaged(f"{held.name}: there is no slot {number} of session {session}")
-                room = slots[number].room - len(head(held.version.session, part.put, place))
-                length = min(room, left)
-                yield Span(part, place, slots[number].volume, slots[number].file, begin, length)
+            for place, slot in enumerate(self.slots_in(held.name, part)):
+                length = min(slot.room - len(head(held.version.session, part.put, place)), left)
+                yield Span(part, place, slot, begin, length)
                 begin, left = begin + length, left - length
             if left:
                 raise Damaged(f"{held.name}: its slots don't hold it")
@@ -172,41 +147,22 @@ class Reader(NamedFiles):
             raise Damaged(f"{held.name}: {fault}") from None
 
     def in_slots_between(self, held: Held, first: int, end: int) -> Generator[bytes, None, None]:
-        wanted = [span for span in self.spans(held) if span.begin < end and span.begin + span.length > first]
         digest, seen = hashlib.sha256(), 0
-        with closing(self.pieces(wanted)) as found:
-            for span, piece in zip(wanted, found):
-                data = without_head(held.version.session, span.part.put, span.place, piece)
-                if data is None:
-                    raise Replaced(f"{held.name}: replaced while it was read")
-                if len(data) != span.length:
-                    raise Damaged(f"{held.name}: its slots don't hold it")
-                if not span.place:
-                    digest, seen = hashlib.sha256(), 0
-                digest.update(data)
-                seen += len(data)
-                if seen == span.part.size and digest.hexdigest() != digest_in_hex(span.part.digest):
-                    raise Damaged(f"{held.name}: its slots don't hold it")
-                yield data[max(0, first - span.begin) : end - span.begin]
-
-    def pieces(self, wanted: Sequence[Span]) -> Generator[bytes, None, None]:
-        """What these slots hold, by this session and others that can be had; by this one alone from where the home of another one is silent."""
-        done = 0
-        while done < len(wanted):
-            rest = wanted[done:]
-            sessions = [self.session]
-            if len(rest) > 1:
-                sessions = [writer.session for writer in self.writers(len(rest), sum(span.length for span in rest))]
-            jobs = ((sessions[at % len(sessions)], partial(read_piece, span.volume, span.file)) for at, span in enumerate(rest))
-            try:
-                with closing(self.team.results(jobs) if len(rest) > 1 else (work(session) for session, work in jobs)) as found:
-                    for piece in found:
-                        done += 1
-                        yield piece
-            except Unanswered:
-                if len(sessions) == 1:
-                    raise
-                self.more, self.helpers = lambda _: (), {}
+        for span in self.spans(held):
+            if span.begin >= end or span.begin + span.length <= first:
+                continue
+            data = without_head(held.version.session, span.part.put, span.place, self.session.read(span.slot.volume, span.slot.file).content)
+            if data is None:
+                raise Replaced(f"{held.name}: replaced while it was read")
+            if len(data) != span.length:
+                raise Damaged(f"{held.name}: its slots don't hold it")
+            if not span.place:
+                digest, seen = hashlib.sha256(), 0
+            digest.update(data)
+            seen += len(data)
+            if seen == span.part.size and digest.hexdigest() != digest_in_hex(span.part.digest):
+                raise Damaged(f"{held.name}: its slots don't hold it")
+            yield data[max(0, first - span.begin) : end - span.begin]
 
     def read(
         self, name: str, choose: Callable[[Held | None], tuple[int, int]], is_latest: bool = False, most: int | None = None, looked: Looked | None = None

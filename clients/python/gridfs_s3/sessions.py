@@ -20,7 +20,7 @@ from gridfs_client.core import Page
 from gridfs_client.ends import End, parse_end, read_end, write_end
 from gridfs_client.errors import BadSettings, CarrierFault, ClientError, NoSuchName, SessionTaken, Unanswered
 from gridfs_client.fleet_map import Move
-from gridfs_client.in_chunks import ChunkContents, Gone
+from gridfs_client.in_chunks import ChunkContents, Gone, why_none
 from gridfs_client.layout import Layout, layout_of
 from gridfs_client.names import NamedFiles
 from gridfs_client.opening import SOON
@@ -38,10 +38,9 @@ from .shared import Shared, Turns
 from .store import Store
 from .sweeping import NotWhole, begin
 from .trips import Trip
-from .workers import Crowded, Gathering, Lending, Turn, Wanted, Worker, who_asks
+from .workers import Lending, Turn, Wanted, Worker, who_asks
 
 Told = TypeVar("Told")
-MOST_HELPERS = 3
 TIDY = 30.0  # seconds
 TRIES = 60  # of settling a page by a session whose home is silent
 LOOK = 0.1  # seconds between looks at what other commands want
@@ -60,7 +59,7 @@ class Pool:
     """All workers. Whoever waits for one gets it by turns; those whose homes are silent are left out as long as there are others. Where another command of
     this machine waits for a session, it is lent to that."""
 
-    def __init__(self, settings: Settings, gathering: Gathering, lending: Lending, turns: Turns, ground: Ground | None = None, index: Index | None = None):
+    def __init__(self, settings: Settings, lending: Lending, turns: Turns, ground: Ground | None = None, index: Index | None = None):
         self.settings, self.ground, self.lending = settings, ground, lending
         self.shared = Shared(turns, index or Index(grid=ground.grid if ground else ""))
         self.grid = ground.grid if ground else ""
@@ -72,7 +71,6 @@ class Pool:
         self.notes: Notes | None = None  # of how far sessions come, where a later gateway may go on
         self.sessions = 0  # of the tenant, once it is opened
         self.fault: ClientError | None = None  # why it was not opened at first
-        self.gathering = gathering
         self.threads = ThreadPoolExecutor(32, thread_name_prefix="session")
         self.loop = asyncio.get_running_loop()
         self.looker = Looker(self.loop, lambda: self.carrier, lambda: self.settings.pace().rate)
@@ -247,11 +245,14 @@ class Pool:
         return self.is_open and len(self.workers) == self.sessions
 
     @property
-    def most_bytes(self) -> int:
-        """What all slots of all sessions have room for; or all columns, where there is room for chunks."""
+    def most_bytes(self) -> int | None:
+        """What all columns have room for; None where no node told it yet."""
         contents = self.chunk_contents()
-        in_chunks = contents.chunks.allowed() if contents else 0
-        return in_chunks or sum(slot.room for session in range(1, self.sessions + 1) for slot in self.layout.slots(session))
+        return contents.chunks.allowed() if contents else 0
+
+    def why_no_room(self) -> str:
+        """Why the tenant has no room for chunks, where it has none."""
+        return why_none(self.chunk_contents())
 
     @property
     def in_chunks(self) -> tuple[int, int]:
@@ -399,7 +400,7 @@ class Pool:
             others: list[Pages] = [() if each.pages is None else AllBut(each.pages) for each in told]
             settled = [*await self.settled_now(), *others] if is_all else [()]
             for level in self.layout.levels:  # (the old pages first, of those that have split)
-                await self.look_at(self.volumes_to_look_at(range(level.volume, level.volume + level.volumes), settled))
+                await self.look_at_volumes(self.volumes_to_look_at(range(level.volume, level.volume + level.volumes), settled))
             self.looked, self.known = begun, (beginnings, {each.start: each.count for each in told})
 
     def volumes_to_look_at(self, volumes: range, settled: Sequence[Pages]) -> list[int]:
@@ -410,7 +411,7 @@ class Pool:
         found = {self.layout.page(1, page)[0] for page in changed | self.shared.index.open}
         return sorted(volume for volume in found if volume in volumes)
 
-    async def look_at(self, volumes: list[int]) -> None:
+    async def look_at_volumes(self, volumes: list[int]) -> None:
         """Looks at these volumes, by all sessions side by side."""
         left = iter(volumes)
         count = sum(not worker.is_silent and not worker.is_lent for worker in self.workers.values())
@@ -477,28 +478,11 @@ class Pool:
             worker.is_busy, worker.who = True, wanted.who
             wanted.future.set_result(worker)
 
-    def idle(self, most: int) -> list[Worker]:
+    def idle(self) -> list[Worker]:
         """Workers that nobody has or waits for, which are leased now."""
-        found = [] if self.waiting else [each for each in self.workers.values() if self.is_idle(each)][:most]
+        found = [] if self.waiting else [each for each in self.workers.values() if self.is_idle(each)]
         for worker in found:
             worker.is_busy, worker.who = True, who_asks.get()
-        return found
-
-    async def others(self, mine: list[Worker]) -> list[Worker]:
-        """All other workers, each once it is free: what needs the room of all waits for it. Crowded where somebody gathers already."""
-        if self.gathering.count:
-            raise Crowded
-        found: list[Worker] = []
-        async with self.gathering:
-            try:
-                for number in list(self.workers):
-                    other = self.workers[number]
-                    if other not in [*mine, *found] and not other.is_silent and not other.is_lent:
-                        found.append(await self.lease(number))
-            except BaseException:
-                for worker in found:
-                    self.release(worker)
-                raise
         return found
 
     # Lending
@@ -531,7 +515,7 @@ class Pool:
             worker.is_lent = True
             try:
                 await self.lease(worker.number)
-                settled = AllBut() if worker.store.writer.has_settled_all() else dict(worker.store.writer.carried)
+                settled: AllBut | Collection[int] = AllBut() if worker.store.writer.has_settled_all() else dict(worker.store.writer.carried)
                 carried, path = dict(worker.store.writer.carried), self.settings.end_path(worker.number)
                 last = worker.session.last
                 self.unswept.add(worker.number)  # (what it was to have forgotten is not known any more, and the command may die)
@@ -559,29 +543,17 @@ class Pool:
         self,
         worker: Worker,
         work: Callable[[Store], Told],
-        helpers: int = 0,
         keep: bool = False,
-        besides: tuple[Worker, ...] = (),
         is_soon: bool = False,
         trip: "Trip | None" = None,
         others: "Sequence[tuple[Pool, Worker]]" = (),
     ) -> Told:
-        """Has a leased worker do some work in a thread, and releases it then, unless it is kept. It may take so many idle ones besides; where its own
-        slots don't suffice, all but those that its caller has besides (or Crowded, and nothing of a content was read). Where others can do it too, it
-        is told soon that the home is silent. With a trip it has other workers, each of another grid, which are released with it."""
-        borrowed: list[Worker] = self.idle(min(helpers, MOST_HELPERS)) if helpers else []
-
-        async def rest() -> None:
-            borrowed.extend(await self.others([worker, *borrowed, *besides]))
-
-        def more(is_all: bool) -> list[Store]:
-            if is_all:
-                asyncio.run_coroutine_threadsafe(rest(), self.loop).result()
-            return [each.store for each in borrowed]
+        """Has a leased worker do some work in a thread, and releases it then, unless it is kept. Where others can do it too, it is told soon that the home is
+        silent. With a trip it has other workers, each of another grid, which are released with it."""
 
         def begin() -> Told:
             store = worker.store
-            store.more, store.trip = more, trip
+            store.trip = trip
             for _, each in every:
                 each.session.begin(is_soon)
             try:
@@ -589,16 +561,12 @@ class Pool:
             finally:
                 for _, each in every:
                     each.session.end()
-                    each.store.end_turn()
+                    each.store.trip = None
 
         def end(future: "asyncio.Future[Told]") -> None:
             fault = None if future.cancelled() else future.exception()
             for pool, each in [(pool, each) for pool, each in every if each.session.has_failed] or every:
                 pool.look_at(each, fault)
-            for each in borrowed:
-                if isinstance(fault, (Unanswered, SessionTaken)):
-                    self.probe(each)
-                self.release(each)
             if not keep:
                 for pool, each in every:
                     pool.release(each)
@@ -807,7 +775,7 @@ class Pool:
 
     async def tidy(self) -> None:
         """Sees after a start to what earlier clients left, page by page, so that nobody waits for long; and from then on, where nobody waits, to
-        slots that sessions lent to contents that are gone."""
+        chunks that nothing names any more."""
         while not self.is_open:
             await asyncio.sleep(RETRY)
         if self.goes_on:
@@ -819,16 +787,17 @@ class Pool:
             await asyncio.sleep(TIDY)
             for number in list(self.workers):
                 store = self.workers[number].store
-                if self.is_idle(self.workers[number]) and store.wants_recall():
+                if self.is_idle(self.workers[number]) and store.writer.has_gone(store.forget_after):
                     try:
-                        await self.run(await self.lease(number), Store.recall)
+                        await self.run(await self.lease(number), Store.forget_gone)
                     except ClientError:
                         pass
                     except Exception as fault:
                         error_of(fault)  # (which tells it)
 
     async def tidy_session(self, number: int) -> None:
-        """Settles all pages of a session, one after another, and finds its free slots. Where the session is renewed meanwhile it begins anew."""
+        """Settles all pages of a session, one after another, and then has chunks forgotten that none of them names. Where the session is renewed meanwhile it
+        begins anew."""
         if number in self.tidied:
             return
         self.tidied.add(number)
@@ -856,12 +825,6 @@ class Pool:
                 except Exception as fault:
                     error_of(fault)
                     break
-        try:
-            await self.run(await self.lease(number), Store.free_slots)
-        except ClientError:
-            pass
-        except Exception as fault:
-            error_of(fault)
         if not store.goes_on:
             self.unswept.add(number)
 
@@ -920,8 +883,8 @@ class Pool:
             await asyncio.sleep(REST)
 
     async def flush(self) -> None:
-        """Writes down which slots are needed no more, by the sessions that are free."""
-        for worker in self.idle(len(self.workers)):
+        """Has chunks forgotten that nothing names any more, by the sessions that are free."""
+        for worker in self.idle():
             try:
                 await self.run(worker, Store.close)
             except ClientError:

@@ -22,7 +22,6 @@ from .later import whole
 from .peers import Changes
 
 AHEAD = 3_600_000  # milliseconds by which a time may be ahead of the clock
-MOST_SEARCHED = 512  # pages that one put looks at for room
 MOST_AT_HAND = 2_048  # names of which it is remembered what they hold
 LATEST = 9_999_999_999_999  # which a line has room for
 NEVER = Tag(0, 0)  # of a page that was never written
@@ -98,7 +97,6 @@ class Shared:
         self.index = index or Index()  # pages as they were seen last by any session
         self.changes = Changes()  # of pages by this gateway
         self.swept: dict[int, float] = {}  # pages that were swept, and when
-        self.searched: dict[int, float] = {}  # sessions all of whose pages were searched for room, and when
         self.guard = threading.Lock()
         self.places: dict[int, tuple[int, tuple[int, ...]]] = {}  # of buckets: the volume and the files of the pages, session by session
         self.at_hand: dict[str, tuple[int, Seen, Held | None]] = {}  # what names held by pages of these buckets as they were
@@ -316,15 +314,3 @@ class SharedWriter(Writer):
 
     def journals(self) -> Iterable[Page]:
         return self.shared.index.pages_of(self.me) if self.has_settled_all() else super().journals()
-
-    def find_room(self) -> None:
-        """Where all pages of the session are as this client carried them they are not looked at again: the index has them. Else many are not looked at at
-        once: a gateway settles them by and by, and then finds what is free."""
-        if not self.has_settled_all():
-            return super().find_room() if self.layout.pages <= MOST_SEARCHED else None
-        slots, puts = set[int](), set[int]()
-        for page in self.shared.index.pages_of(self.me):
-            slots |= page.slots(self.me)
-            puts |= page.puts()
-        self.keeper.retain(slots, puts)
-        self.keeper.flush()

@@ -5,12 +5,11 @@ import time
 from collections.abc import Callable, Collection, Iterable, Sequence
 from contextlib import suppress
 from dataclasses import replace
-from functools import partial
 from typing import IO, Protocol, cast
 
 from gridfs_client.answers import Tag
 from gridfs_client.buckets import Bucket, Held
-from gridfs_client.contents import Content, Inline, InSlots, PartList
+from gridfs_client.contents import Content, Inline, PartList
 from gridfs_client.contents import Part as At
 from gridfs_client.core import Line, Version
 from gridfs_client.ends import End
@@ -18,28 +17,23 @@ from gridfs_client.errors import CarrierFault, ClientError, NoRoom, NoSuchName, 
 from gridfs_client.fleet import sign, spool
 from gridfs_client.fleet_map import Move
 from gridfs_client.moving import clear
-from gridfs_client.names import LONG_LINE, no_words
+from gridfs_client.names import LONG_LINE
 from gridfs_client.pages import check_words
-from gridfs_client.pieces import choose
-from gridfs_client.placing import Placing
 from gridfs_client.sessions import MOST_WRITTEN, Session
-from gridfs_client.streams import OneByOne, Source
-from gridfs_client.writers import Writer
+from gridfs_client.streams import Source
 
 from .checksums import Checksum
 from .errors import S3Error
 from .notes import Begun
 from .part_lists import Uploaded, for_object, uploaded
-from .places import Part, Values, number_of, of_words, parts_of, to_words, upload_name
+from .places import Part, Values, number_of, of_words, to_words, upload_name
 from .reading import Reader
-from .shared import Shared
 from .trips import Elsewhere
 from .versions import Target
 
 Condition = Callable[[Held | None], None]  # judges what a name holds, right before it is changed
-AGAIN = 60.0  # seconds until a page that is full is swept again, and all pages of a session are searched for room
+AGAIN = 60.0  # seconds until a page that is full is swept again
 MANY_AGAIN = 0.25  # seconds until a page is swept again that has many removals again
-MANY_PARTS = 30  # of an upload, from which on it is their list that finds no room in a page
 LINES = 8  # of an upload that a page has room for, before parts in chunks go into lists
 STAMP = "0" * 13  # as long as a time is
 
@@ -84,19 +78,6 @@ class Body(Protocol):
         """That of what was read until now, by this algorithm; without one the one that the content has already, if any."""
 
 
-class FewSearches(Placing):
-    """A placing that does not search all pages for room again and again: what a gateway frees itself it knows, and what others left it has found."""
-
-    shared: Shared
-
-    def find_room(self) -> None:
-        for number, writer in self.writers.items():
-            if time.monotonic() - self.shared.searched.get(number, -AGAIN) >= AGAIN:
-                writer.find_room()
-                self.shared.searched[number] = time.monotonic()
-        self.recall()
-
-
 class Store(Reader):
     """The names of one session, as objects; by one thread at a time."""
 
@@ -116,27 +97,6 @@ class Store(Reader):
         again = MANY_AGAIN if removals > bucket.level.lines_room // 8 else AGAIN
         if time.monotonic() - self.shared.swept.get(bucket.number, -AGAIN) >= again:
             raise PageFull(bucket.number)
-
-    def in_slots(self, bucket: Bucket, name: str, source: Source, words: Callable[[], str] = no_words) -> InSlots:
-        """The content in slots: of this session and others that are idle; of all, where these don't suffice."""
-        if source.size is not None and not self.has_room(source.size, [self.writer]):
-            if not self.has_room(source.size, self.all_writers()):
-                self.gather(True)
-            content = self.moved(bucket, name, source, self.all_writers(), words())
-            bucket.look()
-            return content
-        return super().in_slots(bucket, name, source, words)
-
-    def has_room(self, size: int, writers: Sequence[Writer]) -> bool:
-        """Whether the free slots of these suffice, as far as is known."""
-        free = {writer.me: writer.keeper.free() for writer in writers}
-        return choose(self.me, self.writer.keeper.number, size, free) is not None
-
-    def moved(self, bucket: Bucket, name: str, source: Source, writers: Sequence[Writer], words: str) -> InSlots:
-        team = self.team if len(writers) > 1 else OneByOne()  # (a thread more takes longer than a short content)
-        placing = FewSearches(self.layout, bucket, writers, team)
-        placing.words, placing.shared = words, self.shared
-        return placing.run(name, source, partial(self.progress, "put"))
 
     # Changes
 
@@ -265,7 +225,7 @@ class Store(Reader):
             return False
 
     def touch(self, name: str, seen: Held, values: Callable[[], Values], condition: Condition | None = None) -> Held | None:
-        """Gives a content other words where it is, in slots of this session or in the line; None where the name holds another one by now, or it is at another
+        """Gives a content other words where it is, which this session put, or in the line; None where the name holds another one by now, or it is at another
         grid."""
         if seen.version.grid != self.grid:
             return None
@@ -325,15 +285,8 @@ class Store(Reader):
         """Has this session's lines go from a page that can, and says that it was made beside the removals of others."""
         return self.writer.tidy(self.writer.bucket(page))
 
-    def wants_recall(self) -> bool:
-        """Whether slots are lent, or chunks are named no more."""
-        table, contents = self.writer.keeper.table, self.writer.contents
-        return bool(table and table.lent or self.writer.gone or contents and contents.chunks.unneeded)
-
-    def recall(self) -> None:
-        """Finds slots that were lent to contents that are gone, and has chunks forgotten that are for some time."""
-        self.writer.keeper.recall()
-        self.writer.keeper.flush()
+    def forget_gone(self) -> None:
+        """Has chunks forgotten that nothing names any more for some time."""
         self.writer.forget_gone(self.forget_after)
 
     def end(self) -> End | None:
@@ -366,23 +319,12 @@ class Store(Reader):
                 self.writer.carried = {page: tag for page, tag in carried.items() if page not in changed}
                 self.goes_on = True
 
-    def free_slots(self) -> None:
-        """Finds the slots that earlier clients left taken: once all pages of the session are settled, what none of them names is free. Nothing where contents go into chunks."""
-        if self.has_chunks():
-            return
-        if self.goes_on:
-            self.writer.keeper.load()
-        elif self.writer.has_settled_all():
-            self.writer.find_room()
-            self.writer.keeper.recall()
-            self.writer.keeper.write(self.writer.keeper.needed())  # (also where nothing is freed: so no pending write of the table takes effect later)
-
     def has_chunks(self) -> bool:
         """Whether nodes tell of room for chunks."""
         return self.writer.contents is not None and bool(self.writer.contents.rooms())
 
     # Uploads in parts. All of an upload is one line of this session, on the page of the object to be: so one change of that page brings the object
-    # with the slots or chunks of the parts, and has the upload go.
+    # with the parts, and has the upload go.
 
     def begin_upload(self, bucket_name: str, object_name: str, values: Values) -> str:
         """Begins an upload; its ID, which has the number of this session."""
@@ -464,13 +406,7 @@ class Store(Reader):
             values["p"] = parts.words()
             return parts.content()
 
-        try:
-            self.change(name, placed, lambda: values)
-        except NoLine:
-            count = len(parts_of(values))
-            if count < MANY_PARTS:
-                raise
-            raise NoLine(f"the list of this upload's parts is full with {count - 1:,}, since it stands in one page; longer parts are wanted") from None
+        self.change(name, placed, lambda: values)
         return body.digest()
 
     def uploaded(self, held: Held) -> list[tuple[Part, At | None]]:
@@ -488,14 +424,6 @@ class Store(Reader):
             return for_object([each for each in chosen if each], lists, self.writer.contents)
 
         return self.change(target.name, placed, lambda: values, condition, besides, target.about)
-
-    # What there is room for
-
-    def room(self) -> tuple[int, int]:
-        """The bytes of this session's slots: taken, and free."""
-        taken = self.writer.keeper.needed().taken()
-        used = sum(slot.room for number, slot in self.writer.keeper.slots.items() if number in taken)
-        return used, sum(slot.room for slot in self.writer.keeper.slots.values()) - used
 
 
 def values_beside(held: Held) -> Values:

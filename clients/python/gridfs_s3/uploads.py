@@ -15,7 +15,7 @@ from .copying import Copies, range_to_copy
 from .errors import S3Error, tell
 from .gateway import Operations
 from .markup import Element, document, element, many
-from .objects import HELPERS, LONGEST_PUT, MANY, Objects, algorithm_wanted, brought_by
+from .objects import LONGEST_PUT, Objects, algorithm_wanted, brought_by
 from .places import Object, Part, name_of, named_in, of_words, upload_name
 from .requests import Asked, answer, iso
 from .sessions import now_ms
@@ -119,7 +119,7 @@ class Uploads(Operations):
             raise S3Error("EntityTooLarge")
         put = PutPart(asked, self.name_of(asked), number)
         async with self.objects.source_of(asked, body) as source:
-            md5 = await self.gateway.change(put.name, lambda store: put(store, source), HELPERS if body.told_size >= MANY else 0, session)
+            md5 = await self.gateway.change(put.name, lambda store: put(store, source), session)
         return answer(headers={"ETag": f'"{md5}"', **{HEADER + each.algorithm: each.value for each in put.checksums}})
 
     async def upload_part_copy(self, asked: Asked) -> web.Response:
@@ -163,7 +163,7 @@ class Uploads(Operations):
                     return done
                 raise
             expect_key(asked, held)
-            found = {part.number: (part, slots) for part, slots in store.uploaded(held)}
+            found = {part.number: (part, where) for part, where in store.uploaded(held)}
             for number, told in zip(numbers, listed):
                 if number not in found or not is_part(found[number][0], told):
                     raise S3Error("InvalidPart", PartNumber=str(number))

@@ -63,11 +63,6 @@ class Turn(Session):
             self.notes.write(self.number, Begun(self.home, number, (place[0], place[1]) if kind == "write" else None, self.has_settled()))
 
 
-class Crowded(Exception):
-    """Who has a worker wants those of others, while somebody else gathers some: it has to give its own back, and to begin anew. (Nobody waits for a turn
-    to gather while it has a worker: else two would wait for each other.)"""
-
-
 class Worker:
     """A session, its objects, and whether somebody works by it, or its home is silent."""
 
@@ -79,30 +74,6 @@ class Worker:
         self.is_lent = False  # to another command of this machine, or about to be
         self.settled_when_lent: AllBut | Collection[int] = ()  # the pages into which nothing could come, until it is had again
         self.asking = threading.Lock()  # of who asks by its session while that is lent
-
-
-class Gathering:
-    """Who waits for several workers, of whichever grids: one at a time. (Whether the lock is taken tells too little: one that is free may be another's next.)"""
-
-    def __init__(self) -> None:
-        self.lock, self.count = asyncio.Lock(), 0
-
-    async def __aenter__(self) -> None:
-        self.count += 1
-        try:
-            await self.lock.acquire()
-        except BaseException:
-            self.count -= 1
-            raise
-
-    async def __aexit__(self, *_: object) -> None:
-        self.lock.release()
-        self.count -= 1
-
-    async def is_over(self) -> None:
-        """Waits until nobody waits for several any more."""
-        async with self.lock:
-            pass
 
 
 class Lending:
