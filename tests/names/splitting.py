@@ -163,7 +163,7 @@ def looking(client, where, own):
 def wants_journal(client):
     """Whether it has to enter at the new bucket."""
     own = client.old.seen[client.old.session - 1].page
-    return client.new.journal is None or client.old.journal is None and not client.is_new and not splits.is_split(own, LEVEL)
+    return client.new.journal is None or not client.is_new and not splits.is_split(own, LEVEL)
 
 
 def onward(client):

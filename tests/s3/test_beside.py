@@ -210,11 +210,11 @@ class Asked(unittest.TestCase):
 def pool_of(told, looks, sessions=3):
     """A pool with session 1, which is settled; others tell this by session."""
     pool = Pool.__new__(Pool)
-    layout = types.SimpleNamespace(pages=4, pages_volumes=4, pages_in=lambda volume: range(volume, volume + 1), page=lambda _, page: (page, 0))
+    layout = types.SimpleNamespace(pages=4, levels=[types.SimpleNamespace(volume=0, volumes=4)], pages_in=lambda volume: range(volume, volume + 1), page=lambda _, page: (page, 0))
     store = types.SimpleNamespace(settled={0, 1, 2, 3}, writer=types.SimpleNamespace(has_settled_all=lambda: True))
     pool.layout, pool.sessions, pool.looks, pool.looked, pool.known = layout, sessions, asyncio.Lock(), 0.0, (0, {})
     pool.workers = {1: types.SimpleNamespace(store=store, is_silent=False, is_lent=False, settled_when_lent=())}
-    pool.shared = types.SimpleNamespace(index=types.SimpleNamespace(beginnings=0, open=set()), changes=Changes())
+    pool.shared = types.SimpleNamespace(index=types.SimpleNamespace(beginnings=0, open=set(), is_begun=lambda *_: True), changes=Changes())
     pool.secret, pool.claims = lambda: KEY, types.SimpleNamespace(name=lambda number: number)
 
     async def lease():

@@ -335,7 +335,9 @@ class Looks(unittest.TestCase):
         index = Index()
         index.layout = pool.layout
         pool.shared, pool.sessions, pool.looks, pool.looked = types.SimpleNamespace(index=index), 2, asyncio.Lock(), 0.0
-        pool.workers = {number: types.SimpleNamespace(store=types.SimpleNamespace(settled=()), is_silent=False, is_lent=False) for number in (1, 2)}
+        pool.known, pool.secret = (0, {}), None
+        store = types.SimpleNamespace(settled=(), writer=types.SimpleNamespace(has_settled_all=lambda: False))
+        pool.workers = {number: types.SimpleNamespace(store=store, is_silent=False, is_lent=False, settled_when_lent=()) for number in (1, 2)}
 
         async def lease():
             return None
@@ -347,7 +349,10 @@ class Looks(unittest.TestCase):
                 index.split[0] = {1}
             told.append("ended")
 
-        pool.lease, pool.run = lease, run
+        async def has_sessions():
+            return True
+
+        pool.lease, pool.run, pool.has_sessions = lease, run, has_sessions
         asyncio.run(pool.look_at_all())
         new = [volume for volume in second if any(pool.layout.before(page) == 0 for page in pool.layout.pages_in(volume))]
         self.assertEqual(told, [first, "ended", new, "ended"])

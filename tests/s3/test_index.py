@@ -269,11 +269,10 @@ class FewTests(unittest.TestCase):
 
 def pool_of(settled, looks):
     """A pool whose sessions have settled these pages, each with what a look does."""
-    layout = types.SimpleNamespace(levels=[types.SimpleNamespace(volume=0, volumes=len(looks))], pages=len(looks), pages_in=lambda volume: range(volume, volume + 1))
+    layout = types.SimpleNamespace(levels=[types.SimpleNamespace(volume=0, volumes=len(looks))], pages=len(looks), pages_in=lambda volume: range(volume, volume + 1), page=lambda _, page: (page, 0))
     pool = Pool.__new__(Pool)
-    pool.shared = types.SimpleNamespace(index=types.SimpleNamespace(is_begun=lambda *_: True))
     pool.layout, pool.sessions, pool.looks, pool.looked = layout, len(settled), asyncio.Lock(), 0.0
-    pool.known, pool.secret, pool.shared = (0, {}), None, types.SimpleNamespace(index=types.SimpleNamespace(beginnings=0, open=set()))
+    pool.known, pool.secret, pool.shared = (0, {}), None, types.SimpleNamespace(index=types.SimpleNamespace(beginnings=0, open=set(), is_begun=lambda *_: True))
     writer = lambda pages: types.SimpleNamespace(has_settled_all=lambda: len(pages) == layout.pages)
     pool.workers = {number: types.SimpleNamespace(store=types.SimpleNamespace(settled=pages, writer=writer(pages)), is_silent=False, is_lent=False, settled_when_lent=()) for number, pages in enumerate(settled, 1)}
 
@@ -421,7 +420,7 @@ class Swept(unittest.TestCase):
         class Taken:
             pool = types.SimpleNamespace()
 
-            async def run(self, work, helpers, is_soon):
+            async def run(self, work, is_soon):
                 return work()
 
         async def taken(_):

@@ -17,6 +17,7 @@ from bodies_in_memory import Body
 from histories import Killed
 from in_slots import OldClient, tables
 from memory_with_chunks import World
+from test_in_chunks import sweep
 
 from gridfs_client import BadSettings, Layout, NoRoom, OneByOne, Unanswered
 from gridfs_client.contents import InChunks, Joined, joined
@@ -134,7 +135,7 @@ class Steps(unittest.TestCase):
         mine = client(memory, 1)
         for page in range(mine.layout.pages):
             mine.settle(page)
-        mine.sweep_chunks()
+        sweep(mine)
         seen = content_of(mine, name)
         self.assertIn(seen, (old, new))
         memory.surface()
