@@ -13,7 +13,7 @@ from commands import PYTHON, TOP
 from with_room import Seen, run
 
 PLANNED = os.path.join(TOP, "tools", "plan")
-MOST, FULL = 30, 400  # names, and those that fill a page at the most
+MOST, FULL = 30, 200  # names, and those that fill a page at the most
 MOMENTS = (0.6, 0.9, 1.3, 2.0)  # seconds after which `grow` is killed
 
 
@@ -97,9 +97,9 @@ def full(seen, contents):
             continue
         number, contents[name] = number + 1, os.urandom(40)
         seen.held("a put into a page that fills", run("put", "-", name, given=contents[name])[0], 0)
-        if number % 8 == 0 and looked_at()[1] or number == FULL:
+        if looked_at()[1] or number == FULL:
             break
-    seen.held("a put has split its page", (number > 8, looked_at()[1]), (True, True))
+    seen.held("a put has split its page", (number > 1, looked_at()[1]), (True, True))
 
 
 def looked_at():

@@ -198,7 +198,7 @@ class Steps(unittest.TestCase):
         """What it sees is right, by a look at all and at each name; a look at one name takes nothing from what the index has of others; and it puts and removes."""
         for kind in ("looks", "looks at one", "puts"):
             for step in range(1, 400):
-                memory, (one, two) = self.filled()
+                memory, (one, two) = self.filled(levels=(2, 2) if kind == "looks at one" else (3,))
                 steps = []
 
                 def amid(now, step=step, steps=steps, one=one, two=two, memory=memory, kind=kind):

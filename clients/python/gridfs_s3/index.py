@@ -492,10 +492,9 @@ class Index:
 
     def lacks_for(self, page: int, session: int, later: Page) -> set[int]:
         """Pages of the next level that are not known, and to which lines went that the session's page showed, and does not any more."""
-        known = self.known(page, session)
-        if known is None or self.layout is None or (level := self.layout.level_of(page) + 1) == len(self.layout.levels):
+        if self.layout is None or (level := self.layout.level_of(page) + 1) == len(self.layout.levels):
             return set()
-        gone = known.page.by_name.keys() - later.by_name.keys()
+        gone = self.shown(page, session).keys() - later.by_name.keys()
         return {number for name in gone if ((number := self.layout.page_of(name, level)), session) not in self.tags}
 
     # Names

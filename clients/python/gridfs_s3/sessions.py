@@ -88,6 +88,7 @@ class Pool:
         self.looks, self.looked = asyncio.Lock(), 0.0  # at all pages; and when the last one began that ended well
         self.asking_all, self.sure_until = asyncio.Lock(), 0.0  # whether all sessions are still this gateway's
         self.wants_plan = asyncio.Event()  # a page has split to others that are not known here
+        self.splitting: set[int] = set()  # numbers of sessions whose pages split now
         self.tried_to_split: dict[tuple[int, int], float] = {}  # sessions with a page, and when
         self.goes_on: asyncio.Task[None] | None = None  # where an earlier gateway was killed, until all pages were looked at
         self.unswept: set[int] = set()  # numbers of sessions that may have chunks that no line names, left by who died
@@ -717,19 +718,26 @@ class Pool:
         while True:
             await asyncio.sleep(RETRY)
             if self.is_open and (left := self.shared.index.to_split(self.layout)):
-                await asyncio.gather(*(self.split_by(number, left) for number in list(self.workers)))
+                for number in set(self.workers) - self.splitting:  # (one that is lent may come back late)
+                    self.splitting.add(number)
+                    self.spawn(self.split_by(number, left))
 
     async def split_by(self, number: int, left: dict[int, set[int]]) -> None:
-        for page, whose in left.items():
-            now, worker = time.monotonic(), self.workers[number]
-            if number not in whose or worker.is_lent or worker.is_silent or now < self.tried_to_split.get((number, page), now - TIDY) + TIDY:
-                continue
-            self.tried_to_split[number, page] = now
-            try:
-                await self.run(await self.lease(number), lambda store, page=page: store.split(page), is_soon=True)  # type: ignore[misc]
-                self.tried_to_split.pop((number, page), None)
-            except ClientError as fault:
-                tell(f"{self.named()}session {number}: page {page} does not split yet: {fault}")
+        try:
+            for page, whose in left.items():
+                now, worker = time.monotonic(), self.workers[number]
+                if number not in whose or worker.is_lent or worker.is_silent or now < self.tried_to_split.get((number, page), now - TIDY) + TIDY:
+                    continue
+                self.tried_to_split[number, page] = now
+                try:
+                    await self.run(await self.lease(number), lambda store, page=page: store.split(page), is_soon=True)  # type: ignore[misc]
+                    self.tried_to_split.pop((number, page), None)
+                except ClientError as fault:
+                    tell(f"{self.named()}session {number}: page {page} does not split yet: {fault}")
+                except Exception as fault:
+                    error_of(fault)
+        finally:
+            self.splitting.discard(number)
 
     # Pages
 
