@@ -28,7 +28,7 @@ from gridfs_s3.store import Store
 from gridfs_s3.workers import Worker
 
 COUNT, SESSIONS = 40, 8
-pwrite = os.pwrite
+pwrite, opened = os.pwrite, os.open
 
 
 def looks_in(counts):
@@ -497,6 +497,9 @@ class HowFar(unittest.TestCase):
                 session.home = home
                 session.noted(number, (7, 7))
                 self.assertEqual((read_end(path), session.noted), (None, None))
+            with mock.patch.object(os, "open", lambda path, flags, *mode: opened(path, flags, *mode) if flags & os.O_CREAT else opened("/nowhere", flags)):
+                note, session = began(8)
+            self.assertEqual((read_end(path), session.noted), (None, None))
             note, session = began(8)
             with mock.patch.object(os, "pwrite", side_effect=OSError):  # (a disk that is full)
                 session.noted(9, (7, 7))
@@ -517,6 +520,7 @@ class HowFar(unittest.TestCase):
 
             pool = Pool.__new__(Pool)
             pool.settings, pool.layout = types.SimpleNamespace(end_path=lambda _: path), self.store(8).layout
+            pool.shared = types.SimpleNamespace(index=types.SimpleNamespace(beginnings=0))
             worker = Worker(types.SimpleNamespace(number=1, home=2, last_at_home=told, pace=Pace()), None)
             worker.settled_when_lent = {0: Tag(5, 1), 1: Tag(6, 1), 2: Tag(7, 1)}
             for last, note, left in (
@@ -530,7 +534,10 @@ class HowFar(unittest.TestCase):
                 found = pool.settled_in_note(worker)
                 self.assertEqual({page for page in range(3) if page in found}, left - {2}, (last, note))
                 worker.settled_when_lent[2] = Tag(7, 1)
-            worker.settled_when_lent = ()  # (it is had again)
+            write_end(path, End(2, 8))
+            last, note, pool.shared.index.beginnings = 8, End(2, 8), 1  # (the index was begun anew, and has them no more)
+            self.assertEqual(pool.settled_in_note(worker), ())
+            worker.settled_when_lent, pool.shared.index.beginnings = (), 0  # (it is had again)
             self.assertEqual(pool.settled_in_note(worker), ())
 
     def test_notes(self):

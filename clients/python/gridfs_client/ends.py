@@ -68,7 +68,7 @@ def write_end(path: Path, end: End | None) -> bool:
 
 
 class Note:
-    """A note that goes on with a session which has just begun, where nobody had that since; else there is none from now on."""
+    """A note that goes on with a session which has just begun, where nobody had that since; else there is none from now on. An OSError where the note stays and can't be kept."""
 
     def __init__(self, path: Path, session: Session):
         self.path, self.session, self.out = path, session, -1
@@ -78,9 +78,13 @@ class Note:
             return
         self.end = End(session.home, session.last, end.written)
         if write_end(path, self.end):
-            with suppress(OSError):
+            try:
                 self.out = os.open(path, os.O_RDWR)
-                self.size = os.fstat(self.out).st_size
+            except OSError:
+                if not write_end(path, None):
+                    raise
+            else:
+                self.size = len(self.end.text())
                 session.noted = self.begins
 
     def begins(self, number: int, written: tuple[int, int] | None) -> None:

@@ -324,7 +324,7 @@ class Pool:
         """(A thread's.) Those of a lent session. First its home tells how far the session came, and then the note is read: so that has all writes of which anybody was told."""
         with worker.asking:
             pages, session, last = worker.settled_when_lent, worker.session, None
-            if pages:
+            if pages and worker.index_when_lent == self.shared.index.beginnings:
                 pace, session.pace = session.pace, replace(session.pace, timeout=SOON)
                 with suppress(ClientError):
                     last = session.last_at_home()
@@ -521,7 +521,7 @@ class Pool:
                 last = worker.session.last
                 self.unswept.add(worker.number)  # (what it was to have forgotten is not known any more, and the command may die)
                 self.renew(worker)
-                worker.settled_when_lent = settled
+                worker.settled_when_lent, worker.index_when_lent = settled, self.shared.index.beginnings
                 write_end(path, None if last is None else End(worker.session.home, last))
                 worker.lock.close()
                 lock = None

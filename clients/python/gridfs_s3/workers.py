@@ -73,6 +73,7 @@ class Worker:
         self.who = ""  # for whom somebody works by it
         self.is_lent = False  # to another command of this machine, or about to be
         self.settled_when_lent: AllBut | Collection[int] = ()  # the pages into which nothing could come, until it is had again
+        self.index_when_lent = 0  # which beginning of the index had them
         self.asking = threading.Lock()  # of who asks by its session while that is lent
 
 
