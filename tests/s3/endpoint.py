@@ -7,6 +7,7 @@ import socket
 import subprocess
 import sys
 import tempfile
+import threading
 import time
 
 sys.path.insert(0, os.path.dirname(os.path.abspath(__file__)))
@@ -16,6 +17,7 @@ import gridfs_client.contents
 
 SECRET = "a.secret.of.the.tests"
 PLAN = os.path.join(HERE, "plan")
+MAKING = threading.Lock()  # of clients: boto3 makes one at a time
 PATIENCE = 60  # seconds until something is up, on a machine that does much else
 
 
@@ -85,10 +87,11 @@ class Gateway:
         import boto3
         from botocore.client import Config
 
-        return boto3.client(
-            "s3", endpoint_url=self.url, aws_access_key_id=access, aws_secret_access_key=secret, region_name="us-east-1",
-            config=Config(signature_version="s3v4", s3={"addressing_style": "path"}, retries={"max_attempts": 0}, read_timeout=read_timeout),
-        )  # fmt: skip
+        with MAKING:
+            return boto3.client(
+                "s3", endpoint_url=self.url, aws_access_key_id=access, aws_secret_access_key=secret, region_name="us-east-1",
+                config=Config(signature_version="s3v4", s3={"addressing_style": "path"}, retries={"max_attempts": 0}, read_timeout=read_timeout),
+            )  # fmt: skip
 
 
 def counts(room):
