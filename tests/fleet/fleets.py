@@ -273,7 +273,7 @@ SPLITTING = {
     "carries": (ways, "looked", carries),
     "never-split": (Bucket, "has_split", never),
 }
-SPLIT_SEEDS = {"without-signposts": 22, "never-split": 0}
+SPLIT_SEEDS = {"without-signposts": 26, "never-split": 0}
 SEEDS = {"stays": 6, "new-alone": 0, "unsigned": 3, "uncopied": 91, "any-line": 210}  # of the history that finds each
 
 

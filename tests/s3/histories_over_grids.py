@@ -2,8 +2,9 @@
 """Random histories of objects over grids in memory (tests/fleet/fleets.py), by gateways' code and a mover that die, and writes that take effect late: each key
 has to be one register.
 
-    histories_over_grids.py FIRST COUNT [BUG]   so many from a seed on; the status is 1 where one is wrong
-    histories_over_grids.py --bugs              each planted bug, by a history that finds it
+    histories_over_grids.py FIRST COUNT              so many from a seed on; the status is 1 where one is wrong
+    histories_over_grids.py --splitting FIRST COUNT  the same with pages that split meanwhile
+    histories_over_grids.py --bugs                   each planted bug, by a history that finds it
 """
 
 import hashlib
@@ -59,6 +60,9 @@ class Objects:
             return actor.files(grid, actor.fleet.all(), self.trip.ground(grid), kind)
 
         self.trip = Open(fleet_map, open_store)
+
+    def grid(self, grid):
+        return self.trip.grid(grid)
 
     def do(self, name, work):
         """What a gateway does where the way leads on."""
@@ -150,10 +154,10 @@ BUGS = {
 }
 
 
-def wrong_in(seed):
+def wrong_in(seed, splits=0.0):
     """Why a history is wrong; None where it is right."""
     try:
-        history, fleet = fleets.try_fleet(seed, 50, Objects, (80,))
+        history, fleet = fleets.try_fleet(seed, 50, Objects, (80,), splits)
     except (ClientError, S3Error, AssertionError, Elsewhere) as fault:
         return f"{type(fault).__name__}: {fault}", {}, 0
     wrong, _ = history.wrong()
@@ -170,9 +174,11 @@ def main(words):
         seeds = {bug: find(bug) for bug in BUGS}
         print("\n".join(f"{bug}: {'NOT FOUND' if seed is None else seed}" for bug, seed in seeds.items()))
         return None in seeds.values()
+    splits = fleets.SPLITS if words[0] == "--splitting" else 0.0
+    words = words[splits > 0 :]
     first, count, wrong, operations, moves, begun = int(words[0]), int(words[1]), 0, 0, 0, time.monotonic()
     for seed in range(first, first + count):
-        told, counts, ended = wrong_in(seed)
+        told, counts, ended = wrong_in(seed, splits)
         operations, moves = operations + sum(counts.values()), moves + ended
         if told:
             wrong += 1

@@ -89,15 +89,15 @@ class Mover:
 
     def expect_two_grids(self) -> None:
         """BadSettings where the settings of both grids lead to the same one: there a page of one shows each time what was just written at the other."""
-        for _ in range(2):  # (once more, should the other grid have been written to by chance)
-            with self.files(self.move.source) as source:
-                page = whole_bucket(source).number
+        page = 0
+        for _ in range(1 + len(self.layout_of(self.move.source).levels)):  # (once more, should the other grid have been written to by chance)
             with self.files(self.move.source) as source:
                 place = source.layout.page(source.me, page)
                 before = self.tag_at(self.move.target, place)
                 bucket = source.writer.bucket(page)
                 bucket.look(own=True)
                 if bucket.has_split():
+                    page = source.layout.parts_of(page)[0]
                     continue
                 source.writer.change(bucket, core.changed(bucket.client, None, keeps=bucket.keeps))
                 written = source.session.read(*place).tag
@@ -156,10 +156,9 @@ class Mover:
     def sessions(self, grid: str) -> range:
         return range(1, self.layout_of(grid).sessions + 1)
 
-    def pages(self, grid: str) -> list[int]:
-        """The numbers of its pages, of each session; those in place of such as have split."""
-        with self.files(grid) as files:
-            return [bucket.number for bucket, _ in files.buckets()]
+    def pages(self, grid: str) -> range:
+        """Its pages of level 0."""
+        return range(self.layout_of(grid).pages)
 
     def files(self, grid: str, numbers: Collection[int] = ()) -> AbstractContextManager[NamedFiles]:
         return self.open_session(grid, numbers, ground_of(self.map, grid))
@@ -321,16 +320,6 @@ class Mover:
     def left(self) -> list[tuple[int, int]]:
         """Those that show names of the slices."""
         return self.pages_where(lambda page: any(self.move.has(slice_of(line.name)) for line in page.lines))
-
-
-def whole_bucket(files: NamedFiles) -> Bucket:
-    """One that has not split, looked at for a change."""
-    bucket = files.writer.bucket(0)
-    bucket.look(own=True)
-    while bucket.has_split():
-        bucket = files.writer.bucket(files.layout.parts_of(bucket.number)[0])
-        bucket.look(own=True)
-    return bucket
 
 
 def clear(files: NamedFiles, page: int, move: Move) -> int:
