@@ -18,7 +18,7 @@ BUGS = {
     "a condition is not judged again right before the change": ("test_steps.py Steps.test_condition", "store.py", "            if condition:\n                condition(before)\n", ""),
     "a content that is refused keeps its chunks": ("test_steps.py Steps.test_condition", "store.py", "            self.unplace(bucket, content)\n", ""),
     "nothing is settled": ("test_steps.py Steps.test_settled", "store.py", "            self.writer.tidy(bucket, anew=True)\n", "            bucket.look(own=True)\n"),
-    "behind a kill listings take the index as it is": ("kills.py --indexed 12 3", "sessions.py", "                await self.look_at_all()\n                break\n", "                break\n"),
+    "behind a kill listings take the index as it is": ("test_going_on.py HowFar.test_all_pages_are_looked_at_first", "sessions.py", "                await self.look_at_all()\n                break\n", "                break\n"),
     "what got no answer is forgotten": ("test_steps.py Times.test_no_answer", "shared.py", "self.unsure.get(name, 0) + 1, ", ""),
     "an upload stays once it is complete": ("test_in_chunks.py Steps.test_a_completion", "store.py", "besides = frozenset[str]() if self.trip else frozenset([name])", "besides = frozenset[str]()"),
     "what was replaced gets other words": ("test_steps.py Steps.test_touch_after_a_change", "store.py", "    if not held or held.version != seen.version:\n", "    if not held:\n"),

@@ -1,5 +1,6 @@
 """A gateway that goes on with the index of an earlier one: it ended in order, or was killed, or others had its sessions since, or the index is another grid's."""
 
+import asyncio
 import contextlib
 import os
 import pathlib
@@ -19,9 +20,11 @@ import endpoint
 import over_grids
 from gridfs_client.answers import Tag
 from gridfs_client.ends import End, Note, parse_end, read_end, write_end
+from gridfs_client.errors import Unanswered
 from gridfs_client.fleet_map import read_map
 from gridfs_client.layout import Layout, Volume
 from gridfs_client.sessions import Pace, Session
+from gridfs_s3 import sessions
 from gridfs_s3.notes import Begun, Notes
 from gridfs_s3.sessions import SURE_FOR, Pool
 from gridfs_s3.store import Store
@@ -470,6 +473,24 @@ class HowFar(unittest.TestCase):
         store.writer = types.SimpleNamespace(carried={})
         store.shared = types.SimpleNamespace(index=types.SimpleNamespace(tag=lambda page, _: Tag(page + 5, 1)))
         return store
+
+    def test_all_pages_are_looked_at_first(self):
+        """After a kill: a session goes on only once the index has all pages as they are; and not where no look ends well."""
+        for faults, wanted in ((2, ["look", "look", "look", "went on"]), (99, ["look"] * 5)):
+            pool, done, left = Pool.__new__(Pool), [], [Unanswered("silent")] * faults
+
+            async def look():
+                done.append("look")
+                if left:
+                    raise left.pop()
+
+            async def go_on(*_):
+                done.append("went on")
+
+            pool.look_at_all, pool.go_on_by_after = look, go_on
+            with mock.patch.multiple(sessions, RETRY=0, TRIES=5):
+                asyncio.run(pool.go_on_after([(None, None, None)]))
+            self.assertEqual(done, wanted)
 
     def test_what_a_command_notes(self):
         """It is there before it is asked for, as long as one operation follows another; else there is none."""
