@@ -220,7 +220,7 @@ class Splitting(unittest.TestCase):
 
     def test_a_put_that_failed(self):
         """One that was to go on to more pages, and found no room for its content, leaves nothing behind: what is removed after it stays so."""
-        memory = Memory(levels=(2,), slots=1)
+        memory = Memory(levels=(2,), page_blocks=16)
         files = memory.client(1)
         names = [f"{number:02}" for number in range(100)]
         with self.assertRaises(NoRoom):
