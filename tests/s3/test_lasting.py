@@ -152,7 +152,7 @@ class Lasting(unittest.TestCase):
         """What a watch tells that meets these faults, one after another; None where it goes on."""
 
         async def watch():
-            found = gateway.Gateway(types.SimpleNamespace(pools={"": types.SimpleNamespace(lasting=[asyncio.create_task(each) for each in lasting], named=lambda: "")}), "carol", {}, "", None)
+            found = gateway.Gateway(types.SimpleNamespace(map=None, pools={"": types.SimpleNamespace(lasting=[asyncio.create_task(each) for each in lasting], named=lambda: "")}), "carol", {}, "", None)
             left = list(looks)
 
             async def look(*_):
