@@ -662,6 +662,7 @@ class Pool:
     async def follow_plan(self) -> None:
         """Goes on by a plan that has grown, once all nodes that answer have it."""
         while True:
+            self.wants_plan.clear()
             if self.is_open and self.carrier:
                 async with self.asking:
                     layout = await self.loop.run_in_executor(self.threads, self.grown, self.carrier)
@@ -669,7 +670,6 @@ class Pool:
                         await self.loop.run_in_executor(self.threads, self.ask_room)
                 if layout:
                     await self.take_layout(layout)
-            self.wants_plan.clear()
             await asyncio.sleep(RETRY)
             with suppress(asyncio.TimeoutError):
                 await asyncio.wait_for(self.wants_plan.wait(), PLAN_AGAIN - RETRY)
