@@ -251,29 +251,20 @@ BUGS = {
     "uncopied": (Mover, "copy_all", uncopied),
     "any-line": (Mover, "is_there", any_line),
 }
-# And of pages that split; test_fleet.py finds the second one.
 def without_signposts(page, is_here):
     """A new page begins without the signposts of the old one."""
     return Page(tuple(line for line in page.lines if is_here(line.name)), page.after, page.number)
-
-
-def carries(walk, client):
-    """A signpost that the own journal has is carried into the new page, which was not announced."""
-    state = looked(walk, client)
-    return dataclasses.replace(state, state=core.Carries(client, client.journal)) if isinstance(state.state, core.Announces) else state
 
 
 def never(self):
     return False
 
 
-looked = ways.looked
 SPLITTING = {
     "without-signposts": (splits, "part_of", without_signposts),
-    "carries": (ways, "looked", carries),
     "never-split": (Bucket, "has_split", never),
 }
-SPLIT_SEEDS = {"without-signposts": 26, "never-split": 0}
+SPLIT_SEEDS = {"without-signposts": 16, "never-split": 0}
 SEEDS = {"stays": 6, "new-alone": 0, "unsigned": 3, "uncopied": 91, "any-line": 210}  # of the history that finds each
 
 

@@ -208,7 +208,7 @@ class Moves(unittest.TestCase):
             self.assertGreater(step, 9)
 
     def test_pages_that_split_wrongly(self):
-        for bug in ("without-signposts", "carries", "never-split"):
+        for bug in fleets.SPLITTING:
             with fleets.planted(bug):
                 self.assertRaises((AssertionError, NoSuchName), lambda: [self.split_amid("mover", step) for step in (*range(30, 45), *range(45, 200, 10))])
 

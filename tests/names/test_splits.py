@@ -230,7 +230,7 @@ class Splitting(unittest.TestCase):
         self.assertRaises(NoRoom, files.put, "new", b"x" * 5_000)
         gone = next(name for name in names if memory.layout.page_of(name, 1) == memory.layout.page_of("new", 1))
         files.remove(gone)
-        files.put("new", b"y" * 90)
+        files.put("new", b"y" * 30)
         self.assertTrue(splits.is_split(page_in(memory, 1, 0), 1))
         self.assertNotIn(gone, held(memory.client(1)))
 
