@@ -10,7 +10,6 @@ one goes on is drawn at each step. A session has one client at a time; a client 
 import argparse
 import collections
 import contextlib
-import dataclasses
 import functools
 import itertools
 import os
