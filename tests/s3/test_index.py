@@ -326,6 +326,29 @@ class Looks(unittest.TestCase):
         asyncio.run(work())
         self.assertLess(count[0], 30)
 
+    def test_a_line_that_goes_while_others_look(self):
+        """A line went from a page because of another one, which comes into the index behind that: a listing that met this begins anew."""
+        index, name, asked = Index(), name_of("a"), []
+        old, new = (Line(name, version, Inline(b"x")) for version in (1, 2))
+        index.keep(0, 1, Known(Tag(1, 1), Page((old,), (), 1)))
+
+        async def look():
+            if asked:
+                index.keep(0, 2, Known(Tag(2, 2), Page((new,), (), 2)))
+            asked.append("look")
+
+        def listing(names):
+            index.keep(0, 1, Known(Tag(3, 1), Page((), (0, 2), 3)))  # (somebody else read it)
+            asked.append(names.has_any("b/"))
+            return asked[-1]
+
+        async def work():
+            pool = types.SimpleNamespace(is_exact=lambda: False, look_at_all=look, loop=asyncio.get_running_loop(), threads=None, shared=types.SimpleNamespace(index=index))
+            return await Gateway.listing_by(Gateway.__new__(Gateway), pool, listing)
+
+        self.assertTrue(asyncio.run(work()))
+        self.assertEqual(asked, ["look", False, "look", True])
+
     def test_a_look_that_fails(self):
         """It is nobody else's: who waited looks himself."""
         faults, count = [None, *[Unanswered("silent")] * 3], [0]

@@ -24,6 +24,7 @@ from .looker import Looked
 from .markup import Element, element, many, parse
 from .places import BUCKETS, Object, check_bucket, of_words
 from .requests import Asked, matches
+from .sessions import Pool
 from .store import Condition, NoLine, PageFull, Store
 from .trips import Elsewhere
 from .versions import Place, expect_id, is_there
@@ -183,14 +184,23 @@ class Gateway:
         The index of a grid has them. It is right without a look where nobody else changes a page: what it lacks then is what nobody has seen, of changes that
         are under way. Else all pages that others may have changed are looked at first; over several grids along the ways of all names."""
         if not self.grids.map:
-            pool = self.grids.pool("")
-            if not (pool.is_exact() and await pool.has_sessions()):
-                await pool.look_at_all()
-            return await pool.loop.run_in_executor(pool.threads, lambda: work(pool.shared.index))
+            return await self.listing_by(self.grids.pool(""), work)
         if not (self.grids.is_exact() and all(await asyncio.gather(*(pool.has_sessions() for pool in self.grids.pools.values())))):
             return await self.all(lambda every: work(Few(every)))
         names = Union([pool.shared.index for pool in self.grids.pools.values()])
         return await asyncio.get_running_loop().run_in_executor(None, lambda: work(names))
+
+    async def listing_by(self, pool: Pool, work: Callable[[Names], Told]) -> Told:
+        """The same of one grid. Others may look meanwhile: a page may come into the index whose line went because of one that is not there yet. Then it is begun anew."""
+        index = pool.shared.index
+        for _ in range(TURNS):
+            if not (pool.is_exact() and await pool.has_sessions()):
+                await pool.look_at_all()
+            is_whole, before = not index.open, index.times_open
+            told = await pool.loop.run_in_executor(pool.threads, lambda: work(index))
+            if is_whole and index.times_open == before:
+                break
+        return told
 
     async def all(self, work: Callable[[Iterable[Held]], Told]) -> Told:
         """What comes of all that names hold, with their contents and words, each at some moment of the call: all pages are read. Unanswered where a grid is silent."""

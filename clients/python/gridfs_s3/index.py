@@ -183,6 +183,7 @@ class Index:
         self.asks: dict[tuple[int, int], tuple[int, ...]] = {}  # of pages that ask for others
         self.leads: set[str] = set()  # grids to which signposts lead
         self.open: set[int] = set()  # buckets of which a page asks for a later one than is known
+        self.times_open = 0  # how often one became such
         self.layout: Layout | None = None  # once it is known; without one all pages are of one level
         self.split: dict[int, set[int]] = {}  # pages that have split, and whose
         self.not_cleared: set[tuple[int, int]] = set()  # those of them, each with its session, that have lines still
@@ -366,7 +367,7 @@ class Index:
             if self.layout and (first := self.layout.before(page)) is not None:
                 self.split.setdefault(first, set()).add(session)  # (else nobody had written this one)
             self.leads.update(leads_of(known.page))
-            self.open.discard(page) if self.is_closed(page) else self.open.add(page)
+            self.note_open(page)
             self.is_recent(page, session, known, len(text))
             self.fullest = max(self.fullest, len(text))
             self.changes += 1
@@ -375,6 +376,13 @@ class Index:
                     self.commit()
                 except sqlite3.OperationalError as fault:
                     self.go_on_in_memory(fault)
+
+    def note_open(self, page: int) -> None:
+        if self.is_closed(page):
+            self.open.discard(page)
+        else:
+            self.open.add(page)
+            self.times_open += 1
 
     def keep_text(self, page: int, session: int, known: Known, text: bytes) -> None:
         before = self.shown(page, session)
