@@ -140,6 +140,7 @@ BUGS = {
     "sessions that no gateway has are passed over": ("test_beside.py Where.test_it", "sessions.py", "        return found, not left\n", "        return found, True\n"),
     "pages that are not settled are told as if they were": ("test_beside.py Where.test_what_is_told", "sessions.py", "return now, None if pages is None or noted is None else pages | noted", "return now, pages and pages | (noted or set())"),
     "a put that finds no room is not tried again": ("test_index.py Swept.test_a_put_that_finds_none", "gateway.py", "if has_searched or not await taken.pool.found_room():", "if True:"),
+    "what is gone is damaged though it was replaced": ("test_steps.py Replacing", "reading.py", "        return bool(line and line.content == held.content)\n", "        return True\n"),
     "a listing goes on though a line went that is not there yet": ("test_index.py Looks.test_a_line_that_goes_while_others_look", "gateway.py", "            if is_whole and index.times_open == before:\n", "            if True:\n"),
     "a sweep minds nobody who waits": ("test_index.py Swept.test_while_nobody_waits", "sessions.py", "        while not self.in_want and (self.waiting or", "        while not self.in_want and (False and self.waiting or"),
     "a sweep goes on though a command had the session": ("test_index.py Swept.test_a_session_that_is_renewed", "sessions.py", "        if store is not self.workers[number].store:\n            raise NotWhole\n", ""),

@@ -2,11 +2,13 @@
 of theirs that take effect late. And the forms of what is beside a content."""
 
 import contextlib
+import functools
 import hashlib
 import io
 import os
 import random
 import sys
+import types
 import unittest
 from unittest import mock
 
@@ -19,11 +21,15 @@ from in_slots import OldClient, tables
 from memory_with_chunks import World
 from test_in_chunks import sweep
 
-from gridfs_client import BadSettings, Layout, NoRoom, OneByOne, Unanswered
-from gridfs_client.contents import InChunks, Joined, joined
+from gridfs_client import BadSettings, Layout, NoRoom, OneByOne, Tag, Unanswered
+from gridfs_client.buckets import Held
+from gridfs_client.contents import InChunks, Inline, Joined, joined
+from gridfs_client.core import Known, Line, Page, Version
+from gridfs_client.errors import Damaged, Replaced
 from gridfs_client.streams import Source
 from gridfs_s3.errors import S3Error, error_of
 from gridfs_s3.places import Part, of_words, upload_name, words_of
+from gridfs_s3.reading import Reader
 from gridfs_s3.shared import Shared
 from gridfs_s3.store import Store
 from gridfs_s3.versions import Target
@@ -39,6 +45,28 @@ def client(memory, number=1, at_step=None, shared=None):
         return found
 
     return memory.client(number, at_step, kind)
+
+
+class Replacing(unittest.TestCase):
+    def test_amid_a_get(self):
+        """What can't be read any more is looked for anew where its page shows something else by now, whoever has read that since. Where it stands there still it is damaged."""
+        old, new = (Line(NAME, version, Inline(content)) for version, content in ((1, OLD), (2, NEW)))
+        for shown, told in ((new, NEW), (old, None)):
+            held = [Held(NAME, Version(line.version, 1), line.content) for line in (shown, old)]
+            page = Known(Tag(2, 1), Page((shown,), (), 2))
+            bucket = types.SimpleNamespace(reread=lambda session: False, client=types.SimpleNamespace(seen=[page]))
+
+            def content(found, first, end, most):
+                if found.version.number == 1:
+                    raise Replaced("gone")
+                yield found.content.content
+
+            reader = types.SimpleNamespace(look=lambda name, looked: held.pop(), grid="", content=content, bucket=lambda name: bucket)
+            reader.stands = functools.partial(Reader.stands, reader)
+            if told is None:
+                self.assertRaises(Damaged, Reader.read, reader, NAME, lambda _: (0, 9))
+            else:
+                self.assertEqual(Reader.read(reader, NAME, lambda _: (0, 9))[2], told)
 
 
 class MorePages(unittest.TestCase):

@@ -164,6 +164,13 @@ class Reader(NamedFiles):
                 raise Damaged(f"{held.name}: its slots don't hold it")
             yield data[max(0, first - span.begin) : end - span.begin]
 
+    def stands(self, name: str, held: Held) -> bool:
+        """Whether the page that shows a content does so still. (Others may have read it since, so its tag says nothing.)"""
+        bucket = self.bucket(name)
+        bucket.reread(held.version.session)
+        line = bucket.client.seen[held.version.session - 1].page.shown(held.name)
+        return bool(line and line.content == held.content)
+
     def read(
         self, name: str, choose: Callable[[Held | None], tuple[int, int]], is_latest: bool = False, most: int | None = None, looked: Looked | None = None
     ) -> tuple[Held, Generator[bytes, None, None], bytes]:
@@ -179,6 +186,6 @@ class Reader(NamedFiles):
             try:
                 return held, parts, next(parts, b"")
             except Replaced:
-                if not self.bucket(name).reread(held.version.session):
+                if self.stands(name, held):
                     raise Damaged(f"{name}: {where_of(held.content)} don't hold it") from None
         raise Replaced(f"{name}: replaced each of {BEGINNINGS} times while it was read")
