@@ -50,8 +50,8 @@ def client(memory, number=1, at_step=None, shared=None):
 class Replacing(unittest.TestCase):
     def test_amid_a_get(self):
         """What can't be read any more is looked for anew where its page shows something else by now, whoever has read that since. Where it stands there still it is damaged."""
-        old, new = (Line(NAME, version, Inline(content)) for version, content in ((1, OLD), (2, NEW)))
-        for shown, told in ((new, NEW), (old, None)):
+        old, new = (Line(NAME, version, Inline(content)) for version, content in ((1, OLD), (2, b"another")))
+        for shown, told in ((new, b"another"), (old, None)):
             held = [Held(NAME, Version(line.version, 1), line.content) for line in (shown, old)]
             page = Known(Tag(2, 1), Page((shown,), (), 2))
             bucket = types.SimpleNamespace(reread=lambda session: False, client=types.SimpleNamespace(seen=[page]))
