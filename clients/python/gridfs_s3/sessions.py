@@ -586,6 +586,8 @@ class Pool:
         elif isinstance(fault, (Unanswered, SessionTaken)):
             self.renew(worker)
             self.probe(worker)
+            for each in self.idle() if isinstance(fault, Unanswered) else ():
+                self.spawn(self.ask_whether_silent(each))
         elif isinstance(fault, BadSettings):
             self.wants_plan.set()
 
@@ -607,6 +609,19 @@ class Pool:
         self.tasks.add(task)
         task.add_done_callback(self.tasks.discard)
         return task
+
+    async def ask_whether_silent(self, worker: Worker) -> None:
+        """Asks the home of a worker that is leased, since that of another one was silent: so one request alone waits for what may be silent for all."""
+        pace, worker.session.pace = worker.session.pace, replace(worker.session.pace, timeout=SOON)
+        try:
+            await self.loop.run_in_executor(self.threads, worker.session.read, 0, 0)
+        except (Unanswered, SessionTaken):
+            self.probe(worker)
+        except CarrierFault as fault:
+            self.reopen(str(fault))
+        finally:
+            worker.session.pace = pace
+            self.release(worker)
 
     async def wait_for(self, worker: Worker) -> None:
         while worker.is_silent:
