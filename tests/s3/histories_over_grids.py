@@ -109,11 +109,13 @@ class Objects:
             raise NoSuchName(name)
 
     def get(self, name):
-        while True:
+        for is_last in (False, False, True):
             try:
                 return self.do(name, lambda store: self.get_once(store, name))
             except Replaced:
-                continue
+                if is_last:
+                    raise
+        raise AssertionError
 
     def get_once(self, store, name):
         def choose(held):
