@@ -19,8 +19,8 @@ from gridfs_s3.peers import NEVER
 from histories_in_memory import Objects
 
 SHAPES = [
-    registers.Shape(names=(1, 2), sessions=(2, 3), pages=(1, 2), slots=(8,), sizes=(3, 45), kills=(0, 0.002), gone=(0,), late=(0.1, 0.02), many_sessions=(0.3, 0.6), weights=((4, 0, 1, 7),)),
-    registers.Shape(names=(1, 2), sessions=(2, 3), pages=(1, 2), slots=(8,), sizes=(3, 45), kills=(0, 0.004), gone=(0,), late=(0.05, 0.01), many_sessions=(0.4,), weights=((4, 0, 1, 7),), unanswered=(0.005, 0.02)),
+    registers.Shape(names=(1, 2), sessions=(2, 3), pages=(1, 2), sizes=(3, 45), kills=(0, 0.002), gone=(0,), late=(0.1, 0.02), many_sessions=(0.3, 0.6), weights=((4, 0, 1, 7),)),
+    registers.Shape(names=(1, 2), sessions=(2, 3), pages=(1, 2), sizes=(3, 45), kills=(0, 0.004), gone=(0,), late=(0.05, 0.01), many_sessions=(0.4,), weights=((4, 0, 1, 7),), unanswered=(0.005, 0.02)),
 ]
 told_alone = 0  # listings that looked at what others told
 
@@ -69,7 +69,7 @@ class Beside(Objects):
         return [histories_in_memory.Entry(row.key, Objects.digests[row.etag]) for row in rows if row.etag in Objects.digests]
 
 
-def wrong_in(seed):
+def wrong_in(seed, _=None):
     """Why a history is wrong; None where it is right."""
     Objects.times, Beside.live = {}, {}
     try:
