@@ -126,7 +126,7 @@ class Slow(unittest.TestCase):
         for made in asking:
             made.settimeout(100)
             self.assertTrue(made.recv(100).startswith(b"HTTP/1.1 200"))
-        self.assertLess(self.grown(), before + 80)
+        self.assertLess(self.grown(), before + 52)
 
     def test_documents(self):
         before = self.grown()
