@@ -52,15 +52,16 @@ def long_name(number):
     return f"bench/long/{number:05}"
 
 
-def plan_for(names, blocks):
-    """Pages of so many blocks, in which a name has a line of some 155 bytes."""
+def plan_for(names, blocks, parts=0):
+    """Pages of so many blocks, in which a name has a line of some 155 bytes; and behind them so many more for each."""
     volumes = 1
     while volumes * FILES * MOST_LINES < names:
         volumes *= 2
-    taken = 2 * volumes * FILES * blocks + 1
+    taken = 2 * volumes * (1 + parts) * FILES * blocks + 2
     chunks = names * (SHORT + 512) // 1024 + names // LONG_EACH * (LONG // 1024 + 1) + (8 << 20)
-    lines = ["grid 2 2", f"room {taken}", f"tenant carol {taken} {SESSIONS} 1000 {max(blocks, 64)} {2 * volumes + 1}", "go"]
-    return "\n".join([*lines, f"carol open {FILES} {blocks} times {2 * volumes}", "carol open 1 1", f"carol chunks {chunks}", ""])
+    lines = ["grid 2 2", f"room {taken}", f"tenant carol {taken} {SESSIONS} 1000 {max(blocks, 64)} {2 * volumes * (1 + parts) + 2}", "go"]
+    more = [f"carol open {FILES} {blocks} times {2 * volumes * parts}", "carol open 1 1"] if parts else []
+    return "\n".join([*lines, f"carol open {FILES} {blocks} times {2 * volumes}", "carol open 1 1", *more, f"carol chunks {chunks}", ""])
 
 
 class Filling:
@@ -192,9 +193,9 @@ class Journals:
 class Nodes:
     """A grid in a folder, by `./grid`, that has so many names."""
 
-    def __init__(self, program, folder, names, blocks, over):
+    def __init__(self, program, folder, names, blocks, over, parts=0):
         self.folder, begin = folder, time.monotonic()
-        (folder / "plan").write_text(plan_for(names, blocks))
+        (folder / "plan").write_text(plan_for(names, blocks, parts))
         self.fill(program, names)
         self.filled_in = time.monotonic() - begin
         self.log = open(folder / "log.grid", "wb")

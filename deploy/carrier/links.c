@@ -258,7 +258,7 @@ static size_t session_of(const char *body, size_t length) {
 static uint64_t request_of(const char *body, size_t length) {
     static const struct { const char *verb; size_t one, other; } forms[] = {{"keep", 1, 2}, {"kept", 1, 2}, {"get", 1, 2}, {"got", 1, 2}, {"none", 1, 2}, {"lacks", 1, 2},
         {"damaged", 1, 2}, {"chunks", 1, 2}, {"forget", 1, 3}, {"forgot", 1, 3}, {"room", 0, 0}, {"look", 1, 2}, {"looked", 1, 2},
-        {"refused", 2, 3}};
+        {"abandon", 1, 2}, {"refused", 2, 3}};
     struct { const char *text; size_t length; } words[4] = {{NULL, 0}};
     const char *end = body + (length < KEY ? length : KEY), *at = body;
     for (size_t i = 0; i < 4 && at < end; i++) {
@@ -303,14 +303,27 @@ static bool has_asked(struct peer *peer, uint64_t request, const struct link *li
     return found;
 }
 
+/* Whether a request only asks how far a session came: it gives up an operation whose number few sessions ever come to. So its answer goes by that number, and who asks takes
+   no other answers; asked again, it counts as any request. */
+static const uint64_t FAR = (uint64_t)1 << 31;
+static bool only_asks(const char *line, size_t length) {
+    if (length < 10 || memcmp(line, "abandon ", 8)) return false;
+    const char *at = memchr(line + 8, ' ', length - 8), *end = line + length;
+    uint64_t number = 0;
+    for (at = at ? at + 1 : end; at < end && *at >= '0' && *at <= '9' && number < FAR; at++) number = 10 * number + (uint64_t)(*at - '0');
+    return number >= FAR;
+}
+
 static void lines(struct link *link, const char *text, size_t length) {
     struct peer *peer = link->peer;
     if (is_tenant(peer->name)) {
         const char *end = text + length;
         for (const char *line = text, *stop; line < end; line = stop + 1) {
             if (!(stop = memchr(line, '\n', (size_t)(end - line)))) stop = end;
-            uint64_t request = request_of(line, (size_t)(stop - line));
-            size_t session = request ? 0 : session_of(line, (size_t)(stop - line));
+            size_t many = (size_t)(stop - line);
+            bool asks = only_asks(line, many);
+            uint64_t request = *line == 'a' && !asks ? 0 : request_of(line, many);
+            size_t session = request && !(asks && has_asked(peer, request, link)) ? 0 : session_of(line, many);
             if (request) note_asked(peer, request, link);
             if (session) peer->by_session[session] = link;
         }

@@ -304,7 +304,7 @@ def sweeps_pages(self):
     return [self.bucket(page).client.seen[self.me - 1].page for page in range(self.layout.pages)]
 
 
-def sweeps_old_pages(self, is_known=False):
+def sweeps_old_pages(self, first=None, is_known=False):
     """A sweep goes by the pages of level 0 alone."""
     return (self.bucket(page) for page in range(self.layout.pages))
 

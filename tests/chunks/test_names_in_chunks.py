@@ -8,6 +8,7 @@ import os
 import random
 import unittest
 from dataclasses import replace
+from types import SimpleNamespace
 
 from memory_with_chunks import SHORT, Killed, World
 
@@ -153,6 +154,41 @@ class Names(unittest.TestCase):
             server.chunks[1, 100 + place] = b"orphan"
         self.assertEqual(self.swept().chunks, 8)
         self.assertEqual(self.world.client(2).get("name")[0], LONG)
+
+    def test_a_sweep_of_pages_that_are_settled(self):
+        """Who lent the sessions has noted it of all pages but these: the sweep writes these alone, and finds what all others name, those of both levels."""
+        self.world = World(pages=2, levels=(3,))
+        self.servers = self.world.servers
+        names = [f"name {number}" for number in range(12)]
+        for number, name in enumerate(names):
+            self.world.client(1 + number % 2).put(name, LONG)
+        self.world.client(1).grow()
+        for place, server in self.servers.at.items():
+            server.chunks[1, 100 + place] = server.chunks[2, 100 + place] = b"orphan"
+        for late, carried in ((None, 0), (3, 3), (0, 3)):  # (each page of whose names one has a part, or is one)
+            files = self.world.client(1, others=(2,))
+            noted = {} if late is None else {1: self.world.layout.journal(1, late)}
+            for writer in files.every_writer():
+                writer.session.note = SimpleNamespace(unsettled=lambda _, files=frozenset(filter(None, [noted.get(writer.me)])): files)
+            self.world.counts.clear()
+            swept, writes = files.sweep(), self.world.counts["write"]
+            self.assertEqual((swept.chunks, writes), (8 if late is None else 0, 2 * carried), late)
+            self.assertEqual(self.world.kept(), self.world.named())
+            for name in names:
+                self.assertEqual(self.world.client(2).get(name)[0], LONG)
+
+    def test_a_note_that_ends_amid_a_sweep(self):
+        """All pages are carried then, as where there was none."""
+        self.world = World(pages=3, levels=(2,))
+        self.servers = self.world.servers
+        for number in range(12):
+            self.world.client(1 + number % 2).put(f"name {number}", LONG)
+        files, counts = self.world.client(1, others=(2,)), self.world.counts
+        counts.clear()
+        for writer in files.every_writer():
+            writer.session.note = SimpleNamespace(unsettled=lambda _, file=self.world.layout.journal(writer.me, 0): None if counts["write"] else frozenset([file]))
+        files.sweep()
+        self.assertEqual((counts["write"], self.world.kept()), (2 * 2 * 3, self.world.named()))
 
     def test_a_sweep_while_a_node_is_silent(self):
         self.world.client(1).put("name", LONG)

@@ -23,7 +23,7 @@ from memory import Memory, MemorySession
 from memory_with_chunks import with_chunks
 from servers import Servers
 
-from gridfs_client import BadSettings, NamedFiles, NoRoom, NoSuchName, OneByOne, Unanswered, command, core, fleet_command, ways
+from gridfs_client import BadSettings, NamedFiles, NoRoom, NoSuchName, OneByOne, Unanswered, command, core, fleet_command, splits, ways
 from gridfs_client.buckets import held_of
 from gridfs_client.contents import Inline, Joined, digest_of
 from gridfs_client.core import Copied, Line, Page, Signpost
@@ -47,6 +47,7 @@ class Grids(Maps):
         self.memories = {label: Memory(sessions, pages, page_blocks, slots, 2, levels) for label in labels}
         self.steps, self.at_step = 0, lambda _: None
         self.held = []  # sessions that the mover has
+        self.growing = set()  # grids whose pages may split
 
     def step(self, _):
         self.steps += 1
@@ -54,7 +55,9 @@ class Grids(Maps):
 
     def named(self, label, number, ground, watched=False):
         memory = self.memories[label]
-        return NamedFiles(with_chunks(MemorySession(memory, number, self.step if watched else None), memory), memory.layout, team=OneByOne(), ground=ground)
+        files = NamedFiles(with_chunks(MemorySession(memory, number, self.step if watched else None), memory), memory.layout, team=OneByOne(), ground=ground)
+        files.may_grow = lambda: label in self.growing
+        return files
 
     def files(self, number, fleet_map=None, watched=False):
         return FleetFiles(fleet_map or self.map, lambda label, ground: self.named(label, number, ground, watched))
@@ -166,6 +169,62 @@ class Moves(unittest.TestCase):
             self.assertFalse([line for copy in memory.registers.values() if copy.content.startswith(b"names") for line in parse_page(copy.content, "").lines])
         with self.assertRaises(BadSettings):
             grids.named("east", 1, None).get("short")
+
+    def test_a_full_page(self):
+        """A put that finds no room lets its page split where it may, at the last grid of its way, and so does a copy; else it is refused, and nothing has changed."""
+        grids, names = Grids(page_blocks=16, levels=(4,)), [f"{number:02}" for number in range(40)]
+        with self.assertRaises(NoRoom):
+            self.put_all(grids, names)
+        self.assertFalse(self.has_split(grids, "east"))
+        grids.growing = {"east"}
+        self.put_all(grids, names[:30])
+        self.assertTrue(self.has_split(grids, "east"))
+        grids.begin(0, SLICES - 1, "west")
+        with self.assertRaises(NoRoom):
+            grids.end()
+        self.assertFalse(self.has_split(grids, "west"))
+        grids.growing = {"west"}
+        grids.end()
+        self.assertTrue(self.has_split(grids, "west"))
+        self.put_all(grids, names)
+        self.held(grids, names)
+
+    def test_a_full_page_amid_a_move(self):
+        """A mover dies at a step. Puts let pages split, and who goes on with the move too."""
+        for step in range(5, 600, 30):
+            grids, names = Grids(page_blocks=16, levels=(4,)), [f"{number:02}" for number in range(30)]
+            grids.growing = {"east", "west"}
+            self.put_all(grids, names[:20])
+            grids.begin(0, SLICES - 1, "west")
+
+            def dies(now):
+                if now == step:
+                    raise Killed
+
+            grids.at_step = dies
+            with contextlib.suppress(Killed):
+                grids.mover(watched=True).run()
+            self.put_all(grids, names)
+            self.held(grids, names)
+            grids.end()
+            self.held(grids, names)
+            grids.surface()
+            self.held(grids, names)
+
+    def put_all(self, grids, names):
+        files = grids.files(1)
+        for name in names:
+            files.put(name, name.encode() * 20)
+
+    def held(self, grids, names):
+        for fleet_map in grids.maps:
+            files = grids.files(2, fleet_map)
+            self.assertEqual([entry.name for entry in files.names()], names)
+            self.assertEqual([files.get(name)[0] for name in names], [name.encode() * 20 for name in names])
+
+    def has_split(self, grids, grid):
+        memory = grids.memories[grid]
+        return splits.is_split(parse_page(memory.read(memory.layout.page(1, 0)).content, ""), 1)
 
     def split_amid(self, who, step):
         """A mover dies at a step, and pages split; or they begin to, whoever does so dies at the step, and the move goes on. Whether there was such a step."""

@@ -21,7 +21,9 @@ FAULTS = {
     "what waits within TLS is forgotten": ("lines_are_whole", "links.c", "if (stream->more && !link->is_later)", "if (false)"),
     "an answer goes to all connections": ("answers_go_home", "links.c", "    if (session) only = peer->by_session[session];\n", "    (void)session;\n"),
     "an answer about a chunk goes to whom its session asked last": ("chunks_go_home", "links.c", "struct link *only = request && !of_room ? who_asked(peer, request) : NULL;", "struct link *only = NULL;\n    (void)who_asked;", "links.c", "(request && !of_room && !only && memcmp(body, \"refused \", 8))", "false"),
-    "who asks for a chunk takes its session's answers": ("chunks_go_home", "links.c", "size_t session = request ? 0 : session_of(line,", "size_t session = session_of(line,"),
+    "who asks for a chunk takes its session's answers": ("chunks_go_home", "links.c", "size_t session = request && !(asks && has_asked(peer, request, link)) ? 0 : session_of(line,", "size_t session = session_of(line,"),
+    "who asks how far a session came takes its answers": ("answers_go_home", "links.c", "bool asks = only_asks(line, many);", "bool asks = false;"),
+    "who asks twice how far a session came is told nothing": ("answers_go_home", "links.c", "request && !(asks && has_asked(peer, request, link)) ? 0", "request ? 0"),
     "two who ask for one chunk are one": ("chunks_go_home", "links.c", "        peer->asked[at].link = NULL;\n        return link;", "        return link;"),
     "a look is taken for one of a session": ("chunks_go_home", "links.c", "{\"look\", 1, 2}, {\"looked\", 1, 2},", ""),
     "who asked for room last waits for who was not told": ("chunks_go_home", "links.c", "of_room = request && length > 5 && !memcmp(body, \"room \", 5);", "of_room = false;"),
@@ -68,7 +70,7 @@ FAULTS = {
     "the key may be read by others": ("its_words", "links.c", "kind.st_mode & (S_IROTH | S_IWOTH)", "false"),
 }
 # Those that are tried where not all are
-SOME = ["a tenant pays for his own lines alone", "one who is denied comes again", "anybody of the grid may stand at a node's address", "a part of a line is given", "an answer goes to all connections", "what waits within TLS is forgotten"]
+SOME = ["a tenant pays for his own lines alone", "who asks how far a session came takes its answers", "one who is denied comes again", "anybody of the grid may stand at a node's address", "a part of a line is given", "an answer goes to all connections", "what waits within TLS is forgotten"]
 
 
 def built(folder, what, edits):

@@ -362,9 +362,12 @@ def of_any_node(look, told, begun):
 
 def by_the_first(look):
     """The first node of each column stands for all of them."""
-    columns = looks.lines_of(look.shape)[0]
-    look.rows = list(looks.settled_alike(tuple(look.told[min(column & look.told.keys())].words for column in columns)))
-    look.left = {file for file, row in enumerate(look.rows) if row is None}
+    words = [look.told[min(column & look.told.keys())].words for column in looks.lines_of(look.shape)[0]]
+    for file in list(look.left):
+        rows = [looks.row_in(each[file]) for each in words]
+        if all(rows):
+            look.rows[file] = max(rows, key=looks.TAG)
+            look.left.discard(file)
 
 
 ROW_IN, TAKE = looks.row_in, looks.Look.take
@@ -435,12 +438,8 @@ def lost_amid():
 def is_found(bug, seed, kind=MIXED):
     """Whether a history shows a bug, and none of them is wrong without it."""
     what, name, wrong = BUGS[bug]
-    looks.settled_alike.cache_clear()
-    try:
-        with mock.patch.object(what, name, wrong):
-            return not lost_amid() if seed is None else bool(tried(seed, kind).wrong())
-    finally:
-        looks.settled_alike.cache_clear()
+    with mock.patch.object(what, name, wrong):
+        return not lost_amid() if seed is None else bool(tried(seed, kind).wrong())
 
 
 def main(first, count, kind, bug):

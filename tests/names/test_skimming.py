@@ -11,12 +11,12 @@ import planted
 from memory import Memory
 from registers import Skims
 
-from gridfs_client import BadSettings, Damaged, NamedFiles, skimming
-from gridfs_client.command import line_of_sortable, sortable
+from gridfs_client import BadSettings, Damaged, NamedFiles, names
 from gridfs_client.contents import InChunks, Inline, InSlots, Joined, PartList, Strand
 from gridfs_client.core import Copied, Line, Page, Signpost
 from gridfs_client.pages import line_text, parse_line, text_of
 from gridfs_client.runs import MOST_NUMBER, Run
+from gridfs_client.side_by_side import line_of_sortable, sortable
 from gridfs_client.skimming import PLAIN, Skimmed, counting
 
 DIGEST = "Aa0_-" * 8 + "xyz"
@@ -115,7 +115,7 @@ class Skimming(unittest.TestCase):
             self.assertEqual(self.listed(step), ["a"], step)
 
     def test_that_is_found_without_what_pages_ask_for(self):
-        with mock.patch.object(skimming, "counting", lambda contents: counting({each: planted.without_after(content) for each, content in contents.items()})):
+        with mock.patch.object(names, "counting", lambda contents: counting({each: planted.without_after(content) for each, content in contents.items()})):
             self.assertIn([], [self.listed(step) for step in range(1, 9)])
 
 

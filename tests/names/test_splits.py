@@ -96,6 +96,22 @@ class Splitting(unittest.TestCase):
                     if page < memory.layout.pages:
                         self.assertTrue(splits.is_split(page_in(memory, session, page), 1))
 
+    def test_what_it_asks_for(self):
+        """Who has a page split reads no page twice, and of what is split the own page alone; and keeps none."""
+        memory, _ = filled(levels=(2,))
+        parts = {session: len({memory.layout.page_of(line.name, 1) for line in page_in(memory, session, 0).lines}) for session in (1, 2)}
+        reads = {1: 0, 2: parts[1]}  # of new pages of the others
+        for session in (1, 2):
+            files = memory.client(session)
+            memory.counts.clear()
+            files.grow()
+            # (both pages and the journal, and then those to which the lines go)
+            self.assertEqual(dict(memory.counts), {"read": 3 + reads[session], "list": 1 + parts[session], "write": 4 + 2 * parts[session]})
+            self.assertEqual(files.writer.buckets, {})
+            memory.counts.clear()
+            files.grow()
+            self.assertEqual(dict(memory.counts), {"read": 1})
+
     def test_bytes_of_before(self):
         """Where no page splits, a tenant with more pages writes what one without writes."""
         written = []
@@ -181,7 +197,7 @@ class Splitting(unittest.TestCase):
                 self.assertEqual([held(memory.client(session)) for session in (1, 2)], [contents] * 2, (late, step))
                 memory.client(2, others=(1,)).sweep()
                 self.assertEqual([held(memory.client(session)) for session in (1, 2)], [contents] * 2, (late, step))
-            self.assertGreater(step, 20)
+            self.assertGreater(step, 15)
 
     def test_puts_amid(self):
         """At each step another session puts, removes and sweeps; and goes on with what it knew before."""
@@ -203,7 +219,7 @@ class Splitting(unittest.TestCase):
             self.assertEqual([held(memory.client(1)), held(memory.client(2)), held(other)], [contents] * 3, step)
             if not steps:
                 break
-        self.assertGreater(step, 20)
+        self.assertGreater(step, 15)
 
     def test_a_full_page(self):
         """A put that finds no room goes on to more pages where it may; else it is refused, and nothing has changed."""

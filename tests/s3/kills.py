@@ -7,12 +7,14 @@
     kills.py --growing SETTINGS SECONDS KILLS       the same of a tenant with more pages, to which names go on meanwhile: by `gridfs-client grow`, which is killed too, and by full pages
     kills.py --growing SECONDS KILLS                the same over a stand-in for a grid
     kills.py --lent SECONDS KILLS                   the same beside a client of names, to which the gateway lends a session for each operation, and which is killed too
+    kills.py --apart SECONDS KILLS                  the same by two gateways that reach each other by addresses alone, over wires that fail; above all puts and listings
     kills.py --conditional SETTINGS SECONDS KILLS   puts with If-None-Match and If-Match, by one gateway that has all sessions: links of a chain
 
 SETTINGS is a file as for gridfs-client, of the tenant carol. The status is 1 where something is wrong.
 """
 
 import collections
+import contextlib
 import hashlib
 import itertools
 import math
@@ -23,9 +25,11 @@ import sys
 import tempfile
 import threading
 import time
+from dataclasses import replace
 
 sys.path.insert(0, os.path.dirname(os.path.abspath(__file__)))
 import code_of_s3
+import apart
 import endpoint
 from code_of_s3 import CODE, HERE
 from linearizability import Operation, is_linearizable
@@ -36,6 +40,8 @@ NEVER = math.inf  # the end of what was not answered
 SIZES = (20, 20, 700, 5_000, 40_000)
 CLIENTS, KEYS, SESSIONS = 6, 4, 8
 FAULTS = (ClientError, BotoCoreError, OSError)
+OF_NOW = "import sys; from gridfs_client import command, open_grids; sys.exit(command.main())"
+OF_BEFORE = OF_NOW.replace("sys.exit", "open_grids.GROWTH = 99; sys.exit")  # (it waits for what no gateway heeds)
 PLAN_THAT_GROWS = os.path.join(os.path.dirname(os.path.abspath(__file__)), "plan-that-grows")
 
 
@@ -51,6 +57,10 @@ def body_of(word, draw):
 
 def word_of(body):
     return body.split(b" ", 1)[0].decode()
+
+
+class Etag(str):
+    """What a listing told of a content. Whose that is may be known only later: a client beside it tells so by lines."""
 
 
 class Trial:
@@ -150,9 +160,11 @@ class Trial:
         begin = self.now()
         try:
             told = s3.list_objects_v2(Bucket=self.bucket, Prefix="key/")
+            if "Name" not in told:  # (botocore minds no length: an answer that a kill cut off behind its head is an empty one to it)
+                raise OSError("cut off")
         except FAULTS as fault:
             return self.fault(fault)
-        end, held = self.now(), {each["Key"]: self.by_etag.get(each["ETag"].strip('"'), "nobody's") for each in told.get("Contents", [])}
+        end, held = self.now(), {each["Key"]: Etag(each["ETag"].strip('"')) for each in told.get("Contents", [])}
         for key in map("key/{}".format, range(KEYS)):
             self.note(key, Operation(False, held.get(key), begin, end))
 
@@ -180,7 +192,8 @@ class Trial:
                 self.note(key, Operation(False, self.read(gateway.client(), "get", {"Bucket": self.bucket, "Key": key}), begin, self.now()))
 
     def judge(self):
-        for key, operations in sorted(self.history.items()):
+        for key, found in sorted(self.history.items()):
+            operations = [replace(each, value=self.by_etag.get(each.value, "nobody's")) if isinstance(each.value, Etag) else each for each in found]
             if not (answer := is_linearizable(operations)):
                 self.wrong.append(f"{key}: {'no order' if answer is False else 'no order was found in time'} of {len(operations)} operations")
 
@@ -234,10 +247,10 @@ class Growing(Indexed):
             self.grow_for(self.draw.uniform(0.5, self.seconds))
 
     def grow_for(self, seconds):
-        """Whether the command came to its end in so many seconds."""
+        """Whether the command came to its end in so many seconds. Half of them wait until the gateway has its pages split; to the others it lends its sessions, as to a command of before."""
         gateway = self.gateways[0]
-        words = [sys.executable, "-B", os.path.join(code_of_s3.CLIENT, "gridfs-client"), "--config", gateway.settings, "--locks", os.path.join(gateway.room, "locks"), "grow"]
-        command = subprocess.Popen(words, stdin=subprocess.DEVNULL, stdout=subprocess.PIPE, stderr=subprocess.PIPE)
+        words = [sys.executable, "-B", "-c", OF_BEFORE if self.draw.random() < 0.5 else OF_NOW, "--config", gateway.settings, "--locks", os.path.join(gateway.room, "locks"), "grow"]
+        command = subprocess.Popen(words, env={**os.environ, "PYTHONPATH": code_of_s3.CLIENT}, stdin=subprocess.DEVNULL, stdout=subprocess.PIPE, stderr=subprocess.PIPE)
         try:
             told = command.communicate(timeout=seconds)
             self.faults[f"grow: {command.returncode}"] += 1
@@ -284,6 +297,8 @@ class Lent(Indexed):
         """What such a client did, as its lines tell it."""
         under_way = None
         for line in lines:
+            if not line.endswith("\n"):
+                break  # (a kill cut it off: what it was to tell is not known)
             kind, *rest = line.split()
             if kind == "begins":
                 at, key, word, md5, what = rest
@@ -303,6 +318,29 @@ class Lent(Indexed):
 
     def told(self):
         return f"{super().told()}, {self.beside_done} changes by clients beside it"
+
+
+class Apart(Trial):
+    """Two gateways as on two machines: their listings have to be right whatever they can ask of each other."""
+
+    weights = {"put": 30, "get": 3, "head": 2, "remove": 10, "upload": 5, "list": 50}
+
+    def run(self):
+        self.until = time.monotonic() + self.seconds
+        fails = threading.Thread(target=self.fail)
+        fails.start()
+        wrong = super().run()
+        fails.join()
+        return wrong
+
+    def fail(self):
+        while time.monotonic() < self.until:
+            for wire in self.wires:
+                wire.how = self.draw.choice(["up"] * 6 + ["slow"] * 4 + ["down", "stuck"])
+            time.sleep(self.draw.uniform(0.2, 2))
+
+    def told(self):
+        return f"{super().told()}, {sum(wire.count for wire in self.wires)} connections between them"
 
 
 class Conditional(Trial):
@@ -373,6 +411,20 @@ def tried(kind, settings, seconds, kills, count, seed, room):
             gateway.kill()
 
 
+def apart_over_a_stand_in(seconds, kills, seed=None):
+    """A trial of two gateways as on two machines; what is wrong, and what was done."""
+    with endpoint.stand_in() as room, contextlib.ExitStack() as stack:
+        machines = apart.machines(room, stack, ["1-4", "5-8"])
+        gateways = [endpoint.Gateway(machine.path, room, sessions) for sessions, machine in machines.items()]
+        try:
+            trial = Apart(gateways, seconds, kills, os.getpid() if seed is None else seed)
+            trial.wires = [machine.wire for machine in machines.values()]
+            return trial.run(), trial.told()
+        finally:
+            for gateway in gateways:
+                gateway.kill()
+
+
 def over_a_stand_in(kind, seconds, kills):
     """Trials of listings behind kills, until one is wrong; what was done."""
     for turn in range(10):
@@ -384,9 +436,11 @@ def over_a_stand_in(kind, seconds, kills):
 
 
 def main(words):
-    kind = {"--conditional": Conditional, "--indexed": Indexed, "--growing": Growing, "--lent": Lent}.get(words[0], Trial)
+    kind = {"--conditional": Conditional, "--indexed": Indexed, "--growing": Growing, "--lent": Lent, "--apart": Apart}.get(words[0], Trial)
     words = words[kind is not Trial :]
-    if kind in (Indexed, Growing, Lent) and len(words) == 2:
+    if kind is Apart:
+        wrong, told = apart_over_a_stand_in(float(words[0]), int(words[1]))
+    elif kind in (Indexed, Growing, Lent) and len(words) == 2:
         wrong, told = over_a_stand_in(kind, float(words[0]), int(words[1]))
     else:
         settings, seconds, kills, *count = words

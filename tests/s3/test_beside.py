@@ -145,7 +145,7 @@ class Asked(unittest.TestCase):
             def met():
                 connection = claim.accept()[0]
                 connection.setblocking(False)
-                tasks.add(loop.create_task(peers.tell(connection, key, "start", sessions, answer)))
+                tasks.add(loop.create_task(peers.tell(peers.by_socket(connection), key, "start", sessions, answer)))
 
             loop = asyncio.get_running_loop()
             loop.add_reader(claim, met)
@@ -159,7 +159,7 @@ class Asked(unittest.TestCase):
         return asyncio.run(both())
 
     def ask(self, key=KEY, session=1, count=4):
-        return lambda: peers.ask(self.name, key, session, lambda start: count if start == "start" else NEVER)
+        return lambda: peers.ask(peers.by_name(self.name), key, session, lambda start: count if start == "start" else NEVER)
 
     def test_who_is_answered(self):
         self.assertEqual(self.told(self.ask()), peers.Told("start", frozenset({1, 2}), 9, frozenset({5, 7})))
@@ -169,6 +169,14 @@ class Asked(unittest.TestCase):
         self.assertIsNone(self.told(self.ask(session=3)))  # (who has that session may have asked this one in place of whom he was asked himself)
         self.assertEqual(self.asked, [4, 4])
         self.assertIsNone(asyncio.run(self.ask()()))  # (nobody is there)
+
+    def test_a_session_that_comes_meanwhile(self):
+        """Is not told: its pages are not settled."""
+
+        found = [1, 2]
+        self.asked = types.SimpleNamespace(append=lambda _: found.append(3))
+        self.assertEqual(self.told(self.ask(), sessions=found), peers.Told("start", frozenset({1, 2}), 9, frozenset({5, 7})))
+        self.assertEqual(found, [1, 2, 3])
 
     def test_who_is_believed(self):
         """Not who has the name and not the key."""
@@ -207,10 +215,10 @@ class Asked(unittest.TestCase):
         self.assertEqual(self.told(idle), (True, True))
 
 
-def pool_of(told, looks, sessions=3):
-    """A pool with session 1, which is settled; others tell this by session."""
+def pool_of(told, looks, sessions=3, far=()):
+    """A pool with session 1, which is settled; others tell this by session, and these at addresses."""
     pool = Pool.__new__(Pool)
-    layout = types.SimpleNamespace(pages=4, levels=[types.SimpleNamespace(volume=0, volumes=4)], pages_in=lambda volume: range(volume, volume + 1), page=lambda _, page: (page, 0))
+    layout = types.SimpleNamespace(pages=4, levels=[types.SimpleNamespace(page_volumes=range(4))], pages_in=lambda volume: range(volume, volume + 1), page=lambda _, page: (page, 0))
     store = types.SimpleNamespace(settled={0, 1, 2, 3}, writer=types.SimpleNamespace(has_settled_all=lambda: True))
     pool.layout, pool.sessions, pool.looks, pool.looked, pool.known = layout, sessions, asyncio.Lock(), 0.0, (0, {})
     pool.workers = {1: types.SimpleNamespace(store=store, is_silent=False, is_lent=False, settled_when_lent=())}
@@ -226,12 +234,17 @@ def pool_of(told, looks, sessions=3):
     async def has_sessions():
         return True
 
-    async def ask(name, key, session, known):
+    async def ask_all(key, known):
+        pool.asked += [(0, known(start)) for start, *_ in far]
+        return [peers.Told(*each) for each in far]
+
+    async def ask(reach, key, session, known):
         start, *rest = told[session]
         pool.asked.append((session, known(start)))
         return peers.Told(start, *rest) if rest else None
 
     pool.lease, pool.run, pool.has_sessions, pool.asked = lease, run, has_sessions, []
+    pool.remote = types.SimpleNamespace(ask_all=ask_all)
     peers.ask = ask
     return pool
 
@@ -271,6 +284,22 @@ class Where(unittest.TestCase):
         pool.shared.index.beginnings = 1
         self.look(pool)
         self.assertEqual((pool.asked[-1], pool.known), ((2, NEVER), (1, {"a": 9})))
+
+    def test_gateways_at_addresses(self):
+        """All of these are asked, and by names those that have what they have not. One with the same sessions may have them still, or again."""
+        every, told, far = [0, 1, 2, 3], {3: ("c", frozenset({3}), 4, frozenset({3}))}, [("a", frozenset({2}), 7, frozenset({1})), ("b", frozenset({2}), 8, frozenset({2}))]
+        pool = self.pool(told, far=far)
+        pool.known = 0, {"a": 6}
+        self.assertEqual((self.look(pool), pool.asked, pool.known), ([1, 2, 3], [(0, 6), (0, NEVER), (3, NEVER)], (0, {"a": 7, "b": 8, "c": 4})))
+        far[1] = "b", frozenset({3}), 8, None
+        self.assertEqual((self.look(pool), pool.asked[3:]), (every, [(0, 7), (0, 8)]))
+        far[1] = "b", frozenset({3}), 8, frozenset()
+        self.assertEqual(self.look(pool), [1])
+        far.append((pool.shared.changes.start, frozenset({1}), 0, None))  # (its own address is among these)
+        self.assertEqual(self.look(pool), [1])
+        far[:2] = []
+        told[2] = ("d",)
+        self.assertEqual((self.look(pool), pool.known), (every, (0, {})))
 
     def test_a_look_that_fails(self):
         """What was told before it has to be looked at still."""
@@ -316,8 +345,11 @@ class Several(unittest.TestCase):
         self.room = self.rooms.enter_context(endpoint.stand_in(f"{folder}/plan", f"{folder}/grid"))
         self.one, self.other = (self.gateway(sessions) for sessions in ("1-4", "5-8"))
 
+    def settings(self, sessions):
+        return f"{self.room}/carol.ini"
+
     def gateway(self, sessions, **more):
-        found = endpoint.Gateway(f"{self.room}/carol.ini", self.room, sessions, **more)
+        found = endpoint.Gateway(self.settings(sessions), self.room, sessions, **more)
         self.rooms.callback(found.kill)
         return found
 

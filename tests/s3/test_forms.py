@@ -29,6 +29,7 @@ from gridfs_client.core import Known, Line, Page, Version
 from gridfs_client.buckets import Held
 from gridfs_client.errors import Damaged
 from gridfs_client.pages import check_words
+from gridfs_client.settings import Settings
 from gridfs_s3 import checksums, markup, setting_up, signing, tags
 from gridfs_s3.bodies import Body
 from gridfs_s3.bounds import IN_MEMORY, LONG, MOST_IN_MEMORY, Spool
@@ -535,7 +536,7 @@ class Sessions(Case):
         """So who asks for much has others wait for one of his requests only. Among equals it goes by turns."""
 
         async def scenario():
-            pool = Pool(None, Lending(), Turns())
+            pool = Pool(Settings({}), Lending(), Turns())
             pool.workers = {number: types.SimpleNamespace(number=number, is_busy=True, is_silent=False, who="ann") for number in (1, 2)}
             wanted = [Wanted(None, pool.loop.create_future(), who) for who in ("ann", "ann", "bob", "bob")]
             pool.waiting.extend(wanted)

@@ -2,6 +2,7 @@
 
 import asyncio
 import contextlib
+import io
 import os
 import pathlib
 import signal
@@ -28,7 +29,7 @@ from gridfs_s3 import sessions
 from gridfs_s3.notes import Begun, Notes
 from gridfs_s3.sessions import SURE_FOR, Pool
 from gridfs_s3.store import Store
-from gridfs_s3.workers import Worker
+from gridfs_s3.workers import Lending, Worker
 
 COUNT, SESSIONS = 40, 8
 pwrite, opened = os.pwrite, os.open
@@ -245,6 +246,10 @@ class Lent(unittest.TestCase):
                 self.assertEqual(listed(s3), wanted)
                 self.assertLess(self.writes(room), self.pages)
                 self.assertEqual(listed(s3), wanted)
+            # A sweep carries no page that is settled.
+            command(room, "sweep")
+            self.assertLess(self.writes(room), self.pages)
+            self.assertEqual(listed(s3), wanted)
             # Killed once it had the session, and had written nothing: none is.
             with self.command(HAS_ONE, room) as process:
                 self.assertEqual(process.stdout.readline(), b"it has one\n")
@@ -338,8 +343,8 @@ class Killed(unittest.TestCase):
         return Lent.writes(None, self.room)
 
     def kill_amid_puts(self, turn):
-        """Keys whose puts may have been done: others in each turn."""
-        s3, tried = [self.it.client() for _ in range(4)], []
+        """Keys whose puts may have been done, others in each turn; and those of them that got no answer."""
+        s3, tried, unanswered = [self.it.client() for _ in range(4)], [], set()
 
         def put(number):
             for each in range(50):
@@ -348,6 +353,7 @@ class Killed(unittest.TestCase):
                 try:
                     s3[number].put_object(Bucket="bucket", Key=key, Body=b"late")
                 except Exception:
+                    unanswered.add(key)
                     return
 
         threads = [threading.Thread(target=put, args=(number,)) for number in range(4)]
@@ -357,11 +363,11 @@ class Killed(unittest.TestCase):
         self.it.kill()
         for thread in threads:
             thread.join()
-        return tried
+        return tried, unanswered
 
     def test_amid_puts(self):
         for turn in range(2):
-            tried = self.kill_amid_puts(turn)
+            tried, unanswered = self.kill_amid_puts(turn)
             endpoint.counts(self.room)
             self.it.start()
             told = listed(self.it.client())
@@ -369,7 +375,8 @@ class Killed(unittest.TestCase):
             self.assertEqual({key: size for key, size in told.items() if key not in tried}, self.wanted)
             self.assertLessEqual(self.writes(), 6 * SESSIONS)
             s3 = self.it.client()
-            self.assertEqual(listed(s3), told)
+            before, told = told, listed(s3)  # (what was announced, and got no answer, may come as its page is settled, after the first listing)
+            self.assertEqual({key: size for key, size in told.items() if key in before or key not in unanswered}, before)
             for key in tried:
                 self.assertEqual(key in told, there(s3, key), key)
             self.wanted = told
@@ -499,36 +506,65 @@ class HowFar(unittest.TestCase):
 
             def began(last, end=End(2, 7, frozenset({(0, 9)}))):
                 write_end(path, end)
-                session = types.SimpleNamespace(home=2, last=last, noted=None)
+                session = types.SimpleNamespace(home=2, last=last, note=None)
                 return Note(path, session), session
 
             for last, is_noted in ((7, True), (8, True), (9, False), (6, False)):
                 note, session = began(last)
-                self.assertEqual((read_end(path), session.noted is not None), (End(2, last, frozenset({(0, 9)})) if is_noted else None, is_noted), last)
+                self.assertEqual((read_end(path), session.note is not None), (End(2, last, frozenset({(0, 9)})) if is_noted else None, is_noted), last)
+                note.close()
+            for settled in (0, 3):
+                note, session = began(8, End(2, 7, frozenset({(0, 9)}), settled))
+                session.note.begins(9, (5, 6))
+                self.assertEqual(read_end(path), End(2, 9, frozenset({(0, 9), (5, 6)}), settled))
+                self.assertEqual([note.unsettled(pages) for pages in (3, 6)], [{(0, 9), (5, 6)} if settled else None, None])  # (a later plan has more pages)
                 note.close()
             note, session = began(8)
             for number, place, written in ((9, None, {(0, 9)}), (10, (5, 6), {(0, 9), (5, 6)}), (10, (5, 6), {(0, 9), (5, 6)}), (11, (4, 1), {(0, 9), (5, 6), (4, 1)})):
-                session.noted(number, place)
+                session.note.begins(number, place)
                 self.assertEqual(read_end(path), End(2, number, frozenset(written)))
             self.assertTrue(read_end(path).covers(2, 12) and not read_end(path).covers(2, 13) and not read_end(path).covers(66, 11))
             note.close()
-            self.assertEqual((read_end(path).last, session.noted), (11, None))
+            self.assertEqual((read_end(path).last, session.note), (11, None))
             for number, home, count in ((10, 2, 0), (9, 66, 0), (9, 2, 4_096)):  # (the home was started again, another stands in its place, or the note is full)
                 note, session = began(8, End(2, 7, frozenset((0, each) for each in range(count))))
                 session.home = home
-                session.noted(number, (7, 7))
-                self.assertEqual((read_end(path), session.noted), (None, None))
+                session.note.begins(number, (7, 7))
+                self.assertEqual((read_end(path), session.note), (None, None))
             with mock.patch.object(os, "open", lambda path, flags, *mode: opened(path, flags, *mode) if flags & os.O_CREAT else opened("/nowhere", flags)):
                 note, session = began(8)
-            self.assertEqual((read_end(path), session.noted), (None, None))
+            self.assertEqual((read_end(path), session.note), (None, None))
             note, session = began(8)
             with mock.patch.object(os, "pwrite", side_effect=OSError):  # (a disk that is full)
-                session.noted(9, (7, 7))
-            self.assertEqual((read_end(path), session.noted), (None, None))
+                session.note.begins(9, (7, 7))
+            self.assertEqual((read_end(path), session.note), (None, None))
             note, session = began(8)
             with mock.patch.object(os, "pwrite", lambda out, words, at: pwrite(out, words[:1], at)):
-                session.noted(9, (7, 7))
-            self.assertEqual((read_end(path), session.noted), (None, None))
+                session.note.begins(9, (7, 7))
+            self.assertEqual((read_end(path), session.note), (None, None))
+
+    def test_what_is_noted_of_a_session_that_is_lent(self):
+        """Whether all its pages are settled."""
+        for carried in ({0: Tag(5, 1), 1: Tag(6, 1)}, {0: Tag(5, 1)}):
+            with tempfile.TemporaryDirectory() as folder:
+                path = pathlib.Path(folder) / "carol-1.end"
+                pool = Pool.__new__(Pool)
+                pool.settings = types.SimpleNamespace(end_path=lambda _: path, is_wanted=lambda _: True)
+                pool.shared = types.SimpleNamespace(index=types.SimpleNamespace(beginnings=0))
+                pool.lending, pool.unswept, pool.lends, pool.renew = Lending(), set(), {1}, lambda _: None
+                worker = Worker(types.SimpleNamespace(number=1, home=2, last=8), io.BytesIO())
+                worker.store = types.SimpleNamespace(writer=types.SimpleNamespace(carried=carried, has_settled_all=lambda: len(carried) == 2))
+
+                async def leased(_):
+                    return worker
+
+                async def lent():
+                    pool.lease = leased
+                    with contextlib.suppress(asyncio.TimeoutError):
+                        await asyncio.wait_for(pool.lend(worker), 0.3)
+
+                asyncio.run(lent())
+                self.assertEqual(read_end(path), End(2, 8, settled=2 if len(carried) == 2 else 0))
 
     def test_what_a_note_leaves(self):
         """Of a session that is lent, once its home told how far it came: the note is read after that."""
@@ -558,8 +594,11 @@ class HowFar(unittest.TestCase):
             write_end(path, End(2, 8))
             last, note, pool.shared.index.beginnings = 8, End(2, 8), 1  # (the index was begun anew, and has them no more)
             self.assertEqual(pool.settled_in_note(worker), ())
-            worker.settled_when_lent, pool.shared.index.beginnings = (), 0  # (it is had again)
-            self.assertEqual(pool.settled_in_note(worker), ())
+            pool.shared.index.beginnings, settled = 0, {1: Tag(6, 1)}
+            worker.store = types.SimpleNamespace(settled={}, writer=types.SimpleNamespace(has_settled_all=lambda: False))
+            worker.store.has_back = lambda *_: (self.assertTrue(worker.settled_when_lent), vars(worker.store).update(settled=settled))
+            pool.have_back(worker, settled)
+            self.assertEqual((worker.settled_when_lent, pool.settled_in_note(worker), path.exists()), ((), settled, False))
 
     def test_notes(self):
         """What is noted of a session, and is believed where its home tells that number, or the one before."""

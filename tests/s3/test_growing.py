@@ -4,11 +4,14 @@ import asyncio
 import os
 import random
 import signal
+import subprocess
 import sys
 import tempfile
 import time
 import types
 import unittest
+from dataclasses import replace
+from unittest import mock
 
 HERE = os.path.dirname(os.path.abspath(__file__))
 sys.path[:0] = [HERE, os.path.join(HERE, "..", "names")]
@@ -16,17 +19,23 @@ import code_of_s3  # noqa: F401  (which says where the code is)
 import endpoint
 from bodies_in_memory import Body
 from histories import Killed
-from memory import Memory
+from memory import Memory, MemorySession
 from test_steps import client, content_of, put
 
-from gridfs_client import BadSettings, Layout, splits
+from gridfs_client import BadSettings, Layout, Unanswered, splits
 from gridfs_client.answers import Tag
 from gridfs_client.contents import Inline
 from gridfs_client.core import Known, Line, Page
+from gridfs_client.fleet import ground_of
+from gridfs_client.fleet_map import SLICES, new_map
 from gridfs_client.pages import parse_page
+from gridfs_client.settings import Settings
+from gridfs_s3 import sessions
 from gridfs_s3.index import Index
 from gridfs_s3.sessions import Pool
 from gridfs_s3.shared import Shared
+from gridfs_s3.store import Store
+from gridfs_s3.trips import Trip
 
 NAMES = [f"bucket/{number}" for number in range(12)]
 SESSIONS = 3
@@ -241,6 +250,7 @@ class Steps(unittest.TestCase):
             memory.client(3).grow()
             stores[0].look_at(memory.layout.all_pages_volumes)
             while left := stores[0].shared.index.to_split(memory.layout):
+                self.assertTrue(all(left.values()))
                 for page, sessions in left.items():
                     for store in stores:
                         if store.me in sessions:
@@ -254,9 +264,29 @@ class Steps(unittest.TestCase):
                 memory.counts.clear()
                 put(store, NAMES[0], b"y")
                 self.assertEqual(dict(memory.counts), {"list": 1, "write": 2})
+            self.assertEqual(stores[0].shared.index.not_signed, set())  # (so what is left is found without a look at all that have split)
             for page in range(memory.layout.levels[-1].first):
+                self.assertEqual(stores[0].shared.index.whole(page), {1, 2, 3})
                 for session in (1, 2, 3):
                     self.assertEqual(parse_page(memory.read(memory.layout.page(session, page)).content, "").lines, ())
+
+    def test_requests(self):
+        """A page that nobody has begun to split is split by a look at it and one at each part, and what has to be written; then nothing is unsettled, as before."""
+        memory, shared = Memory(sessions=2, pages=1, page_blocks=64, slots=24, levels=(3,)), Shared()
+        stores = [client(memory, number, shared=shared) for number in (1, 2)]
+        for store in stores:
+            for page in memory.layout.page_numbers:
+                store.settle(page)
+            for name in NAMES:
+                put(store, name, b"x")
+        for store in stores:
+            store.settle(0)
+            memory.counts.clear()
+            store.split(0)
+            parts = len({memory.layout.page_of(name, 1) for name in NAMES})
+            self.assertEqual(dict(memory.counts), {"list": 1 + parts, "write": 4 + 2 * parts})
+            self.assertTrue(store.writer.has_settled_all())
+        self.assertEqual({row.name for row in shared.index.names("")}, set(NAMES))
 
     def test_settled(self):
         """Once all pages are settled nothing of an earlier client comes into one, wherever that died as it split or put: listings need no look then."""
@@ -326,6 +356,23 @@ class Steps(unittest.TestCase):
         self.assertTrue(one.writer.has_settled_all())
 
 
+    def test_a_full_page_over_grids(self):
+        """The page splits at the last grid of the way, to which a move has not come, and the trip goes on by its parts."""
+        fleet_map = replace(new_map("east", "-"), grids={"east": "-", "west": "-"}).begun(0, SLICES - 1, "west")
+        memories, stores = {}, {}
+        for grid in fleet_map.grids:
+            memories[grid], shared = Memory(sessions=2, page_blocks=16, slots=2, levels=(4,)), Shared()
+            stores[grid] = Store(MemorySession(memories[grid], 1), memories[grid].layout, shared, ground_of(fleet_map, grid))
+            shared.swept, shared.may_grow = dict.fromkeys(memories[grid].layout.page_numbers, float("inf")), True
+        store = stores["east"]
+        for number in range(40):
+            store.trip = Trip(fleet_map, stores)
+            store.put_object(f"bucket/{number}", Body(b"x" * 20), lambda: {"m": "x"})
+        page = parse_page(memories["east"].read(memories["east"].layout.page(1, 0)).content, "")
+        self.assertTrue(splits.is_split(page, 1))
+        self.assertEqual([entry.name for entry in Trip(fleet_map, stores).names()], sorted(f"bucket/{number}" for number in range(40)))
+
+
 class Looks(unittest.TestCase):
     def test_levels_one_after_another(self):
         """For a listing the new pages are looked at once all old ones were, of those that have split as was seen by then."""
@@ -357,6 +404,95 @@ class Looks(unittest.TestCase):
         new = [volume for volume in second if any(pool.layout.before(page) == 0 for page in pool.layout.pages_in(volume))]
         self.assertEqual(told, [first, "ended", new, "ended"])
         self.assertFalse(set(third) & set(new))
+
+
+class Paces(unittest.TestCase):
+    """By which sessions a page splits, and when."""
+
+    sleep = staticmethod(asyncio.sleep)
+
+    def pool(self, numbers=(1, 2, 3, 4, 5, 6), split=lambda number: None):
+        pool, self.done, self.at_once, self.rests = Pool.__new__(Pool), [], [], []
+        pool.workers = {number: types.SimpleNamespace(number=number, is_lent=False, is_silent=False) for number in numbers}
+        pool.tried_to_split, pool.asked, pool.grid = {}, time.monotonic(), ""
+        under_way = set()
+
+        async def lease(number):
+            return pool.workers[number]
+
+        async def run(worker, work, is_soon):
+            under_way.add(worker.number)
+            self.at_once.append(len(under_way))
+            await sleep(0.01)
+            under_way.discard(worker.number)
+            return work(types.SimpleNamespace(split=lambda page: self.done.append((worker.number, page)) or split(worker.number)))
+
+        sleep = self.sleep
+        self.enterContext(mock.patch.object(sessions.asyncio, "sleep", lambda seconds: self.rests.append(seconds) or sleep(0)))
+        self.enterContext(mock.patch.object(sessions.time, "thread_time", iter(range(1_000)).__next__))
+        pool.lease, pool.run = lease, run
+        return pool
+
+    def test_some_at_a_time(self):
+        """Requests find a session; and who asks has as much of the processor, but nobody waits for one who is not there."""
+        for numbers, most in (((1, 2, 3, 4, 5, 6), 2), ((1, 2, 3), 1), ((1,), 1)):
+            pool = self.pool(numbers)
+            asyncio.run(pool.split(7, set(range(1, 9))))
+            self.assertEqual((self.done, max(self.at_once), self.rests), ([(number, 7) for number in numbers], most, [len(numbers)]))
+            pool.asked -= sessions.ASKS_FOR
+            asyncio.run(pool.split(8, {1}))
+            self.assertEqual(self.rests, [len(numbers), 0])
+
+    def test_those_that_can_not(self):
+        """Sessions that are lent, or silent, or have it split already are passed over; of one that fails it is tried again later, and told."""
+
+        def fails(number):
+            if number == 2:
+                raise Unanswered("none")
+
+        pool = self.pool(split=fails)
+        pool.workers[1].is_lent = pool.workers[3].is_silent = True
+        with mock.patch.object(sessions, "tell") as told:
+            asyncio.run(pool.split(7, {1, 2, 3, 4}))
+            asyncio.run(pool.split(7, {1, 2, 3}))
+        self.assertEqual((self.done, told.call_count), ([(2, 7), (4, 7)], 1))
+        pool.tried_to_split[2, 7] -= sessions.TIDY
+        asyncio.run(pool.split(7, {2}))
+        self.assertEqual(self.done[2:], [(2, 7)])
+
+    def test_one_that_is_lent_meanwhile(self):
+        """Nobody waits for long until it comes back."""
+        pool = self.pool()
+
+        async def lease(number):
+            if number == 1:
+                await asyncio.Event().wait()
+            return pool.workers[number]
+
+        pool.lease = lease
+        with mock.patch.object(sessions, "tell"), mock.patch.object(sessions, "SPLIT_LEASE", 0.05):
+            asyncio.run(asyncio.wait_for(pool.split(7, {1, 2}), 10))
+        self.assertEqual(self.done, [(2, 7)])
+
+    def test_as_long_as_it_is_wanted(self):
+        """All pages of all levels but the last split; no more once nobody waits, and then others may have the sessions."""
+        pool = self.pool((1, 2))
+        pool.layout, pool.wants_plan = Memory(sessions=2, pages=2, levels=(2, 2)).layout, asyncio.Event()
+        pool.shared = types.SimpleNamespace(index=types.SimpleNamespace(whole=lambda page: {2} if page == 1 else set()))
+        for wanted, last in ((True, 6), (False, 1)):
+            locks = {number: mock.Mock() for number in (1, 2)}
+            every, pool.growing, self.done[:] = list(locks.values()), locks, []
+            pages = []
+
+            async def split(page, whose, pages=pages, wanted=wanted):
+                pages.append((page, set(whose)))
+                if not wanted:
+                    pool.growing = None
+
+            pool.split = split
+            asyncio.run(pool.grow(locks))
+            self.assertEqual(pages, [(page, {1} if page == 1 else {1, 2}) for page in range(last)])
+            self.assertEqual(([lock.close.call_count for lock in every], locks), ([1, 1], {}))
 
 
 def truth_by(memory, number):
@@ -408,6 +544,47 @@ class Running(unittest.TestCase):
                 self.wait(is_quiet, found)
                 self.wait(is_quick, found)
                 self.assertNotIn("Traceback", found.told())
+
+    def test_grow(self):
+        """A command waits while gateways have their pages split, and finds them split. Until then one that has all sessions keeps these, and its listings ask nobody."""
+        for gateways in (("all",), ("1-2", "3-4")):
+            with tempfile.TemporaryDirectory() as room:
+                plan, folder = os.path.join(room, "plan"), os.path.join(room, "grid")
+                with open(plan, "w") as out:
+                    out.write("\n".join([*SMALL[:4], "carol open 64 64 times 4", "carol open 64 1024", GROWS[0], "carol open 64 64 times 16", GROWS[2], ""]))
+                with endpoint.stand_in(plan, folder), endpoint.gateways(folder, *gateways) as found:
+                    self.grow_before([each.client() for each in found], folder, found)
+
+    def grow_before(self, clients, folder, gateways):
+        s3, keys = clients[0], [f"{number:03}" for number in range(60)]
+        settings = Settings.gather({"config": f"{folder}/carol.ini", "locks": f"{folder}/locks"}, {})
+        s3.create_bucket(Bucket="one")
+        for key in keys:
+            s3.put_object(Bucket="one", Key=key, Body=b"x" * int(key))
+        self.wait(lambda: self.requests(s3, folder) == 0, gateways[0])
+        words = [sys.executable, "-B", os.path.join(code_of_s3.CLIENT, "gridfs-client"), "--config", f"{folder}/carol.ini", "--locks", f"{folder}/locks", "grow", "--json"]
+        with subprocess.Popen(words, stdout=subprocess.PIPE) as command:
+            self.wait(lambda: endpoint.counts(folder).get("write", 0), gateways[0])
+            asked, until = [], time.monotonic() + 90
+            while any(map(settings.is_growing, range(1, 5))) and time.monotonic() < until:
+                asked.append(self.requests(clients[len(asked) % len(clients)], folder, ("list", "read")))
+            told = command.communicate()[0]
+        self.assertEqual(told, b'{"pages": 0, "lines": 0, "absent": []}\n')
+        self.assertGreater(len(asked), 2)
+        if len(clients) == 1:  # (a volume is listed where a look is late, on a machine that does much else; and beside the last listing the command has begun)
+            self.assertLess(sum(asked[:-1]), len(asked))
+        for client in clients:
+            for key in keys:
+                self.assertEqual(client.get_object(Bucket="one", Key=key)["Body"].read(), b"x" * int(key))
+            self.assertEqual([each["Key"] for each in client.list_objects_v2(Bucket="one")["Contents"]], keys)
+        self.wait(lambda: self.requests(s3, folder) == 0, gateways[0])
+
+    def requests(self, s3, folder, kinds=("look", "list", "read")):
+        """How many a listing makes, and what goes on beside it."""
+        endpoint.counts(folder)
+        self.assertEqual(s3.list_objects_v2(Bucket="one")["KeyCount"], 60)
+        counts = endpoint.counts(folder)
+        return sum(counts.get(kind, 0) for kind in kinds)
 
     def wait(self, is_so, gateway):
         until = time.monotonic() + 90

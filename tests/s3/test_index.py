@@ -269,7 +269,7 @@ class FewTests(unittest.TestCase):
 
 def pool_of(settled, looks):
     """A pool whose sessions have settled these pages, each with what a look does."""
-    layout = types.SimpleNamespace(levels=[types.SimpleNamespace(volume=0, volumes=len(looks))], pages=len(looks), pages_in=lambda volume: range(volume, volume + 1), page=lambda _, page: (page, 0))
+    layout = types.SimpleNamespace(levels=[types.SimpleNamespace(page_volumes=range(len(looks)))], pages=len(looks), pages_in=lambda volume: range(volume, volume + 1), page=lambda _, page: (page, 0))
     pool = Pool.__new__(Pool)
     pool.layout, pool.sessions, pool.looks, pool.looked = layout, len(settled), asyncio.Lock(), 0.0
     pool.known, pool.secret, pool.shared = (0, {}), None, types.SimpleNamespace(index=types.SimpleNamespace(beginnings=0, open=set(), is_begun=lambda *_: True))

@@ -13,9 +13,10 @@ from unittest import mock
 
 sys.path.insert(0, os.path.dirname(os.path.abspath(__file__)))
 import endpoint
-from gridfs_client import Unanswered
-from gridfs_client.opening import turn_of
-from gridfs_s3 import gateway
+from gridfs_client import CarrierFault, Pace, SessionTaken, Unanswered
+from gridfs_client.opening import SOON, turn_of
+from gridfs_s3 import gateway, sessions
+from gridfs_s3.sessions import Pool
 
 SPOILT = """
 import sys
@@ -184,6 +185,77 @@ class Lasting(unittest.TestCase):
 
         self.assertIn("fallen", self.watched([], [falls()]))
         self.assertIsNone(self.watched([], [lasts()]))
+
+
+class Silent(unittest.TestCase):
+    def test_homes_of_others(self):
+        """Where one home is silent those of idle sessions are asked, each once and for a short time; it is left out until it answers, or all are where the carrier has ended."""
+        pace, faults = Pace(timeout=20), [None, Unanswered("none"), SessionTaken("taken"), CarrierFault("ended")]
+        done = {fault: self.asked(pace, fault) for fault in faults}
+        for fault, wanted in zip(faults, (["released"], ["left out", "released"], ["left out", "released"], ["ended", "released"])):
+            self.assertEqual(done[fault], ["asked 0 0", SOON, *wanted, pace], fault)
+
+    def asked(self, pace, fault):
+        """What is done with a worker whose home tells this fault, or answers; the pace of its session at the end."""
+        done, pool = [], Pool.__new__(Pool)
+
+        def read(*place):
+            done.extend((f"asked {place[0]} {place[1]}", worker.session.pace.timeout))
+            if fault:
+                raise fault
+
+        worker = types.SimpleNamespace(session=types.SimpleNamespace(pace=pace, read=read))
+        pool.probe, pool.reopen, pool.release = (lambda _, word=word: done.append(word) for word in ("left out", "ended", "released"))
+
+        async def work():
+            pool.loop, pool.threads = asyncio.get_running_loop(), None
+            await pool.ask_whether_silent(worker)
+
+        asyncio.run(work())
+        return [*done, worker.session.pace]
+
+
+class Collected(unittest.TestCase):
+    def test_once_all_is_settled(self):
+        """Collections of what nobody holds don't go through what is known of pages by then: while they do, nobody else has a turn."""
+        pool, done = Pool.__new__(Pool), []
+        pool.sessions, pool.goes_on, pool.workers = 1, None, {1: None}
+
+        async def tidy_session(_):
+            await asyncio.sleep(0)
+            done.append("settled")
+
+        pool.tidy_session = tidy_session
+        words = {word: mock.patch.object(sessions.gc, word, lambda word=word: done.append(word)) for word in ("collect", "freeze")}
+        with words["collect"], words["freeze"], self.assertRaises(TimeoutError):
+            asyncio.run(asyncio.wait_for(pool.tidy(), 0.1))
+        self.assertEqual(done, ["settled", "collect", "freeze"])
+
+
+class LentMeanwhile(unittest.TestCase):
+    def test_nobody_waits_for_it(self):
+        """Who looks whether sessions are there, or settles a page, waits for none that is given to a command right then."""
+        for work, others in ((lambda pool: pool.has_sessions(), True), (lambda pool: pool.settle(0), None)):
+            self.assertEqual(asyncio.run(asyncio.wait_for(self.lent_amid(work), 10)), (others, [2]))
+
+    async def lent_amid(self, work):
+        """What comes of it, and by which sessions, while the first one is lent before it is waited for."""
+        pool, done = Pool.__new__(Pool), []
+        pool.asking_all, pool.sure_until, pool.has_settled = asyncio.Lock(), 0.0, lambda *_: False
+        session = types.SimpleNamespace(expect_own=lambda: None)
+        pool.workers = {number: types.SimpleNamespace(number=number, is_lent=False, is_silent=False, session=session) for number in (1, 2)}
+
+        async def lease(number):
+            if pool.workers[number].is_lent:
+                await asyncio.Event().wait()
+            return pool.workers[number]
+
+        async def run(worker, *_, **__):
+            done.append(worker.number)
+
+        pool.lease, pool.run = lease, run
+        asyncio.get_running_loop().call_soon(lambda: vars(pool.workers[1]).update(is_lent=True))
+        return await work(pool), done
 
 
 if __name__ == "__main__":

@@ -26,13 +26,13 @@ from .local import INPUT, complain, content_of, cut, go_to, json_of, out, out_li
 from .memory import keep_for_chunks
 from .mirror import GRID, Removal, ToFolder, ToGrid, prefix_of, shown
 from .names import Entry, Grown, NamedFiles, place_to_cut
-from .open_grids import OpenGrids, one_by_one
+from .open_grids import OpenGrids, of_before, one_by_one
 from .opening import LEAST, OpenSessions, turn_of
 from .renewing import Renewed
 from .renewing import renew as renewed
 from .sessions import Session
 from .settings import SETTINGS, Settings, default_file
-from .skimming import Skimmed
+from .side_by_side import line_of_sortable, skimmed
 from .status import nodes_lines, nodes_value, usage_lines, usage_value
 from .usage import Usage, usage_of
 
@@ -148,9 +148,9 @@ class Opened:
     def turn_of(self, name: str) -> int:
         return turn_of(name, len(self.sessions.numbers))
 
-    def one_by_one(self) -> Iterator[tuple[str, NamedFiles | None]]:
-        """The names by one session after another; None for one that can't be had."""
-        return ((str(number), names) for number, names in one_by_one(self.settings, self.told, self.carrier, self.progress))
+    def one_by_one(self, grows: bool = False) -> Iterator[tuple[str, NamedFiles | None]]:
+        """The names by one session after another, perhaps for who has pages split; None for one that can't be had."""
+        return ((str(number), names) for number, names in one_by_one(self.settings, self.told, self.carrier, self.progress, grows=grows))
 
     @contextmanager
     def names_for(self, name: str) -> Iterator[NamedFiles]:
@@ -193,21 +193,14 @@ class OpenedFleet:
         grids = map(self.grids.grid, self.grids.map.grids)
         return next(filter(None, (of_before(grid.carrier, grid.told, seconds) for grid in grids)), [])
 
-    def one_by_one(self) -> Iterator[tuple[str, NamedFiles | None]]:
-        return self.grids.one_by_one()
+    def one_by_one(self, grows: bool = False) -> Iterator[tuple[str, NamedFiles | None]]:
+        return self.grids.one_by_one(grows)
 
     def turn_of(self, name: str) -> int:
         return self.grids.turn_of(name)
 
     def names_for(self, name: str) -> AbstractContextManager[FleetFiles]:
         return self.grids.files_for(name)
-
-
-def of_before(carrier: Carrier, plan: PlanTold, seconds: float) -> list[int]:
-    nodes = ask_all(carrier, seconds, None)
-    told = carrier.volumes
-    standing = [] if nodes is None else [node for place in range(nodes.told.nodes) if (node := nodes.told.node_at(place)) not in nodes.silent]
-    return [node for node in standing if told.get(node, 0) < max([len(plan.volumes), *told.values()])]
 
 
 def number_of(word: str) -> int:
@@ -320,18 +313,8 @@ def ls(opened: Opened | OpenedFleet, args: argparse.Namespace) -> None:
     elif args.json:
         out(json_of([told_of(entry) for entry in opened.by_sessions(lambda names: names.names(args.prefix))]).encode() + b"\n")
     else:
-        found = opened.by_sessions(lambda names: names.skimmed(sortable, args.prefix))
+        found = opened.by_sessions(partial(skimmed, settings=opened.settings, sessions=opened.sessions, prefix=args.prefix))
         out_lines(line_of_sortable(each) for each in sorted(found))
-
-
-def sortable(found: Skimmed) -> str:
-    """What is told of a name, in one text: many of these take less memory than as many entries. (No name has a letter of number 0, so they are in the names' order.)"""
-    return f"{found.name}\0{found.size:>12}  {found.version}.{found.session}  "
-
-
-def line_of_sortable(text: str) -> str:
-    name, _, told = text.rpartition("\0")
-    return told + name
 
 
 def ls_over_grids(opened: OpenedFleet, args: argparse.Namespace) -> None:
@@ -410,7 +393,7 @@ def grow(opened: Opened | OpenedFleet, args: argparse.Namespace) -> None:
     if before := opened.of_before(SILENCE):
         raise BadSettings(f"{'nodes' if len(before) > 1 else 'node'} {listed(before)} told an earlier plan: start all nodes with the last one, and then begin anew")
     told, absent = Grown(), []
-    for session, names in opened.one_by_one():
+    for session, names in opened.one_by_one(grows=True):
         if names is None:
             absent.append(session)
         elif isinstance(opened, Opened) or len(names.layout.levels) > 1:

@@ -1,7 +1,9 @@
 """How far a session came, and what was written by it: a note beside its lock, where a gateway lends its sessions. Each command that has the session keeps it, and says there of each
 operation that it begins before it asks for that. So whoever has the session next knows which files are other ones, also where the command was killed.
 
-    3 1204 0.9 17.9        its home is node 3, the last operation that was begun has this number; these files (volume, file) are other ones, or may be
+    3 1204 settled=127 0.9 17.9        its home is node 3, the last operation that was begun has this number; these files (volume, file) are other ones, or may be
+
+`settled` is there where nothing of earlier clients was under way into any page of the session when it was lent, of so many: so only into these files something may come.
 
 The note is believed only where the session's home tells that number still, or the next one: whoever has a session without a note, as an older client, begins by an
 operation that reads. So nobody has written since. No note outlives who lent the session, so none is synced.
@@ -10,12 +12,12 @@ operation that reads. So nobody has written since. No note outlives who lent the
 import os
 import re
 from contextlib import suppress
-from dataclasses import dataclass
+from dataclasses import dataclass, replace
 from pathlib import Path
 
 from .sessions import Session
 
-FORM = re.compile(r"([0-9]{1,9}) ([0-9]{1,10})((?: [0-9]{1,9}\.[0-9]{1,9})*)\n", re.ASCII)
+FORM = re.compile(r"([0-9]{1,9}) ([0-9]{1,10})(?: settled=([0-9]{1,9}))?((?: [0-9]{1,9}\.[0-9]{1,9})*)\n", re.ASCII)
 MOST = 4_096  # files of which a note tells
 LETTERS = 10  # of a number that is kept, so that it is written over in its place
 
@@ -25,6 +27,7 @@ class End:
     home: int
     last: int
     written: frozenset[tuple[int, int]] = frozenset()
+    settled: int = 0  # pages of the session, all of which were
 
     def is_of(self, session: Session) -> bool:
         """Whether nobody had a session since, which has just begun: its beginning takes one number. (A line that the home never had took none.)"""
@@ -39,15 +42,15 @@ class End:
         return home == self.home and last <= self.last + 1
 
     def text(self) -> str:
-        return " ".join([str(self.home), f"{self.last:0{LETTERS}}", *(f"{volume}.{file}" for volume, file in sorted(self.written))]) + "\n"
+        return " ".join([str(self.home), f"{self.last:0{LETTERS}}", *[f"settled={self.settled}"] * bool(self.settled), *(f"{volume}.{file}" for volume, file in sorted(self.written))]) + "\n"
 
 
 def parse_end(text: str) -> End | None:
     found = FORM.fullmatch(text)
     if not found:
         return None
-    places = (word.split(".") for word in found[3].split())
-    return End(int(found[1]), int(found[2]), frozenset((int(volume), int(file)) for volume, file in places))
+    places = (word.split(".") for word in found[4].split())
+    return End(int(found[1]), int(found[2]), frozenset((int(volume), int(file)) for volume, file in places), int(found[3] or 0))
 
 
 def read_end(path: Path) -> End | None:
@@ -76,7 +79,7 @@ class Note:
         if end is None or session.last is None or not end.is_of(session):
             write_end(path, None)
             return
-        self.end = End(session.home, session.last, end.written)
+        self.end = replace(end, last=session.last)
         if write_end(path, self.end):
             try:
                 self.out = os.open(path, os.O_RDWR)
@@ -85,7 +88,7 @@ class Note:
                     raise
             else:
                 self.size = len(self.end.text())
-                session.noted = self.begins
+                session.note = self
 
     def begins(self, number: int, written: tuple[int, int] | None) -> None:
         """An operation of this number is asked for next, which writes this file, or none. An OSError where neither that can be noted, nor that there is no note."""
@@ -95,13 +98,17 @@ class Note:
         if self.session.home != end.home or number not in (end.last, end.last + 1) or is_new and len(end.written) >= MOST:
             self.drop()
             return
-        self.end = End(end.home, number, end.written | {written} if written and is_new else end.written)
+        self.end = replace(end, last=number, written=end.written | {written} if written and is_new else end.written)
         try:
             if written and is_new:
                 self.add(f" {written[0]}.{written[1]}\n".encode("ascii"))
             os.pwrite(self.out, f"{number:0{LETTERS}}".encode("ascii"), len(f"{end.home} "))
         except OSError:
             self.drop()
+
+    def unsettled(self, pages: int) -> frozenset[tuple[int, int]] | None:
+        """The files into which something of an earlier client of the session may come, which has so many pages; None where these may be any."""
+        return self.end.written if self.end.settled == pages else None
 
     def add(self, words: bytes) -> None:
         """In the place of the line's end. (A part of it is no note.)"""
@@ -116,7 +123,7 @@ class Note:
 
     def close(self) -> None:
         """It stays as it is."""
-        self.session.noted = None
+        self.session.note = None
         if self.out >= 0:
             os.close(self.out)
             self.out = -1

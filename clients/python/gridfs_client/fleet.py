@@ -223,13 +223,16 @@ class FleetFiles:
         self.grid(walk.last.grid).commit(self.bucket(walk.last.grid, name), name, None)
 
     def with_room(self, name: str, line: Callable[[Bucket], Line], with_own: bool) -> Walk:
-        """A walk for a change, at whose last grid there is room for a line, if that can be made."""
+        """A walk for a change, at whose last grid there is room for a line, if that can be made: where it is for a content its page may split."""
         for _ in range(TRIES):
             walk = self.walk_for_change(name, with_own)
-            bucket = self.bucket(walk.last.grid, name)
-            self.grid(walk.last.grid).make_room(bucket, line(bucket))
-            if self.is_as_walked(walk):
+            files, bucket = self.grid(walk.last.grid), self.bucket(walk.last.grid, name)
+            files.make_room(bucket, line(bucket))
+            if not self.is_as_walked(walk):
+                continue
+            if line(bucket).content is None or not files.wants_parts(bucket, line(bucket)):
                 break
+            files.writer.split(bucket)
         return walk
 
     def names(self, prefix: str = "") -> list[Listed]:

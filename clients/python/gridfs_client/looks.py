@@ -11,6 +11,7 @@ from collections.abc import Callable, Collection, Mapping, Sequence
 from dataclasses import dataclass, field
 from functools import lru_cache
 from operator import attrgetter
+from typing import cast
 from weakref import WeakKeyDictionary
 
 from .answers import Answer, LookTold, Row, row_of
@@ -23,7 +24,6 @@ LACKS = "-"  # what a node tells of a file that it has not got yet
 PATIENCE = 0.5  # seconds for which the answers of a row and a column are waited for
 SHORT = 0.1  # seconds that others get besides as many as these took
 MOST_WORDS = 8_192  # of files, whose meaning is remembered
-MOST_TOLD = 1_024  # volumes of which is remembered what all nodes of a column told alike
 TAG = attrgetter("tag")
 AGAIN = 1.0  # seconds after which a node that did not tell which lines it knows is asked again
 
@@ -51,16 +51,6 @@ def settled(words: Mapping[int, str], shape: Shape) -> Row | None:
     greatest = [max([rows[place] for place in row], key=TAG) for row in every if row <= rows.keys()]
     found = [row for row in greatest if least and row.tag <= max(least)]
     return max(found, key=TAG) if found else None
-
-
-@lru_cache(MOST_TOLD)
-def settled_alike(columns: tuple[tuple[str, ...], ...]) -> tuple[Row | None, ...]:
-    """All files of a volume, by what the nodes of each column told of them, all of one column the same: the greatest of these is a read of the file."""
-    found = []
-    for words in zip(*columns):
-        rows = [row for word in words if (row := row_in(word))]
-        found.append(max(rows, key=TAG) if len(rows) == len(words) else None)
-    return tuple(found)
 
 
 @dataclass
@@ -158,14 +148,15 @@ class Look:
             self.settle_each() if len(self.told) == self.shape.nodes else self.settle_some()
 
     def settle_alike(self) -> None:
-        """Settles all files at once where the nodes of each column tell the same, as they mostly do while no write is under way; or all that told."""
+        """Settles files where the nodes of each column tell the same of all, as they mostly do while no write is under way; or all that told. The greatest of what the columns tell is a read."""
         columns = [[self.told[place].words for place in column if place in self.told] for column in lines_of(self.shape)[0]]
         if len(self.told) < self.shape.nodes:
             columns = [[words for column in columns for words in column]]
         if all(words == told[0] for told in columns for words in told):
-            for file, row in enumerate(settled_alike(tuple(told[0] for told in columns))):
-                if row and file in self.left:
-                    self.rows[file] = row
+            for file in list(self.left):
+                rows = [row_in(told[0][file]) for told in columns]
+                if all(rows):
+                    self.rows[file] = max(cast(list[Row], rows), key=TAG)
                     self.left.discard(file)
 
     def settle_some(self) -> None:

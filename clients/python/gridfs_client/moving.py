@@ -269,6 +269,9 @@ class Mover:
             assert journal
             if length_of_lines(journal.lines) + length_of_signposts(journal) > bucket.level.lines_room:
                 target.unplace(bucket, content)
+                if target.writer.has_parts(bucket) and target.may_grow():
+                    target.writer.split(bucket)
+                    continue
                 raise NoRoom(f"{name}: page {bucket.number} of session {target.me} of {self.move.target} has no room for a copy")
             target.writer.change(bucket, journal)
             self.copied += 1

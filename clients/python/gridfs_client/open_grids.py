@@ -6,7 +6,7 @@ from contextlib import ExitStack, closing, contextmanager
 from typing import IO
 
 from .answers import MOST_SESSIONS, PlanTold
-from .asking import SILENCE, ask_all, ask_plan
+from .asking import LAST_CALL, SILENCE, ask_all, ask_plan
 from .carriers import Carrier
 from .errors import BadSettings, CarrierFault, ClientError, NoSuchName, SessionTaken, Unanswered
 from .fleet import MAP_NAME, FleetFiles, ground_of, in_threads
@@ -17,8 +17,10 @@ from .local import complain
 from .names import NamedFiles, Progress
 from .opening import AGAIN, OpenSessions, turn_of
 from .sessions import Session
-from .settings import Settings
+from .settings import GROWTH, Settings
 from .ways import Ground, slice_of
+
+SEEN = 0.5  # seconds until a gateway has seen that somebody waits
 
 
 class OpenGrid:
@@ -38,7 +40,13 @@ class OpenGrid:
     def files(self, progress: Progress | None, ground: Ground, sessions: OpenSessions | None = None) -> NamedFiles:
         """The files by these sessions, or by those that the command has."""
         sessions = sessions or self.sessions
-        return NamedFiles(sessions.first(), self.layout, progress, sessions.helpers, others=sessions.others, ground=ground)
+        files = NamedFiles(sessions.first(), self.layout, progress, sessions.helpers, others=sessions.others, ground=ground)
+        files.may_grow = self.may_grow
+        return files
+
+    def may_grow(self) -> bool:
+        """Whether all nodes that answer have the pages that are known here."""
+        return not of_before(self.carrier, self.told, LAST_CALL)
 
     def sessions_for(self, name: str) -> OpenSessions:
         """Sessions of its own, that on which the name depends first."""
@@ -58,8 +66,9 @@ class OpenGrid:
             raise SessionTaken(f"the settings name other sessions than {listed(numbers)} of {self.settings.tenant}")
         number, lock = self.lock(wanted)
         try:
-            session = Session(self.carrier, number, self.told.home_of(number), self.settings.pace())
-            yield NamedFiles(session, self.layout, ground=ground)
+            files = NamedFiles(Session(self.carrier, number, self.told.home_of(number), self.settings.pace()), self.layout, ground=ground)
+            files.may_grow = self.may_grow
+            yield files
         finally:
             lock.close()
 
@@ -84,17 +93,34 @@ class OpenGrid:
         self.carrier.close()
 
 
-def one_by_one(settings: Settings, told: PlanTold, carrier: Carrier, progress: Progress | None, ground: Ground | None = None) -> Iterator[tuple[int, NamedFiles | None]]:
-    """The files by one session after another, so that others can be used meanwhile; None for one whose home is silent, or that others keep."""
-    for number in settings.session_numbers(told.sessions):
-        with closing(OpenSessions(settings.of_session(number), carrier.told or told, carrier, begun=carrier.now())) as sessions:
-            try:
-                files = NamedFiles(sessions.first(), layout_of(told), progress, ground=ground)
-            except (SessionTaken, Unanswered):
-                yield number, None
-                continue
-            yield number, files
-            files.close()
+def of_before(carrier: Carrier, plan: PlanTold, seconds: float) -> list[int]:
+    """The nodes that answer, and have not told the plan that others did. (One that is silent so long has to begin with the last one.)"""
+    nodes = ask_all(carrier, seconds, None)
+    told = carrier.volumes
+    standing = [] if nodes is None else [node for place in range(nodes.told.nodes) if (node := nodes.told.node_at(place)) not in nodes.silent]
+    return [node for node in standing if told.get(node, 0) < max([len(plan.volumes), *told.values()])]
+
+
+def one_by_one(
+    settings: Settings, told: PlanTold, carrier: Carrier, progress: Progress | None, ground: Ground | None = None, grows: bool = False
+) -> Iterator[tuple[int, NamedFiles | None]]:
+    """The files by one session after another, so that others can be used meanwhile; None for one whose home is silent, or that others keep. For who has pages split (`grows`) a gateway has
+    those of its sessions split before, by itself."""
+    with ExitStack() as waits:
+        if grows and len(layout_of(told).levels) > 1:
+            waits.enter_context(settings.want(GROWTH))
+            time.sleep(SEEN)
+        for number in settings.session_numbers(told.sessions):
+            while grows and settings.is_growing(number):
+                time.sleep(AGAIN)
+            with closing(OpenSessions(settings.of_session(number), carrier.told or told, carrier, begun=carrier.now())) as sessions:
+                try:
+                    files = NamedFiles(sessions.first(), layout_of(told), progress, ground=ground)
+                except (SessionTaken, Unanswered):
+                    yield number, None
+                    continue
+                yield number, files
+                files.close()
 
 
 @contextmanager
@@ -120,12 +146,12 @@ class OpenGrids:
                 self.open[grid] = OpenGrid(self.settings.of_grid(self.map.path, grid, self.map.grids[grid]), self.name)
         return self.open[grid]
 
-    def one_by_one(self) -> Iterator[tuple[str, NamedFiles | None]]:
+    def one_by_one(self, grows: bool = False) -> Iterator[tuple[str, NamedFiles | None]]:
         """The files of one grid after another, by one session after another, as `one_by_one` has them."""
         for name in self.map.grids:
             grid = self.grid(name)
             with faults_of(name):
-                for number, files in one_by_one(grid.settings, grid.told, grid.carrier, self.progress, ground_of(self.map, name)):
+                for number, files in one_by_one(grid.settings, grid.told, grid.carrier, self.progress, ground_of(self.map, name), grows):
                     yield f"{number} of {name}", files
 
     def layout(self, grid: str) -> Layout:

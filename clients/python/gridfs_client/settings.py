@@ -20,6 +20,7 @@ from .sessions import Pace
 
 SECTION = "gridfs"
 HOSTS, AUTHORITY = "/etc/gridfs/hosts", "/etc/gridfs/ca.crt"  # of links, where none are named
+GROWTH = 0  # in place of a session: who has a tenant's pages split waits for it
 SILENT_FOR = 60.0  # seconds for which commands go to others first, once a node was silent
 
 
@@ -48,6 +49,10 @@ SETTINGS: dict[str, Setting] = {
     "timeout": Setting("30", "SECONDS", "how long an answer is waited for, from the beginning of the command or from the last one"),
     "locks": Setting(None, "FOLDER", "where commands tell each other the sessions they use (~/.cache/gridfs): one for all users of a tenant"),
     "grid": Setting(None, "ROWSxCOLUMNS", "how the nodes are arranged, as 2x3: nodes of before do not tell it"),
+}
+OF_GATEWAYS = {
+    "peers-listen": Setting(None, "ADDRESS:PORT", "of a gateway of S3: where those of the tenant on other machines ask it what it changed"),
+    "peers": Setting(None, "ADDRESS:PORT..", "where these are asked"),
 }
 NAME = re.compile(r"(?!server\Z)[a-z]{1,16}\Z")
 
@@ -103,7 +108,7 @@ def read_section(path: Path, section: str, may_go_on: Sequence[str]) -> dict[str
 def read_file(path: Path) -> dict[str, str]:
     """The settings of a file; a FileNotFoundError where there is none, BadSettings where it has no form, or something that is not known here."""
     found = read_section(path, SECTION, ["via"])
-    if unknown := found.keys() - SETTINGS.keys():
+    if unknown := found.keys() - SETTINGS.keys() - OF_GATEWAYS.keys():
         raise BadSettings(f"{path}: there is no setting {sorted(unknown)[0]}")
     return found
 
@@ -140,7 +145,7 @@ class Settings:
         except FileNotFoundError:
             if named:
                 raise BadSettings(f"{named}: no such file") from None
-        for key in SETTINGS:
+        for key in SETTINGS | OF_GATEWAYS:
             given = options.get(key) or environment.get("GRIDFS_" + key.upper().replace("-", "_"))
             if given:
                 values[key] = given
@@ -260,6 +265,16 @@ class Settings:
     def is_wanted(self, number: int) -> bool:
         """Whether another command on this machine waits for the session."""
         if found := self.locked(number, "wanted", fcntl.LOCK_EX | fcntl.LOCK_NB):
+            found.close()
+        return found is None
+
+    def grows(self, number: int) -> IO[str] | None:
+        """An open file as long as which a gateway of this machine has the session's pages split, since a command waits for `GROWTH`; None where one does."""
+        return self.locked(number, "grows", fcntl.LOCK_EX | fcntl.LOCK_NB)
+
+    def is_growing(self, number: int) -> bool:
+        """Whether a gateway does so now."""
+        if found := self.grows(number):
             found.close()
         return found is None
 

@@ -1,4 +1,4 @@
-"""Pages skimmed, for listings of many names: of each name the line that counts, and of that line only what is told of it.
+"""Pages skimmed, for listings of many names, and sweeps: of each name the line that counts, and of that line only what is told of it.
 
 Most lines have one of few short forms, which are read by one expression; any other line is read as ever (pages.py). Where pages have to be looked at again, or are none,
 nothing is told: then a bucket looks at them (buckets.py).
@@ -8,8 +8,8 @@ Of pages that have split it is told what they say of each part of their names, w
 
 import re
 from collections import defaultdict
-from collections.abc import Mapping
-from typing import NamedTuple
+from collections.abc import Callable, Iterator, Mapping
+from typing import NamedTuple, TypeVar
 
 from .answers import Row, Tag
 from .buckets import Held
@@ -19,6 +19,7 @@ from .pages import FIRST_WORDS, HEAD, parse_line, signpost_text
 from .sessions import Files
 from .splits import signpost_to
 
+Told = TypeVar("Told")
 NEVER = Tag(0, 0)  # of a file that was never written
 SURE = r"(?:0|[1-9][0-9]{0,5})"  # no slot that nobody has, and so no line that is damaged by it
 SIZE = r"[1-9][0-9]{0,18}"
@@ -59,9 +60,9 @@ class Parts:
         return {session: head + self.lines.get((page, session), b"") for session, head in self.heads.items()}
 
 
-def skim(session: Files, layout: Layout, page: int, rows: tuple[Row | None, ...], before: Mapping[int, bytes] = {}) -> list[Skimmed] | Parts | None:
-    """What the names of a bucket hold, by a look at its volume that was begun before; None where a bucket has to look. Where its names went on to more pages, what it says of each of these.
-    `before` is what that was told of this one."""
+def skim(session: Files, layout: Layout, page: int, rows: tuple[Row | None, ...], before: Mapping[int, bytes], told_in: Callable[[Mapping[int, bytes]], Told | None]) -> Told | Parts | None:
+    """What is told in the pages of a bucket, by a look at its volume that was begun before; None where a bucket has to look. Where its names went on to more pages, what it says of each of
+    these. `before` is what that was told of this one."""
     contents = dict(before)
     for each in range(1, layout.sessions + 1):
         volume, file = layout.page(each, page)
@@ -71,7 +72,7 @@ def skim(session: Files, layout: Layout, page: int, rows: tuple[Row | None, ...]
             if row and copy.tag < row.tag:
                 return None
             contents[each] = copy.content or contents.get(each, b"")
-    return parts_in(contents, layout, page) or counting(contents)
+    return parts_in(contents, layout, page) or told_in(contents)
 
 
 def parts_in(contents: Mapping[int, bytes], layout: Layout, page: int) -> Parts | None:
@@ -98,15 +99,10 @@ def counting(contents: Mapping[int, bytes]) -> list[Skimmed] | None:
         for session, content in contents.items():
             if not content:
                 continue
-            head, *lines, rest = content.decode().split("\n")
-            if rest or not HEAD.fullmatch(head):
-                return None
+            head, lines = lines_in(content, session)
             numbers[session], *after = map(int, head[len(FIRST_WORDS) :].split(" "))
             asks += enumerate(after, 1)
-            for text in lines:
-                line = line_in(text, session)
-                if line is None:
-                    return None
+            for line in lines:
                 before = found.get(line.name)
                 if before is None or before < line:
                     found[line.name] = line
@@ -115,6 +111,28 @@ def counting(contents: Mapping[int, bytes]) -> list[Skimmed] | None:
     if any(numbers.get(session, 0) < number for session, number in asks):
         return None
     return [line for line in found.values() if line.content != "-"]
+
+
+def removals_in(contents: Mapping[int, bytes]) -> int | None:
+    """How many removals these pages show; None where one is of a form that is not told here."""
+    try:
+        return sum(line.content == "-" for content in contents.values() if content for line in lines_in(content, 0)[1])
+    except ValueError:
+        return None
+
+
+def lines_in(content: bytes, session: int) -> tuple[str, Iterator[Skimmed]]:
+    """The first line of a session's page, and what the others say. A ValueError for what has no form, or is of several grids."""
+    head, *lines, rest = content.decode().split("\n")
+    if rest or not HEAD.fullmatch(head):
+        raise ValueError(head)
+    return head, (expected(line_in(text, session)) for text in lines)
+
+
+def expected(line: Skimmed | None) -> Skimmed:
+    if line is None:
+        raise ValueError
+    return line
 
 
 def line_in(text: str, session: int) -> Skimmed | None:

@@ -1,7 +1,6 @@
 """What the one client of a session writes: its journals, its pages and its chunks."""
 
 import time
-
 from collections.abc import Callable, Collection, Iterable, Iterator
 from itertools import chain
 
@@ -14,6 +13,7 @@ from .in_chunks import ChunkContents, Gone, contents_of
 from .layout import Layout
 from .pages import length_of_lines, length_of_signposts
 from .sessions import Files
+from .skimming import NEVER
 
 
 class Writer:
@@ -32,6 +32,10 @@ class Writer:
         if page not in self.buckets:
             self.buckets[page] = self.new_bucket(page)
         return self.buckets[page]
+
+    def keep_few(self) -> None:
+        """Forgets what pages said, as far as nothing has to be known of them any more."""
+        self.buckets = {page: bucket for page, bucket in self.buckets.items() if page in self.gone}
 
     def new_bucket(self, page: int) -> Bucket:
         return Bucket(self.session, self.layout, page, self.ground, self.bucket_before(page))
@@ -135,10 +139,21 @@ class Writer:
         return length_of_lines(journal.lines) + length_of_signposts(journal) <= room
 
     def carry_all(self) -> None:
-        """Sees that this client has carried all pages of the session, without lines that can go: so nothing that an earlier one left comes into them. A request
-        for each page, and four where it hasn't carried it yet."""
-        for bucket in self.all_buckets():
-            self.tidy(bucket, anew=True)
+        """Sees that nothing that an earlier client left comes into a page of the session: where that is not noted of it, it is carried, without lines that can go. A request
+        for each such page, and four where this client hasn't carried it yet."""
+        done = set[int]()
+        while left := set(self.unsettled()) - done:  # (a note that has no room for more ends meanwhile)
+            for bucket in self.all_buckets(sorted(left)):
+                self.tidy(bucket, anew=True)
+            done |= left
+
+    def unsettled(self) -> Collection[int]:
+        """The pages of the first level that are to be carried, or of which parts are."""
+        note = getattr(self.session, "note", None)
+        files = note.unsettled(len(self.layout.page_numbers)) if note else None
+        if files is None:
+            return range(self.layout.pages)
+        return {self.layout.first_before(page) for place in files if (page := self.layout.page_at(*place)) is not None}
 
     def sweep_chunks(self) -> tuple[int, set[int]]:
         """Has nodes forget the chunks that no page of the session names, all of which were just carried: how many there were, and the places of nodes that did
@@ -151,11 +166,20 @@ class Writer:
             raise Damaged(f"session {self.me}: a list that a page names is gone") from None
 
     def journals(self) -> Iterable[Page]:
-        return (bucket.journal for bucket in self.all_buckets(is_known=True))
+        """What the session's journals say, once all pages are carried; of those that were settled before what the pages say, old ones first, from which lines go to others."""
+        first = self.unsettled()
+        yield from (bucket.journal for bucket in self.all_buckets(first, is_known=True))
+        for volume in self.layout.all_pages_volumes if len(first) < self.layout.pages else ():
+            rows = self.session.look(volume)
+            for page in self.layout.pages_in(volume):
+                place = self.layout.page(self.me, page)
+                row = rows[place[1]]
+                if self.layout.first_before(page) not in first and (row is None or row.tag != NEVER):
+                    yield self.new_bucket(page).read(place).page
 
-    def all_buckets(self, is_known: bool = False) -> Iterator[Bucket]:
-        """The buckets of all names: those of the next level in place of such as have split. Whether they have it is looked at, unless that `is_known`."""
-        return chain.from_iterable(self.parts_of(self.bucket(page), is_known) for page in range(self.layout.pages))
+    def all_buckets(self, first: Collection[int] | None = None, is_known: bool = False) -> Iterator[Bucket]:
+        """The buckets of all names, or of those of these first pages: those of the next level in place of such as have split. Whether they have it is looked at, unless that `is_known`."""
+        return chain.from_iterable(self.parts_of(self.bucket(page), is_known) for page in (range(self.layout.pages) if first is None else first))
 
     def parts_of(self, bucket: Bucket, is_known: bool) -> Iterator[Bucket]:
         level = bucket.level_number + 1
@@ -173,13 +197,15 @@ class Writer:
         """Has the page of the session split, where it hasn't wholly: its lines go to pages of the next level. How many these are."""
         bucket.look(own=True)
         level, lines = bucket.level_number + 1, bucket.journal.lines
+        is_first = not splits.is_split(bucket.journal, level)  # so nobody wrote a page of the session at the next level, nor a journal
+        if not splits.is_split(bucket.client.seen[self.me - 1].page, level):
+            bucket.carry_for_later(splits.signed(bucket.journal, level))
         for page in sorted({self.layout.page_of(line.name, level) for line in lines}):
             part = self.bucket(page)
+            part.begin_with(bucket, is_first)
             part.look(is_fresh=True)
             if not part.is_in_place():
                 self.change(part, part.changed(None))
-        if not splits.is_split(bucket.client.seen[self.me - 1].page, level):
-            bucket.carry_for_later(splits.signed(bucket.journal, level))
         if lines:
             bucket.carry_for_later(splits.cleared(bucket.journal))
         return len(lines)

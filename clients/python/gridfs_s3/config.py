@@ -12,6 +12,9 @@ key with `read` changes nothing, one with buckets sees these alone. A file with 
 again. --config, and the environment, are as those of gridfs-client. The gateway takes each session that the settings name and no other client here
 uses, for as long as it runs. SIGTERM ends it once what is under way has ended.
 
+Gateways of the tenant on several machines tell one another what they changed, where their settings name them: `peers-listen = ADDRESS:PORT`, where
+this one is asked, and `peers = ADDRESS:PORT ..`, where the others are. They show the tenant's certificate.
+
 The status is 1 where it can't start, 2 where the words are no request.
 """
 WANTED = {"aiohttp": "python3-aiohttp", "crcmod": "python3-crcmod", "botocore": "python3-botocore", "prometheus_client": "python3-prometheus-client"}

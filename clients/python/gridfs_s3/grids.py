@@ -7,12 +7,12 @@ from dataclasses import dataclass, field
 from typing import TypeVar
 
 from aiohttp import web
-from gridfs_client.errors import ClientError, Unanswered
+from gridfs_client.errors import BadSettings, ClientError, Unanswered
 from gridfs_client.fleet import looked_at
 from gridfs_client.fleet_map import FleetMap, read_map
 from gridfs_client.listing import Looked
 from gridfs_client.opening import turn_of
-from gridfs_client.settings import Settings
+from gridfs_client.settings import OF_GATEWAYS, Settings
 from gridfs_client.ways import Ground, Stop, slice_of
 
 from .errors import S3Error
@@ -83,6 +83,8 @@ class Grids:
         self.settings, self.turns, self.gathering, self.lending = settings, Turns(), asyncio.Lock(), Lending()
         self.map = read_map(settings.values["map"]) if "map" in settings.values else None
         self.pools: dict[str, Pool] = {}
+        if self.map and (named := sorted(OF_GATEWAYS.keys() & settings.values.keys())):
+            raise BadSettings(f"{named[0]}: over several grids gateways don't tell one another what they changed")
         if not self.map:
             self.pools[""] = Pool(settings, self.lending, self.turns, index=index)
 

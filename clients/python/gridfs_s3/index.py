@@ -187,6 +187,7 @@ class Index:
         self.layout: Layout | None = None  # once it is known; without one all pages are of one level
         self.split: dict[int, set[int]] = {}  # pages that have split, and whose
         self.not_cleared: set[tuple[int, int]] = set()  # those of them, each with its session, that have lines still
+        self.not_signed: set[int] = set()  # those that may not have split of all sessions
         self.is_kept, self.beginnings = path is not None, 0  # how often it was begun anew
         if path is None:
             handle, name = tempfile.mkstemp(prefix="gridfs-s3-index-")
@@ -236,6 +237,7 @@ class Index:
         self.asks.clear()
         self.split.clear()
         self.not_cleared.clear()
+        self.not_signed.clear()
         for place, number, session, length, head in base.execute("select place, number, session, length(text), substr(text, 1, 500) from pages"):
             self.tags[place // 64, place % 64] = Tag(number, session)
             self.note(place // 64, place % 64, *head_in(head), TO_A_LEVEL in head, length > len(head) or bool(LINES.search(head)))
@@ -249,12 +251,18 @@ class Index:
     def note(self, page: int, session: int, number: int, after: tuple[int, ...], is_split: bool, has_lines: bool) -> None:
         self.numbers[page, session] = number
         if is_split:
-            self.split.setdefault(page, set()).add(session)
+            self.note_split(page, session)
             self.not_cleared.add((page, session)) if has_lines else self.not_cleared.discard((page, session))
         if after:
             self.asks[page, session] = after
         else:
             self.asks.pop((page, session), None)
+
+    def note_split(self, page: int, session: int) -> None:
+        whose = self.split.setdefault(page, set())
+        if session not in whose:
+            whose.add(session)
+            self.not_signed.add(page)
 
     def is_closed(self, page: int) -> bool:
         """Whether each page of a bucket is there with the number that the others ask for."""
@@ -285,6 +293,7 @@ class Index:
         self.open.clear()
         self.split.clear()
         self.not_cleared.clear()
+        self.not_signed.clear()
         self.recent_bytes = 0
 
     def go_on_in_memory(self, why: sqlite3.Error) -> None:
@@ -365,7 +374,7 @@ class Index:
             self.tags[page, session] = known.tag
             self.note(page, session, known.page.number, known.page.after, has_split(known.page), bool(known.page.signposts and known.page.lines))
             if self.layout and (first := self.layout.before(page)) is not None:
-                self.split.setdefault(first, set()).add(session)  # (else nobody had written this one)
+                self.note_split(first, session)  # (else nobody had written this one)
             self.leads.update(leads_of(known.page))
             self.note_open(page)
             self.is_recent(page, session, known, len(text))
@@ -477,10 +486,16 @@ class Index:
         """Pages to split wholly that have begun to, and of which sessions."""
         every = set(range(1, layout.sessions + 1))
         with self.guard:
-            found = {page: every - whose for page, whose in self.split.items() if len(whose) < len(every) and page < layout.levels[-1].first}
+            self.not_signed -= {page for page in self.not_signed if self.split[page] >= every}
+            found = {page: every - self.split[page] for page in self.not_signed if page < layout.levels[-1].first}
             for page, session in self.not_cleared:
                 found.setdefault(page, set()).add(session)
         return found
+
+    def whole(self, page: int) -> set[int]:
+        """The sessions whose page has split wholly."""
+        with self.guard:
+            return {session for session in self.split.get(page, ()) if (page, session) not in self.not_cleared}
 
     def shown(self, page: int, session: int) -> Mapping[str, Line]:
         """The lines of which rows stand here for a bucket: of the page itself, or of one before."""

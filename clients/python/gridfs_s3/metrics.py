@@ -19,6 +19,7 @@ expired = Counter("gridfs_s3_expired", "Objects and uploads that went by the lif
 chunks = Gauge("gridfs_s3_chunk_bytes", "Bytes of chunks at all columns, as nodes told them some seconds ago", ["tenant", "state", "grid"], registry=registry)
 pages = Gauge("gridfs_s3_fullest_page_ratio", "How full the fullest page is that is known: at 1 a put is refused", ["tenant", "grid"], registry=registry)
 sessions = Gauge("gridfs_s3_sessions", "Sessions: all, busy, or with a home that is silent", ["tenant", "state", "grid"], registry=registry)
+others = Gauge("gridfs_s3_peers", "Gateways of the tenant that are asked at addresses: all, or those that told nothing when they were asked last", ["tenant", "state", "grid"], registry=registry)
 waiting = Gauge("gridfs_s3_waiting", "Requests that wait for a session", ["tenant", "grid"], registry=registry)
 
 
@@ -39,5 +40,7 @@ def text(tenant: str, grids: Grids) -> bytes:
         sessions.labels(tenant, "silent", grid).set(sum(worker.is_silent for worker in workers))
         sessions.labels(tenant, "lent", grid).set(sum(worker.is_lent for worker in workers))
         sessions.labels(tenant, "all", grid).set(len(workers))
+        others.labels(tenant, "silent", grid).set(len(pool.remote.silent))
+        others.labels(tenant, "all", grid).set(len(pool.remote.others))
         waiting.labels(tenant, grid).set(len(pool.waiting))
     return generate_latest(registry)

@@ -1,9 +1,9 @@
-"""What gateways of one tenant on one machine tell one another: which pages they changed. So a listing looks at these alone (docs/S3.md, *Several gateways*).
+"""What gateways of one tenant tell one another: which pages they changed. So a listing looks at these alone (docs/S3.md, *What gateways tell one another*).
 
-A gateway has a name of this machine for each of its sessions (claims.py). Who connects to it is told a line `START CHALLENGE`: a random word of the gateway's start, and one of this
-connection. He asks
+A gateway has a name of this machine for each of its sessions (claims.py), and perhaps an address for those on others (remote.py). Who connects to it is told a line `START CHALLENGE`: a random word of the
+gateway's start, and one of this connection. He asks, as often as he likes for a while
 
-    NONCE SESSION COUNT MAC                what changed since that count, or all (-1); of which session he thinks that this gateway has it
+    NONCE SESSION COUNT MAC                what changed since that count, or all (-1); of which session he thinks that this gateway has it, or of none (0)
     {"sessions": .., "count": .., "pages": ..}      and behind it a line with the MAC: the gateway's sessions, its count, and the pages; null where it can't tell them
 
 A MAC is by a key that all gateways of the tenant have, since they have the tenant's access keys, and other tenants' have not. It is over START, CHALLENGE and all that was said.
@@ -18,14 +18,19 @@ import socket
 import threading
 from collections import OrderedDict
 from collections.abc import Awaitable, Callable, Collection, Container, Iterable
-from contextlib import suppress
+from contextlib import closing, suppress
 from dataclasses import dataclass
+from functools import partial
 
 MOST = 4_096  # pages of which is remembered that they changed
-PATIENCE = 1.0  # seconds for an answer of this machine
+PATIENCE = 1.0  # seconds for an answer
+LASTS = 60.0  # seconds for which who was answered may ask again by the same connection: then keys and certificates count as they are
 MOST_ASKING = 16  # connections at a time
 LONGEST = 1 << 17  # bytes of a line
-NEVER = -1
+NEVER, ANY = -1, 0
+FAULTS = OSError, ValueError, TypeError, KeyError, TimeoutError
+Streams = tuple[asyncio.StreamReader, asyncio.StreamWriter]
+Reach = Callable[[], Awaitable[Streams]]  # has a connection; an OSError where there is none
 
 
 class AllBut(Container[int]):
@@ -100,42 +105,80 @@ async def line_of(reader: asyncio.StreamReader) -> str:
     return line[:-1].decode("ascii")
 
 
-async def ask(name: str, key: bytes, session: int, known: Callable[[str], int]) -> Told | None:
-    """What the gateway with this name tells of what changed since the count that is known of its start; None where there is none, or it tells nothing in time."""
-    with suppress(OSError, ValueError, TypeError, KeyError, TimeoutError):
+def by_name(name: str) -> Reach:
+    """The gateway that has this name of the machine."""
+    return partial(asyncio.open_unix_connection, name, limit=LONGEST)
+
+
+def by_socket(connection: socket.socket) -> Reach:
+    """Who has connected on this machine."""
+    return partial(asyncio.open_connection, sock=connection, limit=LONGEST)
+
+
+class Line:
+    """A connection to a gateway, on which it is asked one thing after another."""
+
+    def __init__(self, streams: Streams, head: str):
+        (self.reader, self.writer), self.head = streams, head
+
+    async def ask(self, key: bytes, session: int, known: Callable[[str], int]) -> Told:
+        """What it tells of what changed since the count that is known of its start. Of FAULTS, where it tells nothing: then the connection is closed."""
+        try:
+            start, _ = self.head.split(" ")
+            question = f"{secrets.token_hex(16)} {session} {known(start)}"
+            self.writer.write(f"{question} {mac(key, 'asks', self.head, question)}\n".encode())
+            answer = await line_of(self.reader)
+            if not hmac.compare_digest(await line_of(self.reader), mac(key, "tells", self.head, question, answer)):
+                raise ValueError("another key")
+            told = json.loads(answer)
+            pages = told["pages"]
+            return Told(start, frozenset(map(int, told["sessions"])), int(told["count"]), None if pages is None else frozenset(map(int, pages)))
+        except BaseException:
+            self.close()
+            raise
+
+    def close(self) -> None:
+        self.writer.transport.abort()
+
+
+async def line_to(reach: Reach) -> Line:
+    reader, writer = await reach()
+    try:
+        return Line((reader, writer), await line_of(reader))
+    except BaseException:
+        writer.transport.abort()
+        raise
+
+
+async def ask(reach: Reach, key: bytes, session: int, known: Callable[[str], int]) -> Told | None:
+    """The same of the gateway that is reached so; None where there is none, or it tells nothing in time."""
+    with suppress(*FAULTS):
         async with asyncio.timeout(PATIENCE):
-            reader, writer = await asyncio.open_unix_connection(name, limit=LONGEST)
-            try:
-                head = await line_of(reader)
-                start, _ = head.split(" ")
-                question = f"{secrets.token_hex(16)} {session} {known(start)}"
-                writer.write(f"{question} {mac(key, 'asks', head, question)}\n".encode())
-                answer = await line_of(reader)
-                if not hmac.compare_digest(await line_of(reader), mac(key, "tells", head, question, answer)):
-                    return None
-                told = json.loads(answer)
-                pages = told["pages"]
-                return Told(start, frozenset(map(int, told["sessions"])), int(told["count"]), None if pages is None else frozenset(map(int, pages)))
-            finally:
-                writer.close()
+            with closing(await line_to(reach)) as line:
+                return await line.ask(key, session, known)
     return None
 
 
-async def tell(connection: socket.socket, key: bytes, start: str, sessions: Collection[int], answer: Callable[[int], Awaitable[tuple[int, Collection[int] | None]]]) -> None:
-    """Answers who has connected, as one of the tenant's gateways; any other one is told nothing."""
+async def tell(reach: Reach, key: bytes, start: str, sessions: Collection[int], answer: Callable[[int], Awaitable[tuple[int, Collection[int] | None]]]) -> None:
+    """Answers who is reached so, as one of the tenant's gateways, and may ask again for a while; any other one is told nothing."""
+    loop, head = asyncio.get_running_loop(), f"{start} {secrets.token_hex(16)}"
     with suppress(OSError, ValueError, TimeoutError):
-        reader, writer = await asyncio.open_connection(sock=connection, limit=LONGEST)
-        try:
-            async with asyncio.timeout(PATIENCE):
-                head = f"{start} {secrets.token_hex(16)}"
+        async with asyncio.timeout(PATIENCE) as until:
+            reader, writer = await reach()
+            try:
                 writer.write(f"{head}\n".encode())
-                question, _, told = (await line_of(reader)).rpartition(" ")
-                _, session, count = question.split(" ")
-                if not hmac.compare_digest(told, mac(key, "asks", head, question)) or int(session) not in sessions:
-                    return
-                now, pages = await answer(int(count))
-                text = json.dumps({"sessions": sorted(sessions), "count": now, "pages": None if pages is None else sorted(pages)})
-                writer.write(f"{text}\n{mac(key, 'tells', head, question, text)}\n".encode())
-                await writer.drain()
-        finally:
-            writer.close()
+                end = loop.time() + LASTS
+                while loop.time() < end:
+                    question, _, told = (await line_of(reader)).rpartition(" ")
+                    until.reschedule(loop.time() + PATIENCE)
+                    _, session, count = question.split(" ")
+                    if not hmac.compare_digest(told, mac(key, "asks", head, question)) or int(session) not in (ANY, *sessions):
+                        return
+                    had = sorted(sessions)  # (first: one that comes meanwhile is not settled)
+                    now, pages = await answer(int(count))
+                    text = json.dumps({"sessions": had, "count": now, "pages": None if pages is None else sorted(pages)})
+                    writer.write(f"{text}\n{mac(key, 'tells', head, question, text)}\n".encode())
+                    await writer.drain()
+                    until.reschedule(end)
+            finally:
+                writer.close()

@@ -1,6 +1,7 @@
 """The sessions of a tenant at one grid, which this gateway has for itself, and who works by which."""
 
 import asyncio
+import gc
 import secrets
 import socket
 import time
@@ -11,7 +12,7 @@ from contextlib import suppress
 from dataclasses import replace
 from functools import partial
 from itertools import islice
-from typing import Any, TypeVar
+from typing import IO, Any, TypeVar
 
 from gridfs_client.answers import NO_SESSION, PlanTold, Tag
 from gridfs_client.asking import ask_plan
@@ -24,16 +25,17 @@ from gridfs_client.in_chunks import ChunkContents, Gone, why_none
 from gridfs_client.layout import Layout, layout_of
 from gridfs_client.names import NamedFiles
 from gridfs_client.opening import SOON
-from gridfs_client.settings import Settings
+from gridfs_client.settings import GROWTH, Settings
 from gridfs_client.ways import Ground, slice_of
 
 from . import peers
-from .claims import Claims
+from .claims import Claims, answer
 from .errors import error_of, tell
 from .index import Index
 from .looker import Looker
 from .notes import Begun, Notes
-from .peers import MOST_ASKING, AllBut, Pages
+from .peers import MOST_ASKING, NEVER, AllBut, Pages, Reach
+from .remote import Remote
 from .shared import Shared, Turns
 from .store import Store
 from .sweeping import NotWhole, begin
@@ -45,6 +47,8 @@ TIDY = 30.0  # seconds
 TRIES = 60  # of settling a page by a session whose home is silent
 LOOK = 0.1  # seconds between looks at what other commands want
 PLAN_AGAIN, ANSWERS = 10.0, 2.0  # seconds after which all nodes are asked whether the plan has grown, and for which their answers are waited for
+SPLIT_AT_ONCE, SPLIT_LEASE = 2, 5.0  # sessions by which a page splits at the same time; seconds for which one is waited for
+ASKS_FOR = 1.0  # seconds for which somebody who asks is taken to ask for more
 SURE_FOR = 2.0  # seconds for which sessions that were this gateway's are taken to be
 SOME, TURNS = 16, 3  # volumes that a session looks at, before others have their turn; and how often it is tried
 WORD_OF_GRID = ".s3/index"  # a name, with what the index of this grid says of it
@@ -52,6 +56,7 @@ SWEEP_AGAIN, SWEEP_IN_WANT = 3_600.0, 60.0  # seconds after which chunks that no
 ROOM_FOR = 10.0  # seconds for which who finds none waits for that
 REST = 0.02  # seconds after which it is looked again whether somebody waits
 END = object()
+Meets = Callable[[socket.socket], Reach]
 RETRY = 1.0  # seconds until a session whose home is silent, or a carrier that has ended, is tried again
 
 
@@ -78,8 +83,9 @@ class Pool:
         self.lends: set[int] = set()  # numbers of sessions that are lent, or are to be
         self.lasting: list[asyncio.Task[None]] = []  # what goes on as long as the gateway does
         self.claims = Claims(settings, lambda claim, answer: self.loop.call_soon_threadsafe(self.loop.add_reader, claim, answer), self.meet)
+        self.remote = Remote({} if ground else settings.values)  # gateways of the tenant on other machines (over several grids nobody is asked)
         self.secret: Callable[[], bytes] | None = None  # which the tenant's gateways have, and others have not
-        self.meeting = 0  # how many connections of other gateways there are
+        self.meeting = Counter[Meets]()  # how many connections of other gateways there are, by names and by addresses
         self.known: tuple[int, dict[str, int]] = 0, {}  # how many changes of other gateways the index has, by their starts; and which beginning of the index
         self.asking = asyncio.Lock()  # of who asks all nodes: what they tell of no session is kept for one who asks
         self.settling = asyncio.Semaphore()  # so that requests find a session
@@ -88,7 +94,8 @@ class Pool:
         self.looks, self.looked = asyncio.Lock(), 0.0  # at all pages; and when the last one began that ended well
         self.asking_all, self.sure_until = asyncio.Lock(), 0.0  # whether all sessions are still this gateway's
         self.wants_plan = asyncio.Event()  # a page has split to others that are not known here
-        self.splitting: set[int] = set()  # numbers of sessions whose pages split now
+        self.asked = 0.0  # when somebody asked for something last
+        self.growing: dict[int, IO[str]] | None = None  # sessions whose pages all split, since a command waits for that; empty once they have
         self.tried_to_split: dict[tuple[int, int], float] = {}  # sessions with a page, and when
         self.goes_on: asyncio.Task[None] | None = None  # where an earlier gateway was killed, until all pages were looked at
         self.unswept: set[int] = set()  # numbers of sessions that may have chunks that no line names, left by who died
@@ -141,6 +148,8 @@ class Pool:
 
     async def begin(self) -> None:
         """Opens it, or has it opened as soon as that can be done; then what goes on side by side with requests. Faults of settings are raised."""
+        if listener := self.remote.listener():
+            self.loop.add_reader(listener, answer, listener, partial(self.meet, how=self.remote.accept))
         try:
             await self.loop.run_in_executor(self.threads, self.open)
             if others := self.claims.told():
@@ -303,10 +312,10 @@ class Pool:
         """Whether all sessions are still this gateway's, as each of them was found to be in the last two seconds. (It may have been stopped, and replaced by
         another one, which nobody tells it.)"""
         async with self.asking_all:
-            now = time.monotonic()
+            now = self.asked = time.monotonic()
             if now <= self.sure_until:
                 return True
-            found = all(await asyncio.gather(*(self.has_session(number) for number, worker in list(self.workers.items()) if not worker.is_lent)))
+            found = all(await asyncio.gather(*map(self.has_session, list(self.workers))))
             self.sure_until = now + SURE_FOR if found else 0.0
             return found
 
@@ -318,13 +327,15 @@ class Pool:
         lent = {number: worker for number, worker in self.workers.items() if worker.settled_when_lent}
         left = await asyncio.gather(*(self.loop.run_in_executor(self.threads, self.settled_in_note, each) for each in lent.values()))
         rest = [worker.store for number, worker in self.workers.items() if number not in lent]
-        return [*left, *(AllBut() if store.writer.has_settled_all() else store.settled for store in rest)]
+        return [*left, *map(settled_by, rest)]
 
     def settled_in_note(self, worker: Worker) -> Pages:
         """(A thread's.) Those of a lent session. First its home tells how far the session came, and then the note is read: so that has all writes of which anybody was told."""
         with worker.asking:
             pages, session, last = worker.settled_when_lent, worker.session, None
-            if pages and worker.index_when_lent == self.shared.index.beginnings:
+            if not pages:  # (it was had back meanwhile)
+                return settled_by(worker.store)
+            if worker.index_when_lent == self.shared.index.beginnings:
                 pace, session.pace = session.pace, replace(session.pace, timeout=SOON)
                 with suppress(ClientError):
                     last = session.last_at_home()
@@ -339,26 +350,21 @@ class Pool:
         """(A thread's.) Goes on by a session that was lent."""
         path = self.settings.end_path(worker.number)
         with worker.asking:
-            worker.settled_when_lent = ()
             worker.store.has_back(carried, read_end(path))
+            worker.settled_when_lent = ()  # (not before: else a listing amid that would look at all pages)
             write_end(path, None)
 
     # Other gateways of the tenant
 
-    def meet(self, connection: socket.socket) -> None:
-        """Another process has connected by the name of a session."""
-        if not self.is_open or self.secret is None or self.meeting >= MOST_ASKING:
+    def meet(self, connection: socket.socket, how: Meets = peers.by_socket) -> None:
+        """Another process has connected, by the name of a session or by the address for others."""
+        if not self.is_open or self.secret is None or self.meeting[how] >= MOST_ASKING:
             connection.close()
             return
         connection.setblocking(False)
-        self.spawn(self.answer_for(connection, self.secret()))
-
-    async def answer_for(self, connection: socket.socket, key: bytes) -> None:
-        self.meeting += 1
-        try:
-            await peers.tell(connection, key, self.shared.changes.start, list(self.workers), self.changed_since)
-        finally:
-            self.meeting -= 1
+        self.meeting[how] += 1
+        task = self.spawn(peers.tell(how(connection), self.secret(), self.shared.changes.start, self.workers, self.changed_since))
+        task.add_done_callback(lambda _: self.meeting.subtract([how]))
 
     async def changed_since(self, count: int) -> tuple[int, Collection[int] | None]:
         """How many changes there were, and the pages of this gateway's sessions that are other ones since there were so many, or may be soon; None where that can't be told."""
@@ -368,19 +374,26 @@ class Pool:
         return now, None if pages is None or noted is None else pages | noted
 
     async def ask_others(self) -> tuple[list[peers.Told], bool]:
-        """What other gateways tell of what changed since the index had their pages; and whether they have all other sessions."""
+        """What other gateways tell of what changed since the index had their pages; and whether they have all other sessions. All are asked that have an address; and by
+        names those of this machine that have what is left."""
         beginnings, counts = self.known
         known = counts if beginnings == self.shared.index.beginnings else {}
-        left, found = sorted(set(range(1, self.sessions + 1)) - self.workers.keys()), list[peers.Told]()
+        left, found = set(range(1, self.sessions + 1)) - self.workers.keys(), list[peers.Told]()
+        if left and self.secret:
+            found += [told for told in await self.remote.ask_all(self.secret(), lambda start: known.get(start, NEVER)) if told.start != self.shared.changes.start]
+            left = left.difference(*(told.sessions for told in found))
         while left and self.secret:
-            told = await peers.ask(self.claims.name(left[0]), self.secret(), left[0], lambda start: known.get(start, peers.NEVER))
-            if told is None or left[0] not in told.sessions:
+            number = min(left)
+            told = await peers.ask(peers.by_name(self.claims.name(number)), self.secret(), number, lambda start: known.get(start, NEVER))
+            if told is None or number not in told.sessions:
                 break
             found.append(told)
-            left = [number for number in left if number not in told.sessions]
+            left -= told.sessions
         return found, not left
 
     async def has_session(self, number: int) -> bool:
+        if self.workers[number].is_lent:  # (it is asked for right before it is waited for: who comes after the command waits until that is done)
+            return True
         try:
             worker = await self.lease(number)
             await self.run(worker, lambda store: worker.session.expect_own(), is_soon=True)
@@ -401,7 +414,7 @@ class Pool:
             others: list[Pages] = [() if each.pages is None else AllBut(each.pages) for each in told]
             settled = [*await self.settled_now(), *others] if is_all else [()]
             for level in self.layout.levels:  # (the old pages first, of those that have split)
-                await self.look_at_volumes(self.volumes_to_look_at(range(level.volume, level.volume + level.volumes), settled))
+                await self.look_at_volumes(self.volumes_to_look_at(level.page_volumes, settled))
             self.looked, self.known = begun, (beginnings, {each.start: each.count for each in told})
 
     def volumes_to_look_at(self, volumes: range, settled: Sequence[Pages]) -> list[int]:
@@ -446,6 +459,8 @@ class Pool:
         """A worker: the one of this number, or any, best the preferred one."""
         if number is not None and number not in self.workers:
             raise KeyError(number)
+        if who_asks.get():
+            self.asked = time.monotonic()
         if number is not None and self.workers[number].is_silent or all(each.is_silent for each in self.workers.values()):
             raise Unanswered(f"{self.named()}the homes of the sessions are silent")
         wanted = number if number is not None else preferred
@@ -493,6 +508,7 @@ class Pool:
         while True:
             await asyncio.sleep(LOOK)
             try:
+                self.see_growth()
                 for number, worker in list(self.workers.items()):
                     if number not in self.lends and not worker.is_silent and len(self.lends) < max(1, len(self.workers) // 2) and self.settings.is_wanted(number):
                         self.lends.add(number)
@@ -522,7 +538,7 @@ class Pool:
                 self.unswept.add(worker.number)  # (what it was to have forgotten is not known any more, and the command may die)
                 self.renew(worker)
                 worker.settled_when_lent, worker.index_when_lent = settled, self.shared.index.beginnings
-                write_end(path, None if last is None else End(worker.session.home, last))
+                write_end(path, None if last is None else End(worker.session.home, last, settled=len(carried) if isinstance(settled, AllBut) else 0))
                 worker.lock.close()
                 lock = None
                 while lock is None:
@@ -732,27 +748,68 @@ class Pool:
         """Has pages split wholly that have begun to, by each session that is here: else each look at their names is one at the old pages, too."""
         while True:
             await asyncio.sleep(RETRY)
-            if self.is_open and (left := self.shared.index.to_split(self.layout)):
-                for number in set(self.workers) - self.splitting:  # (one that is lent may come back late)
-                    self.splitting.add(number)
-                    self.spawn(self.split_by(number, left))
+            if self.growing:
+                await self.grow(self.growing)
+            elif self.is_open:
+                for page, whose in sorted(self.shared.index.to_split(self.layout).items()):
+                    await self.split(page, whose)
 
-    async def split_by(self, number: int, left: dict[int, set[int]]) -> None:
+    def see_growth(self) -> None:
+        """Where a command waits for that, all pages of the sessions that are here are to split; it has each session once that is done, and sees to what is left."""
+        is_wanted = self.is_open and self.settings.is_wanted(GROWTH)
+        if not is_wanted:
+            self.growing = None
+        elif self.growing is None:
+            self.growing = {number: lock for number in self.workers if (lock := self.settings.grows(number))}
+
+    async def grow(self, locks: dict[int, IO[str]]) -> None:
+        """Has all pages of these sessions split, one after another, as long as a command waits for that."""
         try:
-            for page, whose in left.items():
-                now, worker = time.monotonic(), self.workers[number]
-                if number not in whose or worker.is_lent or worker.is_silent or now < self.tried_to_split.get((number, page), now - TIDY) + TIDY:
-                    continue
-                self.tried_to_split[number, page] = now
-                try:
-                    await self.run(await self.lease(number), lambda store, page=page: store.split(page), is_soon=True)  # type: ignore[misc]
-                    self.tried_to_split.pop((number, page), None)
-                except ClientError as fault:
-                    tell(f"{self.named()}session {number}: page {page} does not split yet: {fault}")
-                except Exception as fault:
-                    error_of(fault)
+            self.wants_plan.set()
+            until = time.monotonic() + PLAN_AGAIN
+            while len(self.layout.levels) == 1 and time.monotonic() < until:
+                await asyncio.sleep(LOOK)
+            for level in self.layout.levels[:-1]:
+                for page in range(level.first, level.first + level.pages):
+                    if self.growing is not locks:
+                        return
+                    await self.split(page, locks.keys() - self.shared.index.whole(page))
         finally:
-            self.splitting.discard(number)
+            while locks:
+                locks.popitem()[1].close()
+
+    async def split(self, page: int, whose: Collection[int]) -> None:
+        """Has a page split by these sessions, as far as they are here, some at a time, so that requests find one; and lets who asks for something have as much of the processor."""
+        now, at_once = time.monotonic(), asyncio.Semaphore(max(1, min(SPLIT_AT_ONCE, len(self.workers) // 2)))
+        wanted = [number for number in sorted(whose) if number in self.workers and now >= self.tried_to_split.get((number, page), now - TIDY) + TIDY]
+        if wanted:
+            used = sum(await asyncio.gather(*(self.split_by(number, page, at_once) for number in wanted)))
+            await asyncio.sleep(used if time.monotonic() < self.asked + ASKS_FOR else 0)
+
+    async def split_by(self, number: int, page: int, at_once: asyncio.Semaphore) -> float:
+        """The same by one session: how many seconds of the processor it took."""
+
+        def split(store: Store) -> float:
+            begun = time.thread_time()
+            store.split(page)
+            return time.thread_time() - begun
+
+        async with at_once:
+            worker = self.workers[number]
+            if worker.is_lent or worker.is_silent:
+                return 0.0
+            self.tried_to_split[number, page] = time.monotonic()
+            try:
+                async with asyncio.timeout(SPLIT_LEASE):  # (one that is lent may come back late)
+                    await self.lease(number)
+                used = await self.run(worker, split, is_soon=True)
+                self.tried_to_split.pop((number, page), None)
+                return used
+            except (ClientError, TimeoutError) as fault:
+                tell(f"{self.named()}session {number}: page {page} does not split yet: {fault or 'it is used'}")
+            except Exception as fault:
+                error_of(fault)
+            return 0.0
 
     # Pages
 
@@ -768,8 +825,13 @@ class Pool:
     async def settle(self, page: int) -> None:
         """Sees that nothing that earlier clients of these sessions wrote can come into a page any more: by each that is here and whose home answers, side by
         side. A fault is raised where there is one, once all have ended."""
-        wanted = [worker for worker in self.workers.values() if not self.has_settled(worker, page) and not worker.is_silent and not worker.is_lent]
-        found = await asyncio.gather(*(self.settle_by(worker.number, page) for worker in wanted), return_exceptions=True)
+        wanted = [worker for worker in self.workers.values() if not self.has_settled(worker, page) and not worker.is_silent]
+
+        async def settle_here(worker: Worker) -> None:
+            if not worker.is_lent:
+                await self.settle_by(worker.number, page)
+
+        found = await asyncio.gather(*map(settle_here, wanted), return_exceptions=True)
         for fault in found:
             if isinstance(fault, BaseException):
                 raise fault
@@ -806,6 +868,8 @@ class Pool:
         self.has_begun = True
         self.settling = asyncio.Semaphore(max(1, len(self.workers) // 2))
         await asyncio.gather(*(self.tidy_session(number) for number in list(self.workers)))
+        gc.collect()
+        gc.freeze()  # (what is known of pages stays: else each full collection goes through all of it, while nobody else has a turn)
         while True:
             await asyncio.sleep(TIDY)
             for number in list(self.workers):
@@ -918,6 +982,10 @@ class Pool:
         self.looker.close()
         if self.carrier:
             self.carrier.close()
+
+
+def settled_by(store: Store) -> Pages:
+    return AllBut() if store.writer.has_settled_all() else store.settled
 
 
 def pages_of(settled: Sequence[Pages]) -> set[int] | None:

@@ -14,6 +14,7 @@ from gridfs_client.buckets import Bucket, Held
 from gridfs_client.core import Known, Page
 from gridfs_client.layout import Layout
 from gridfs_client.sessions import Files
+from gridfs_client.skimming import NEVER
 from gridfs_client.ways import Ground
 from gridfs_client.writers import Writer
 
@@ -24,7 +25,6 @@ from .peers import Changes
 AHEAD = 3_600_000  # milliseconds by which a time may be ahead of the clock
 MOST_AT_HAND = 2_048  # names of which it is remembered what they hold
 LATEST = 9_999_999_999_999  # which a line has room for
-NEVER = Tag(0, 0)  # of a page that was never written
 
 
 class Turns:

@@ -129,9 +129,13 @@ class Store(Reader):
 
     def with_more_pages(self, bucket: Bucket, name: str, values: Callable[[], Values]) -> Bucket:
         """The bucket at which a name is put that was looked for at this one: that of the next level where the page has no room for it, and all nodes have that."""
-        while self.shared.may_grow and not self.trip and self.writer.has_parts(bucket) and self.writer.announcement(bucket, replace(self.shortest_line(bucket, name, values), content=LONG_LINE)) is None:
-            bucket = self.writer.part_for(bucket, name)
-            bucket.look(own=True)
+        while self.shared.may_grow and self.writer.has_parts(bucket) and self.writer.announcement(bucket, replace(self.shortest_line(bucket, name, values), content=LONG_LINE)) is None:
+            if self.trip:  # (whose walks go by pages that have split)
+                self.writer.split(bucket)
+                bucket, _ = self.look_for_change(name)
+            else:
+                bucket = self.writer.part_for(bucket, name)
+                bucket.look(own=True)
             self.make_room(bucket, self.shortest_line(bucket, name, values))
         return bucket
 
@@ -257,12 +261,9 @@ class Store(Reader):
             self.shared.turns.is_later_than(max(times, default=0))
 
     def split(self, page: int) -> None:
-        """Has the page split wholly, whose names went on to more pages; what earlier clients left under way there ends before."""
+        """Has the page split wholly; what earlier clients left under way there ends before."""
         self.settle(page)
-        bucket = self.writer.bucket(page)
-        bucket.look(own=True)
-        if bucket.has_split():
-            self.writer.split(bucket)
+        self.writer.split(self.writer.bucket(page))
 
     def look_at(self, volumes: Iterable[int]) -> None:
         """Sees that the index has each page of these volumes as it is now, or was after this began: a request for each volume, and those for each bucket of

@@ -65,17 +65,17 @@ module _ (inside : ℕ → Bool) where
   pub journal_on : (i j k : Journal) → AlikeJournal inside i j → AlikeJournal inside j k → AlikeJournal inside i k
   journal_on i j k one two = journal_turns j i k (journal_back i j one) two
 
-  -- what is inside stays
-  pub part_alike : (p q : Page) → AlikePage inside p q → AlikePage inside p (part_of inside q)
-  part_alike p q one = record {
-    line = λ n is. one.line n is ∙ sym (rw is refl);
-    gone = λ n is. one.gone n is ∙ sym (rw is refl);
+  -- what is of a level stays, where all names here are inside there
+  pub part_alike : (level : ℕ → Bool) → ((n : ℕ) → inside n ≡ true → level n ≡ true) → (p q : Page) → AlikePage inside p q → AlikePage inside p (part_of level q)
+  part_alike level within p q one = record {
+    line = λ n is. one.line n is ∙ sym (rw (within n is) refl);
+    gone = λ n is. one.gone n is ∙ sym (rw (within n is) refl);
     after = one.after;
     number = one.number;
   }
 
-  pub part_journal : (i j : Journal) → AlikeJournal inside i j → AlikeJournal inside i (part_of_journal inside j)
-  part_journal i j one = record { page = part_alike i.page j.page one.page; op = one.op }
+  pub part_journal : (level : ℕ → Bool) → ((n : ℕ) → inside n ≡ true → level n ≡ true) → (i j : Journal) → AlikeJournal inside i j → AlikeJournal inside i (part_of_journal level j)
+  part_journal level within i j one = record { page = part_alike level within i.page j.page one.page; op = one.op }
 
   pub shown_alike : (p q : Page) (name : ℕ) → inside name ≡ true → AlikePage inside p q → shown p name ≡ shown q name
   shown_alike p q name is one = rw (one.gone name is) (rw (one.line name is) refl)

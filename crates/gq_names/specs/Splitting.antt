@@ -1,16 +1,18 @@
--- Pages that split: names go on to more pages, while they are used.
+-- Pages that split: names go on to more pages, level by level, while they are used.
 --
--- Each session has an *old* page and its journal. Later it is given *new* ones for some of the names, which are *inside*; the others get new pages of
--- their own, of which nothing is said here. A session *splits* its own old page: it puts a *signpost* into its old journal, and then into its
--- old page. From then on no line of these changes. Only then it writes its new journal, which begins with what the old one has of the names inside.
--- Of each session one page counts for these names: the new one, where the old one shows the signpost and the new one was written; else the old one.
+-- Each session has a page of *level* 0, and its journal. Later it is given more pages, of level 1, of level 2 and so on; there is no last level. Of each level one page
+-- has the names that are *inside* there; the others have pages of their own, of which nothing is said here. A session *splits* its own page of a level: it puts a
+-- *signpost* into the journal, and then into the page. From then on no line of these changes. Only then it writes its journal of the next level, which begins with what
+-- the one before has of the names inside. It splits its page when it likes, and that of the next level too.
 --
--- Who looks reads an old page first. Where that shows the signpost he reads the new page, at any later moment; whatever of the old page anybody saw since it
--- has the signpost he may take for it, if the new one was never written. And once the new page was written, the session may take the lines out of the old
--- one: it *clears* it.
+-- Of each session one page counts for these names. Go from level to level as long as a page shows the signpost. The page where that ends counts, if it was written; if
+-- not, what the one before has of the names inside.
+--
+-- Who looks reads the page of level 0 first. Where a page shows the signpost he reads the one of the next level, at any later moment. Whatever anybody saw of a page since
+-- it has the signpost he may take for that, if it was never written. And once it was written, the session may take the lines out of the page before: it *clears* it.
 --
 -- Writes may be late, and clients die, as in `specs/Names`, whose pages, journals, clients and readers are used here.
-use Rattle.std.specs.Prelude.{ℕ, ◌+◌, List, [], ◌∷◌, ◌++◌, Bool, true, false, ◌==◌, ◌&&◌, ◌||◌, not, nat_lt, Option, Some, None, slice_get, map, fold, if◌then◌else◌, ◌≡◌}
+use Rattle.std.specs.Prelude.{ℕ, zero, suc, ◌+◌, List, [], ◌∷◌, ◌++◌, Bool, true, false, ◌==◌, ◌&&◌, ◌||◌, not, nat_lt, Option, Some, None, slice_get, map, fold, if◌then◌else◌, ◌≡◌}
 use Rattle.std.specs.List.{range_with_len}
 use Rattle.gq_tag.specs.Tag.{first_copy}
 use Rattle.gq_laws.specs.declared.ops.Kind.TheVariants.{Write as Writes, Read as Reads}
@@ -19,13 +21,17 @@ use Rattle.gq_laws.specs.Operations.{Legal}
 use Rattle.gq_laws.specs.Orders.{order}
 use Rattle.gq_names.specs.Names.{Setting, Page, Journal, Change, Client, Knows, Looks, Announces, Carries, Reader, Idle, Searches, new_page, new_journal, no_op, no_page, none_seen, and_page, and_seen, has_seen, changed, new_line, highest, tidying, greatest_shown, version_told, behind}
 
+-- which names are inside, at each level
+abbrev pub Levels : Type 0
+Levels = (level name : ℕ) → Bool
+
 -- ---- what stands in files
 
-pub record OldPage : Type 0 where
+pub record SignedPage : Type 0 where
   pub page : Page
   pub signed : Bool
 
-pub record OldJournal : Type 0 where
+pub record SignedJournal : Type 0 where
   pub journal : Journal
   pub signed : Bool
 
@@ -36,36 +42,62 @@ part_of inside page = record page { line = λ n. if inside n then page.line n el
 abbrev pub part_of_journal : (inside : ℕ → Bool) → Journal → Journal
 part_of_journal inside journal = record journal { page = part_of inside journal.page }
 
+-- it was written, and shows the signpost
+abbrev pub shows_signpost : Option SignedPage → Bool
+shows_signpost None = false
+shows_signpost (Some page) = page.signed
+
+abbrev pub has_signpost : Option SignedJournal → Bool
+has_signpost None = false
+has_signpost (Some journal) = journal.signed
+
+-- what counts at a level: its page, or as long as that was not written what the one before has of the names inside
+abbrev pub counts : (inside : ℕ → Bool) → Option SignedPage → (before : Page) → Page
+counts inside None before = part_of inside before
+counts inside (Some page) before = page.page
+
+-- the same of journals
+abbrev pub begun_with : (inside : ℕ → Bool) → Option SignedJournal → (before : Journal) → Journal
+begun_with inside None before = part_of_journal inside before
+begun_with inside (Some journal) before = journal.journal
+
+abbrev pub is_written : {A : Type 0} → Option A → Bool
+is_written None = false
+is_written (Some x) = true
+
 -- ---- what clients do
 
 pub data Hand : Type 0 where
-  -- its client acts at the old files. It knows the old journal with the signpost, or without
-  AtOld : (signed : Bool) (client : Client) → Hand
-  -- it has seen the signpost in its own old page; the old journal as it knows that
-  GoesOn : (old : Journal) → Hand
-  -- it acts at the new files, and still knows the old journal
-  AtNew : (old : Journal) (client : Client) → Hand
+  -- it has seen the signpost in its own page of the level before, or it begins: it is to read its journal of this level
+  GoesOn : (level : ℕ) → Hand
+  -- its client acts at this level. It knows the journal with the signpost, or without
+  At : (level : ℕ) (signed : Bool) (client : Client) → Hand
 
--- what is done beside, to take lines out of the old page
+abbrev pub level_of : Hand → ℕ
+level_of (GoesOn level) = level
+level_of (At level signed client) = level
+
+-- what is done beside, to take lines out of a page with the signpost
 pub data Clearing : Type 0 where
   Rests : Clearing
-  -- it writes the old journal so
+  -- it writes the journal so
   ClearsJournal : (journal : Journal) → Clearing
-  -- that was answered: it writes the old page
+  -- that was answered: it writes the page
   ClearsPage : (journal : Journal) → Clearing
 
--- a session, with writes that are pending; a new file is None until it is written
+-- a session's files of one level, with writes that are pending; a file is None until it is written
+pub record LevelFiles : Type 0 where
+  pub journal : Option SignedJournal
+  pub journal_pending : List SignedJournal
+  pub page : Option SignedPage
+  pub page_pending : List SignedPage
+
 pub record Files : Type 0 where
-  pub old_journal : OldJournal
-  pub old_journal_pending : List OldJournal
-  pub old_page : OldPage
-  pub old_page_pending : List OldPage
-  pub new_journal : Option Journal
-  pub new_journal_pending : List Journal
-  pub new_page : Option Page
-  pub new_page_pending : List Page
+  pub level : ℕ → LevelFiles
   pub hand : Hand
-  pub clearing : Clearing
+  -- what its client knows of its journals of the levels that it went on from, and how far these are cleared
+  pub known : (level : ℕ) → Journal
+  pub clearing : (level : ℕ) → Clearing
 
 pub record SplitWorld : Type 0 where
   pub now : ℕ
@@ -73,57 +105,51 @@ pub record SplitWorld : Type 0 where
   pub op : ℕ → Op
   pub session : ℕ → Files
   pub reader : ℕ → Reader
-  -- what anybody saw of a session's old page since it has the signpost
-  pub signs : (session : ℕ) → List Page
+  -- what anybody saw of a session's page of the level before, since it has the signpost: what this level begins with
+  pub signs : (session level : ℕ) → List Page
+
+abbrev pub no_files : LevelFiles
+no_files = record { journal = None; journal_pending = []; page = None; page_pending = [] }
 
 abbrev pub new_files : Files
-new_files = record {
-  old_journal = record { journal = new_journal; signed = false };
-  old_journal_pending = [];
-  old_page = record { page = new_page; signed = false };
-  old_page_pending = [];
-  new_journal = None;
-  new_journal_pending = [];
-  new_page = None;
-  new_page_pending = [];
-  hand = AtOld false (Knows new_journal);
-  clearing = Rests;
-}
+new_files = record { level = λ k. no_files; hand = GoesOn 0; known = λ k. new_journal; clearing = λ k. Rests }
+
+-- nothing stands before level 0
+abbrev pub first_signs : (level : ℕ) → List Page
+first_signs zero = new_page ∷ []
+first_signs (suc level) = []
 
 abbrev pub first_world : SplitWorld
-first_world = record { now = 0; begun = 0; op = λ i. no_op; session = λ s. new_files; reader = λ r. Idle; signs = λ s. [] }
+first_world = record { now = 0; begun = 0; op = λ i. no_op; session = λ s. new_files; reader = λ r. Idle; signs = λ s. first_signs }
 
 -- ---- steps
 
 pub data SplitStep : Type 0 where
-  -- a new client of the session reads the old journal; the one before is dead
-  EntersOld : (session : ℕ) → SplitStep
+  -- a new client of the session begins; the one before is dead
+  StartsAnew : (session : ℕ) → SplitStep
+  -- it reads its journal of the level that it has come to
+  EntersLevel : (session : ℕ) → SplitStep
   -- the pending write at this place takes effect
-  OldJournalLate : (session place : ℕ) → SplitStep
-  OldPageLate : (session place : ℕ) → SplitStep
-  NewJournalLate : (session place : ℕ) → SplitStep
-  NewPageLate : (session place : ℕ) → SplitStep
-  -- its client begins to put this under the name; at the new files that is one inside. Or it begins a change of no name
+  LevelJournalLate : (session level place : ℕ) → SplitStep
+  LevelPageLate : (session level place : ℕ) → SplitStep
+  -- its client begins to put this under the name, which is inside at its level. Or it begins a change of no name
   Puts : (session name : ℕ) (bytes : List ℕ) → SplitStep
   TidiesUp : (session : ℕ) → SplitStep
-  -- it reads the old page of a session. It reads the new one, behind what was seen of the old one with the signpost
-  SeesOld : (session other : ℕ) → SplitStep
-  SeesNew : (session other sign : ℕ) → SplitStep
+  -- it reads a session's page of a level, behind what was seen of the one before with the signpost. If it shows the signpost too, it only takes notice
+  SeesLevel : (session other level sign : ℕ) → SplitStep
   -- it has read all, and chooses, as in `specs/Names`
   ChoosesLine : (session more : ℕ) (goes : (name : ℕ) → Bool) (asks : (session : ℕ) → Bool) → SplitStep
   -- it asks for the write that it has to do, and is answered, or not
   HandWrites : (session : ℕ) (answered : Bool) → SplitStep
-  -- it looks at its own old page. Without the signpost there, it is to write that: into the journal, then into the page. With it, it goes on
+  -- it looks at its own page. Without the signpost there, it is to write that: into the journal, then into the page. With it, or where the journal of the next level
+  -- was written, it goes on
   Signs : (session : ℕ) → SplitStep
-  -- it reads the new journal
-  EntersNew : (session : ℕ) → SplitStep
-  -- beside, it begins to take these lines out of the old page: those of other names, and once the new page was written those inside
-  Clears : (session : ℕ) (goes : (name : ℕ) → Bool) → SplitStep
-  ClearingWrites : (session : ℕ) (answered : Bool) → SplitStep
-  -- somebody begins to get the watched name, reads old and new pages, and tells what the name holds once he has read all
+  -- beside, it begins to take these lines out of its page of a level that it went on from: those of other names, and once the next page was written those inside there
+  Clears : (session level : ℕ) (goes : (name : ℕ) → Bool) → SplitStep
+  ClearingWrites : (session level : ℕ) (answered : Bool) → SplitStep
+  -- somebody begins to get the watched name, reads pages, and tells what the name holds once he has read all
   AsksFor : (reader : ℕ) → SplitStep
-  FindsOld : (reader session : ℕ) → SplitStep
-  FindsNew : (reader session sign : ℕ) → SplitStep
+  FindsLevel : (reader session level sign : ℕ) → SplitStep
   TellsOf : (reader : ℕ) → SplitStep
 
 -- ---- parts of steps
@@ -148,30 +174,54 @@ abbrev pub with_ended : Option ℕ → SplitWorld → SplitWorld
 with_ended None w = w
 with_ended (Some k) w = with_split_op k (record (w.op k) { end = Some w.now }) w
 
--- somebody saw this page of the session, which has the signpost
-abbrev pub with_sign : ℕ → Page → SplitWorld → SplitWorld
-with_sign t page w = record w { signs = λ s. if s == t then page ∷ w.signs s else w.signs s }
+-- somebody saw this, with which a level of the session begins
+abbrev pub with_sign : (t level : ℕ) → Page → SplitWorld → SplitWorld
+with_sign t level page w = record w { signs = λ s k. if s == t then (if k == level then page ∷ w.signs s k else w.signs s k) else w.signs s k }
+
+-- a session with other files of a level, another hand, and so on
+abbrev pub with_level : ℕ → LevelFiles → Files → Files
+with_level level z x = record x { level = λ k. if k == level then z else x.level k }
+
+abbrev pub with_known : ℕ → Journal → Files → Files
+with_known level journal x = record x { known = λ k. if k == level then journal else x.known k }
+
+abbrev pub with_clearing : ℕ → Clearing → Files → Files
+with_clearing level clearing x = record x { clearing = λ k. if k == level then clearing else x.clearing k }
 
 abbrev pub with_hand : ℕ → Hand → SplitWorld → SplitWorld
 with_hand s hand w = with_files s (record (w.session s) { hand = hand }) w
 
+-- what a level begins with, as far as its client knows
+abbrev pub known_before : (known : (level : ℕ) → Journal) → (level : ℕ) → Journal
+known_before known zero = new_journal
+known_before known (suc level) = known level
+
 -- ---- writes that were pending
 
-abbrev pub old_journal_late : SplitWorld → (s place : ℕ) → Option OldJournal → SplitWorld
-old_journal_late w s place None = w
-old_journal_late w s place (Some x) = with_files s (record (w.session s) { old_journal = x; old_journal_pending = behind (w.session s).old_journal_pending place }) w
+abbrev pub level_journal_late : SplitWorld → (s level place : ℕ) → Option SignedJournal → SplitWorld
+level_journal_late w s level place None = w
+level_journal_late w s level place (Some j) =
+    with_files s (with_level level (record ((w.session s).level level) { journal = Some j; journal_pending = behind ((w.session s).level level).journal_pending place }) (w.session s)) w
 
-abbrev pub old_page_late : SplitWorld → (s place : ℕ) → Option OldPage → SplitWorld
-old_page_late w s place None = w
-old_page_late w s place (Some x) = with_files s (record (w.session s) { old_page = x; old_page_pending = behind (w.session s).old_page_pending place }) w
+abbrev pub level_page_late : SplitWorld → (s level place : ℕ) → Option SignedPage → SplitWorld
+level_page_late w s level place None = w
+level_page_late w s level place (Some p) =
+    with_files s (with_level level (record ((w.session s).level level) { page = Some p; page_pending = behind ((w.session s).level level).page_pending place }) (w.session s)) w
 
-abbrev pub new_journal_late : SplitWorld → (s place : ℕ) → Option Journal → SplitWorld
-new_journal_late w s place None = w
-new_journal_late w s place (Some x) = with_files s (record (w.session s) { new_journal = Some x; new_journal_pending = behind (w.session s).new_journal_pending place }) w
+-- ---- it goes on, level by level
 
-abbrev pub new_page_late : SplitWorld → (s place : ℕ) → Option Page → SplitWorld
-new_page_late w s place None = w
-new_page_late w s place (Some x) = with_files s (record (w.session s) { new_page = Some x; new_page_pending = behind (w.session s).new_page_pending place }) w
+abbrev pub enters_by : Levels → SplitWorld → (s : ℕ) → Hand → SplitWorld
+enters_by inside w s (GoesOn level) =
+    with_hand s (At level (has_signpost ((w.session s).level level).journal) (Knows (begun_with (inside level) ((w.session s).level level).journal (known_before (w.session s).known level)))) w
+enters_by inside w s _ = w
+
+abbrev pub signs_as : SplitWorld → (s level : ℕ) → (signed is_there : Bool) → Journal → SplitWorld
+signs_as w s level true true journal = with_files s (record (with_known level journal (w.session s)) { hand = GoesOn (suc level) }) w
+signs_as w s level _ _ journal = with_hand s (At level true (Announces journal None)) w
+
+abbrev pub signs_by : SplitWorld → (s : ℕ) → Hand → SplitWorld
+signs_by w s (At level signed (Knows journal)) = signs_as w s level signed (shows_signpost ((w.session s).level level).page || is_written ((w.session s).level (suc level)).journal) journal
+signs_by w s _ = w
 
 -- ---- a put
 
@@ -182,53 +232,40 @@ a_put w s bytes = record { kind = Writes bytes; session = s; op = w.begun; begin
 abbrev pub first_look : (s : ℕ) → Journal → Change → Client
 first_look s journal change = Looks journal change (and_page s no_page) (and_seen s journal.page none_seen)
 
-abbrev pub begins_as : Setting → SplitWorld → (s name : ℕ) → List ℕ → (at : Client → Hand) → Journal → SplitWorld
-begins_as v w s name bytes at journal =
+abbrev pub begins_as : Setting → SplitWorld → (s name : ℕ) → List ℕ → (level : ℕ) → Journal → SplitWorld
+begins_as v w s name bytes level journal =
     if name == v.name
-    then with_hand s (at (first_look s journal (record { name = Some name; bytes = bytes; op = Some w.begun }))) (with_next_op (a_put w s bytes) w)
-    else with_hand s (at (first_look s journal (record { name = Some name; bytes = bytes; op = None }))) w
+    then with_hand s (At level false (first_look s journal (record { name = Some name; bytes = bytes; op = Some w.begun }))) (with_next_op (a_put w s bytes) w)
+    else with_hand s (At level false (first_look s journal (record { name = Some name; bytes = bytes; op = None }))) w
 
-abbrev pub puts_by : Setting → (inside : ℕ → Bool) → SplitWorld → (s name : ℕ) → List ℕ → Hand → SplitWorld
-puts_by v inside w s name bytes (AtOld false (Knows journal)) = begins_as v w s name bytes (AtOld false) journal
-puts_by v inside w s name bytes (AtNew old (Knows journal)) = if inside name then begins_as v w s name bytes (AtNew old) journal else w
+abbrev pub puts_by : Setting → Levels → SplitWorld → (s name : ℕ) → List ℕ → Hand → SplitWorld
+puts_by v inside w s name bytes (At level false (Knows journal)) = if inside level name then begins_as v w s name bytes level journal else w
 puts_by v inside w s name bytes _ = w
 
 abbrev pub tidies_up_by : SplitWorld → (s : ℕ) → Hand → SplitWorld
-tidies_up_by w s (AtOld false (Knows journal)) = with_hand s (AtOld false (first_look s journal tidying)) w
-tidies_up_by w s (AtNew old (Knows journal)) = with_hand s (AtNew old (first_look s journal tidying)) w
+tidies_up_by w s (At level false (Knows journal)) = with_hand s (At level false (first_look s journal tidying)) w
 tidies_up_by w s _ = w
 
 -- what it sees of a session, beside what it has seen
 abbrev pub looks_more : Journal → Change → (ℕ → Bool) → (ℕ → Page) → (t : ℕ) → Page → Client
 looks_more journal change looked seen t page = Looks journal change (and_page t looked) (and_seen t page seen)
 
--- of a page with the signpost it only takes notice
-abbrev pub sees_old_as : SplitWorld → (s t : ℕ) → (at : Client → Hand) → Journal → Change → (ℕ → Bool) → (ℕ → Page) → SplitWorld
-sees_old_as w s t at journal change looked seen =
+abbrev pub level_page : SplitWorld → (t level : ℕ) → Option SignedPage
+level_page w t level = ((w.session t).level level).page
+
+-- what shows the signpost is that with which the next level begins
+abbrev pub sees_as : Levels → SplitWorld → (s t level : ℕ) → (at : Client → Hand) → Journal → Change → (ℕ → Bool) → (ℕ → Page) → (sign : Option Page) → SplitWorld
+sees_as inside w s t level at journal change looked seen None = w
+sees_as inside w s t level at journal change looked seen (Some sign) =
     if t == s
     then w
-    else if (w.session t).old_page.signed
-    then with_sign t (w.session t).old_page.page w
-    else with_hand s (at (looks_more journal change looked seen t (w.session t).old_page.page)) w
+    else if shows_signpost (level_page w t level)
+    then with_sign t (suc level) (counts (inside level) (level_page w t level) sign) w
+    else with_hand s (at (looks_more journal change looked seen t (counts (inside level) (level_page w t level) sign))) w
 
-abbrev pub sees_old_by : SplitWorld → (s t : ℕ) → Hand → SplitWorld
-sees_old_by w s t (AtOld false (Looks journal change looked seen)) = sees_old_as w s t (AtOld false) journal change looked seen
-sees_old_by w s t (AtNew old (Looks journal change looked seen)) = sees_old_as w s t (AtNew old) journal change looked seen
-sees_old_by w s t _ = w
-
--- the new page; where none was written, what the old one has of the names inside
-abbrev pub counts : (inside : ℕ → Bool) → Option Page → (old : Page) → Page
-counts inside None old = part_of inside old
-counts inside (Some page) old = page
-
-abbrev pub sees_new_as : (inside : ℕ → Bool) → SplitWorld → (s t : ℕ) → (at : Client → Hand) → Journal → Change → (ℕ → Bool) → (ℕ → Page) → (sign : Option Page) → SplitWorld
-sees_new_as inside w s t at journal change looked seen None = w
-sees_new_as inside w s t at journal change looked seen (Some sign) = if t == s then w else with_hand s (at (looks_more journal change looked seen t (counts inside (w.session t).new_page sign))) w
-
-abbrev pub sees_new_by : (inside : ℕ → Bool) → SplitWorld → (s t sign : ℕ) → Hand → SplitWorld
-sees_new_by inside w s t sign (AtOld false (Looks journal change looked seen)) = sees_new_as inside w s t (AtOld false) journal change looked seen (slice_get (w.signs t) sign)
-sees_new_by inside w s t sign (AtNew old (Looks journal change looked seen)) = sees_new_as inside w s t (AtNew old) journal change looked seen (slice_get (w.signs t) sign)
-sees_new_by inside w s t sign _ = w
+abbrev pub sees_level_by : Levels → SplitWorld → (s t level sign : ℕ) → Hand → SplitWorld
+sees_level_by inside w s t level sign (At own false (Looks journal change looked seen)) = sees_as inside w s t level (At own false) journal change looked seen (slice_get (w.signs t level) sign)
+sees_level_by inside w s t level sign _ = w
 
 abbrev pub chooses_as : Setting → SplitWorld → (s more : ℕ) → (goes asks : ℕ → Bool) → (at : Client → Hand) → Journal → Change → (ℕ → Bool) → (ℕ → Page) → SplitWorld
 chooses_as v w s more goes asks at journal change looked seen =
@@ -237,72 +274,47 @@ chooses_as v w s more goes asks at journal change looked seen =
     else w
 
 abbrev pub chooses_line_by : Setting → SplitWorld → (s more : ℕ) → (goes asks : ℕ → Bool) → Hand → SplitWorld
-chooses_line_by v w s more goes asks (AtOld false (Looks journal change looked seen)) = chooses_as v w s more goes asks (AtOld false) journal change looked seen
-chooses_line_by v w s more goes asks (AtNew old (Looks journal change looked seen)) = chooses_as v w s more goes asks (AtNew old) journal change looked seen
+chooses_line_by v w s more goes asks (At level false (Looks journal change looked seen)) = chooses_as v w s more goes asks (At level false) journal change looked seen
 chooses_line_by v w s more goes asks _ = w
 
+-- the session with these files of a level, and this hand
+abbrev pub writes_as : SplitWorld → (s level : ℕ) → LevelFiles → Hand → Files
+writes_as w s level z hand = record (with_level level z (w.session s)) { hand = hand }
+
 abbrev pub hand_writes_by : Setting → SplitWorld → (s : ℕ) → Bool → Hand → SplitWorld
-hand_writes_by v w s true (AtOld signed (Announces journal op)) =
-    with_files s (record (w.session s) { old_journal = record { journal = journal; signed = signed }; old_journal_pending = []; hand = AtOld signed (Carries journal op) }) (with_version v journal journal.op w)
-hand_writes_by v w s false (AtOld signed (Announces journal op)) = with_files s (record (w.session s) { old_journal_pending = (w.session s).old_journal_pending ++ record { journal = journal; signed = signed } ∷ [] }) w
-hand_writes_by v w s true (AtOld signed (Carries journal op)) =
-    with_files s (record (w.session s) { old_page = record { page = journal.page; signed = signed }; old_page_pending = []; hand = AtOld signed (Knows journal) }) (with_ended op w)
-hand_writes_by v w s false (AtOld signed (Carries journal op)) = with_files s (record (w.session s) { old_page_pending = (w.session s).old_page_pending ++ record { page = journal.page; signed = signed } ∷ [] }) w
-hand_writes_by v w s true (AtNew old (Announces journal op)) = with_files s (record (w.session s) { new_journal = Some journal; new_journal_pending = []; hand = AtNew old (Carries journal op) }) (with_version v journal journal.op w)
-hand_writes_by v w s false (AtNew old (Announces journal op)) = with_files s (record (w.session s) { new_journal_pending = (w.session s).new_journal_pending ++ journal ∷ [] }) w
-hand_writes_by v w s true (AtNew old (Carries journal op)) = with_files s (record (w.session s) { new_page = Some journal.page; new_page_pending = []; hand = AtNew old (Knows journal) }) (with_ended op w)
-hand_writes_by v w s false (AtNew old (Carries journal op)) = with_files s (record (w.session s) { new_page_pending = (w.session s).new_page_pending ++ journal.page ∷ [] }) w
+hand_writes_by v w s true (At level signed (Announces journal op)) =
+    with_files s (writes_as w s level (record ((w.session s).level level) { journal = Some (record { journal = journal; signed = signed }); journal_pending = [] }) (At level signed (Carries journal op))) (with_version v journal journal.op w)
+hand_writes_by v w s false (At level signed (Announces journal op)) =
+    with_files s (with_level level (record ((w.session s).level level) { journal_pending = ((w.session s).level level).journal_pending ++ record { journal = journal; signed = signed } ∷ [] }) (w.session s)) w
+hand_writes_by v w s true (At level signed (Carries journal op)) =
+    with_files s (writes_as w s level (record ((w.session s).level level) { page = Some (record { page = journal.page; signed = signed }); page_pending = [] }) (At level signed (Knows journal))) (with_ended op w)
+hand_writes_by v w s false (At level signed (Carries journal op)) =
+    with_files s (with_level level (record ((w.session s).level level) { page_pending = ((w.session s).level level).page_pending ++ record { page = journal.page; signed = signed } ∷ [] }) (w.session s)) w
 hand_writes_by v w s answered _ = w
 
--- ---- it splits its page
+-- ---- it clears a page that it went on from
 
-abbrev pub signs_as : SplitWorld → (s : ℕ) → (signed is_there : Bool) → Journal → SplitWorld
-signs_as w s true true journal = with_hand s (GoesOn journal) w
-signs_as w s false true journal = w
-signs_as w s signed false journal = with_hand s (AtOld true (Announces journal None)) w
+-- the journal without these lines, where they may go
+abbrev pub cleared : (inside : ℕ → Bool) → (next : Option SignedPage) → (goes : ℕ → Bool) → Journal → Journal
+cleared inside next goes journal = record journal { page = record journal.page { line = λ n. if goes n && (is_written next || not (inside n)) then first_copy else journal.page.line n } }
 
-abbrev pub signs_by : SplitWorld → (s : ℕ) → Hand → SplitWorld
-signs_by w s (AtOld signed (Knows journal)) = signs_as w s signed (w.session s).old_page.signed journal
-signs_by w s _ = w
+abbrev pub clears_as : Levels → SplitWorld → (s level : ℕ) → (goes : ℕ → Bool) → Clearing → SplitWorld
+clears_as inside w s level goes Rests = with_files s (with_clearing level (ClearsJournal (cleared (inside (suc level)) (level_page w s (suc level)) goes ((w.session s).known level))) (w.session s)) w
+clears_as inside w s level goes _ = w
 
-abbrev pub begun_with : (inside : ℕ → Bool) → Option Journal → (old : Journal) → Journal
-begun_with inside None old = part_of_journal inside old
-begun_with inside (Some journal) old = journal
+abbrev pub clears_by : Levels → SplitWorld → (s level : ℕ) → (goes : ℕ → Bool) → SplitWorld
+clears_by inside w s level goes = if nat_lt level (level_of (w.session s).hand) then clears_as inside w s level goes ((w.session s).clearing level) else w
 
-abbrev pub enters_new_by : (inside : ℕ → Bool) → SplitWorld → (s : ℕ) → Hand → SplitWorld
-enters_new_by inside w s (GoesOn old) = with_hand s (AtNew old (Knows (begun_with inside (w.session s).new_journal old))) w
-enters_new_by inside w s _ = w
-
-abbrev pub is_written : Option Page → Bool
-is_written None = false
-is_written (Some page) = true
-
--- the old journal without these lines, where they may go
-abbrev pub cleared : (inside : ℕ → Bool) → Option Page → (goes : ℕ → Bool) → Journal → Journal
-cleared inside written goes journal = record journal { page = record journal.page { line = λ n. if goes n && (is_written written || not (inside n)) then first_copy else journal.page.line n } }
-
-abbrev pub clears_as : (inside : ℕ → Bool) → SplitWorld → (s : ℕ) → (goes : ℕ → Bool) → Journal → Clearing → SplitWorld
-clears_as inside w s goes old Rests = with_files s (record (w.session s) { clearing = ClearsJournal (cleared inside (w.session s).new_page goes old) }) w
-clears_as inside w s goes old _ = w
-
-abbrev pub clears_by : (inside : ℕ → Bool) → SplitWorld → (s : ℕ) → (goes : ℕ → Bool) → Hand → SplitWorld
-clears_by inside w s goes (GoesOn old) = clears_as inside w s goes old (w.session s).clearing
-clears_by inside w s goes (AtNew old client) = clears_as inside w s goes old (w.session s).clearing
-clears_by inside w s goes _ = w
-
--- it knows this old journal from then on
-abbrev pub knowing : Journal → Hand → Hand
-knowing journal (GoesOn old) = GoesOn journal
-knowing journal (AtNew old client) = AtNew journal client
-knowing journal hand = hand
-
-abbrev pub clearing_writes_by : SplitWorld → (s : ℕ) → Bool → Clearing → SplitWorld
-clearing_writes_by w s true (ClearsJournal journal) =
-    with_files s (record (w.session s) { old_journal = record { journal = journal; signed = true }; old_journal_pending = []; hand = knowing journal (w.session s).hand; clearing = ClearsPage journal }) w
-clearing_writes_by w s false (ClearsJournal journal) = with_files s (record (w.session s) { old_journal_pending = (w.session s).old_journal_pending ++ record { journal = journal; signed = true } ∷ [] }) w
-clearing_writes_by w s true (ClearsPage journal) = with_files s (record (w.session s) { old_page = record { page = journal.page; signed = true }; old_page_pending = []; clearing = Rests }) w
-clearing_writes_by w s false (ClearsPage journal) = with_files s (record (w.session s) { old_page_pending = (w.session s).old_page_pending ++ record { page = journal.page; signed = true } ∷ [] }) w
-clearing_writes_by w s answered Rests = w
+abbrev pub clearing_writes_by : SplitWorld → (s level : ℕ) → Bool → Clearing → SplitWorld
+clearing_writes_by w s level true (ClearsJournal journal) =
+    with_files s (with_known level journal (with_clearing level (ClearsPage journal) (with_level level (record ((w.session s).level level) { journal = Some (record { journal = journal; signed = true }); journal_pending = [] }) (w.session s)))) w
+clearing_writes_by w s level false (ClearsJournal journal) =
+    with_files s (with_level level (record ((w.session s).level level) { journal_pending = ((w.session s).level level).journal_pending ++ record { journal = journal; signed = true } ∷ [] }) (w.session s)) w
+clearing_writes_by w s level true (ClearsPage journal) =
+    with_files s (with_clearing level Rests (with_level level (record ((w.session s).level level) { page = Some (record { page = journal.page; signed = true }); page_pending = [] }) (w.session s))) w
+clearing_writes_by w s level false (ClearsPage journal) =
+    with_files s (with_level level (record ((w.session s).level level) { page_pending = ((w.session s).level level).page_pending ++ record { page = journal.page; signed = true } ∷ [] }) (w.session s)) w
+clearing_writes_by w s level answered Rests = w
 
 -- ---- a get
 
@@ -312,20 +324,16 @@ a_get w r = record { kind = Reads None; session = r; op = w.begun; begin = w.now
 abbrev pub asks_for : SplitWorld → (r : ℕ) → SplitWorld
 asks_for w r = with_asker r (Searches w.begun no_page none_seen) (with_next_op (a_get w r) w)
 
-abbrev pub finds_old_by : SplitWorld → (r t : ℕ) → Reader → SplitWorld
-finds_old_by w r t (Searches op looked seen) =
-    if (w.session t).old_page.signed
-    then with_sign t (w.session t).old_page.page w
-    else with_asker r (Searches op (and_page t looked) (and_seen t (w.session t).old_page.page seen)) w
-finds_old_by w r t Idle = w
+abbrev pub finds_as : Levels → SplitWorld → (r t level op : ℕ) → (ℕ → Bool) → (ℕ → Page) → (sign : Option Page) → SplitWorld
+finds_as inside w r t level op looked seen None = w
+finds_as inside w r t level op looked seen (Some sign) =
+    if shows_signpost (level_page w t level)
+    then with_sign t (suc level) (counts (inside level) (level_page w t level) sign) w
+    else with_asker r (Searches op (and_page t looked) (and_seen t (counts (inside level) (level_page w t level) sign) seen)) w
 
-abbrev pub finds_new_as : (inside : ℕ → Bool) → SplitWorld → (r t op : ℕ) → (ℕ → Bool) → (ℕ → Page) → (sign : Option Page) → SplitWorld
-finds_new_as inside w r t op looked seen None = w
-finds_new_as inside w r t op looked seen (Some sign) = with_asker r (Searches op (and_page t looked) (and_seen t (counts inside (w.session t).new_page sign) seen)) w
-
-abbrev pub finds_new_by : (inside : ℕ → Bool) → SplitWorld → (r t sign : ℕ) → Reader → SplitWorld
-finds_new_by inside w r t sign (Searches op looked seen) = finds_new_as inside w r t op looked seen (slice_get (w.signs t) sign)
-finds_new_by inside w r t sign Idle = w
+abbrev pub finds_level_by : Levels → SplitWorld → (r t level sign : ℕ) → Reader → SplitWorld
+finds_level_by inside w r t level sign (Searches op looked seen) = finds_as inside w r t level op looked seen (slice_get (w.signs t level) sign)
+finds_level_by inside w r t level sign Idle = w
 
 abbrev pub tells_of_by : Setting → SplitWorld → (r : ℕ) → Reader → SplitWorld
 tells_of_by v w r (Searches op looked seen) =
@@ -336,40 +344,44 @@ tells_of_by v w r Idle = w
 
 -- ---- after a step
 
-abbrev pub splits : Setting → (inside : ℕ → Bool) → SplitWorld → SplitStep → SplitWorld
-splits v inside w (EntersOld s) = with_files s (record (w.session s) { hand = AtOld (w.session s).old_journal.signed (Knows (w.session s).old_journal.journal); clearing = Rests }) w
-splits v inside w (OldJournalLate s place) = old_journal_late w s place (slice_get (w.session s).old_journal_pending place)
-splits v inside w (OldPageLate s place) = old_page_late w s place (slice_get (w.session s).old_page_pending place)
-splits v inside w (NewJournalLate s place) = new_journal_late w s place (slice_get (w.session s).new_journal_pending place)
-splits v inside w (NewPageLate s place) = new_page_late w s place (slice_get (w.session s).new_page_pending place)
+-- its client is about to read its journal of level 0, and nothing is cleared
+abbrev pub started : Files → Files
+started x = record x { hand = GoesOn 0; clearing = λ k. Rests }
+
+abbrev pub splits : Setting → Levels → SplitWorld → SplitStep → SplitWorld
+splits v inside w (StartsAnew s) = with_files s (started (w.session s)) w
+splits v inside w (EntersLevel s) = enters_by inside w s (w.session s).hand
+splits v inside w (LevelJournalLate s level place) = level_journal_late w s level place (slice_get ((w.session s).level level).journal_pending place)
+splits v inside w (LevelPageLate s level place) = level_page_late w s level place (slice_get ((w.session s).level level).page_pending place)
 splits v inside w (Puts s name bytes) = if nat_lt s v.sessions then puts_by v inside w s name bytes (w.session s).hand else w
 splits v inside w (TidiesUp s) = if nat_lt s v.sessions then tidies_up_by w s (w.session s).hand else w
-splits v inside w (SeesOld s t) = if nat_lt t v.sessions then sees_old_by w s t (w.session s).hand else w
-splits v inside w (SeesNew s t sign) = if nat_lt t v.sessions then sees_new_by inside w s t sign (w.session s).hand else w
+splits v inside w (SeesLevel s t level sign) = if nat_lt t v.sessions then sees_level_by inside w s t level sign (w.session s).hand else w
 splits v inside w (ChoosesLine s more goes asks) = chooses_line_by v w s more goes asks (w.session s).hand
 splits v inside w (HandWrites s answered) = hand_writes_by v w s answered (w.session s).hand
 splits v inside w (Signs s) = signs_by w s (w.session s).hand
-splits v inside w (EntersNew s) = enters_new_by inside w s (w.session s).hand
-splits v inside w (Clears s goes) = clears_by inside w s goes (w.session s).hand
-splits v inside w (ClearingWrites s answered) = clearing_writes_by w s answered (w.session s).clearing
+splits v inside w (Clears s level goes) = clears_by inside w s level goes
+splits v inside w (ClearingWrites s level answered) = clearing_writes_by w s level answered ((w.session s).clearing level)
 splits v inside w (AsksFor r) = asks_for w r
-splits v inside w (FindsOld r t) = if nat_lt t v.sessions then finds_old_by w r t (w.reader r) else w
-splits v inside w (FindsNew r t sign) = if nat_lt t v.sessions then finds_new_by inside w r t sign (w.reader r) else w
+splits v inside w (FindsLevel r t level sign) = if nat_lt t v.sessions then finds_level_by inside w r t level sign (w.reader r) else w
 splits v inside w (TellsOf r) = tells_of_by v w r (w.reader r)
 
 abbrev pub tick_of : SplitWorld → SplitWorld
 tick_of w = record w { now = w.now + 1 }
 
-abbrev pub after_split_step : Setting → (inside : ℕ → Bool) → SplitWorld → SplitStep → SplitWorld
+abbrev pub after_split_step : Setting → Levels → SplitWorld → SplitStep → SplitWorld
 after_split_step v inside w step = tick_of (splits v inside w step)
 
-abbrev pub split_world_after : Setting → (inside : ℕ → Bool) → List SplitStep → SplitWorld
+abbrev pub split_world_after : Setting → Levels → List SplitStep → SplitWorld
 split_world_after v inside steps = fold (after_split_step v inside) first_world steps
 
 abbrev pub split_operations_of : SplitWorld → List Op
 split_operations_of w = map w.op (range_with_len 0 w.begun)
 
--- Whatever the steps, and whenever sessions split their pages, in the order by version a single register gives the same answers to the operations on the
--- watched name, and what ended before another began stands before it
+-- the name is inside, at each level
+abbrev pub IsInside : Levels → (name : ℕ) → Type 0
+IsInside inside name = (level : ℕ) → inside level name ≡ true
+
+-- Whatever the steps, and whenever sessions split their pages, as often as they like, in the order by version a single register gives the same answers to the
+-- operations on the watched name, and what ended before another began stands before it
 abbrev pub AllSplitsLegal : Type 0
-AllSplitsLegal = (v : Setting) (inside : ℕ → Bool) (steps : List SplitStep) → inside v.name ≡ true → Legal (split_operations_of (split_world_after v inside steps)) (order (split_operations_of (split_world_after v inside steps)))
+AllSplitsLegal = (v : Setting) (inside : Levels) (steps : List SplitStep) → IsInside inside v.name → Legal (split_operations_of (split_world_after v inside steps)) (order (split_operations_of (split_world_after v inside steps)))

@@ -6,11 +6,11 @@ use Rattle.gq_tag.specs.declared.Tag.{Tag}
 use Rattle.gq_tag.specs.Tag.{first_copy}
 use Rattle.gq_laws.specs.declared.ops.Kind.TheVariants.{Write as Writes, Read as Reads}
 use Rattle.gq_tag.specs.declared.StoredCopy.{StoredCopy}
-use Rattle.gq_names.specs.Names.{Setting, World, Step, Enters, PageLate, Begins, Tidies, Sees, Chooses, ClientWrites, Asks, Finds, Tells, shown, world_after, operations_of}
+use Rattle.gq_names.specs.Names.{Setting, World, Step, Enters, PageLate, Begins, Tidies, Sees, Chooses, ClientWrites, Asks, Finds, Tells, new_page, shown, world_after, operations_of}
 use Rattle.gq_names.specs.Contents.{Contents, Deed, Does, Keeps, Forgets, AllMay, new_state, state_after}
 use Rattle.gq_names.specs.Sweeping.{Turn, AreTurns, IsRound, after_turns}
-use Rattle.gq_names.specs.SplitContents.{SplitDeed, DoesStep, KeepsContent, ForgetsContent, AllSplitMay, first_state, split_state_after}
-use Rattle.gq_names.specs.Splitting.{SplitWorld, SplitStep, EntersOld, OldJournalLate, OldPageLate, Puts, SeesOld, SeesNew, ChoosesLine, HandWrites, Signs, EntersNew, Clears, ClearingWrites, AsksFor, FindsOld, FindsNew, TellsOf, split_world_after, split_operations_of}
+use Rattle.gq_names.specs.SplitContents.{SplitDeed, SplitState, DoesStep, KeepsContent, ForgetsContent, AllSplitMay, first_state, split_state_after}
+use Rattle.gq_names.specs.Splitting.{Levels, SplitWorld, SplitStep, StartsAnew, EntersLevel, LevelJournalLate, LevelPageLate, Puts, SeesLevel, ChoosesLine, HandWrites, Signs, Clears, ClearingWrites, AsksFor, FindsLevel, TellsOf, counts, shows_signpost, split_world_after, split_operations_of}
 
 -- two sessions; the name 7 is watched
 abbrev pub two : Setting
@@ -129,60 +129,79 @@ pub record AreContentsWorked : Type 0 where
   pub told : ((state_after two new_state deeds_worked).world.op 2).kind ≡ Reads (Some (66 ∷ []))
   pub forgotten : (state_after two new_state deeds_worked).forgotten 65 ≡ true
 
--- ---- a page that splits
+-- ---- a page that splits twice
 
-abbrev pub seven_alone : ℕ → Bool
-seven_alone = λ n. n == 7
+abbrev pub seven_alone : Levels
+seven_alone = λ level n. n == 7
 
 abbrev pub steps_split : List SplitStep
 steps_split =
     -- session 0 puts 65 under the name
-    Puts 0 7 (65 ∷ []) ∷ SeesOld 0 1 ∷ ChoosesLine 0 0 no_one no_one ∷ HandWrites 0 true ∷ HandWrites 0 true
+    EntersLevel 0 ∷ Puts 0 7 (65 ∷ []) ∷ SeesLevel 0 1 0 0 ∷ ChoosesLine 0 0 no_one no_one ∷ HandWrites 0 true ∷ HandWrites 0 true
     -- it is to split its page, gets no answer, and dies; its journal takes effect late. The next client writes it once more, and then the page, of which it
     -- gets no answer either
-    ∷ Signs 0 ∷ HandWrites 0 false ∷ EntersOld 0 ∷ OldJournalLate 0 0 ∷ EntersOld 0 ∷ Signs 0 ∷ HandWrites 0 true ∷ HandWrites 0 false ∷ OldPageLate 0 0
-    -- one more sees the signpost there, and goes on
-    ∷ EntersOld 0 ∷ Signs 0 ∷ EntersNew 0
+    ∷ Signs 0 ∷ HandWrites 0 false ∷ StartsAnew 0 ∷ LevelJournalLate 0 0 0 ∷ EntersLevel 0 ∷ Signs 0 ∷ HandWrites 0 true ∷ HandWrites 0 false ∷ LevelPageLate 0 0 0
+    -- one more sees the signpost there, and goes on to level 1
+    ∷ StartsAnew 0 ∷ EntersLevel 0 ∷ Signs 0 ∷ EntersLevel 0
     -- two look at the old page. One finds no new page, and tells 65
-    ∷ AsksFor 4 ∷ FindsOld 4 0 ∷ AsksFor 5 ∷ FindsOld 5 0 ∷ FindsNew 5 0 1 ∷ FindsOld 5 1 ∷ TellsOf 5
-    -- session 0 puts 66: its new page begins with the old line. It takes that out of the old page
-    ∷ Puts 0 7 (66 ∷ []) ∷ SeesOld 0 1 ∷ ChoosesLine 0 0 no_one no_one ∷ HandWrites 0 true ∷ HandWrites 0 true
-    ∷ Clears 0 all_of_them ∷ ClearingWrites 0 true ∷ ClearingWrites 0 true
-    -- the other one finds the new page, and tells 66
-    ∷ FindsNew 4 0 0 ∷ FindsOld 4 1 ∷ TellsOf 4
+    ∷ AsksFor 4 ∷ FindsLevel 4 0 0 0 ∷ AsksFor 5 ∷ FindsLevel 5 0 0 0 ∷ FindsLevel 5 0 1 0 ∷ FindsLevel 5 1 0 0 ∷ TellsOf 5
+    -- session 0 puts 66: its page of level 1 begins with the old line. It takes that out of the old page
+    ∷ Puts 0 7 (66 ∷ []) ∷ SeesLevel 0 1 0 0 ∷ ChoosesLine 0 0 no_one no_one ∷ HandWrites 0 true ∷ HandWrites 0 true ∷ Clears 0 0 all_of_them ∷ ClearingWrites 0 0 true ∷ ClearingWrites 0 0 true
+    -- it splits that page too, gets no answer when it writes it, and dies; the page takes effect late. The next client comes to level 2, step by step
+    ∷ Signs 0 ∷ HandWrites 0 true ∷ HandWrites 0 false ∷ StartsAnew 0 ∷ LevelPageLate 0 1 0 ∷ EntersLevel 0 ∷ Signs 0 ∷ EntersLevel 0 ∷ Signs 0 ∷ EntersLevel 0
+    -- the other one, who has seen the first signpost alone, finds the second one, and no page of level 2. So he tells 66
+    ∷ FindsLevel 4 0 1 0 ∷ FindsLevel 4 0 2 0 ∷ FindsLevel 4 1 0 0 ∷ TellsOf 4
+    -- session 0 puts 67 at level 2. As long as its page is pending somebody finds 66, and once that took effect another one finds 67
+    ∷ Puts 0 7 (67 ∷ []) ∷ SeesLevel 0 1 0 0 ∷ ChoosesLine 0 0 no_one no_one ∷ HandWrites 0 true ∷ HandWrites 0 false ∷ AsksFor 5 ∷ FindsLevel 5 0 2 0 ∷ LevelPageLate 0 2 0 ∷ FindsLevel 5 1 0 0 ∷ TellsOf 5 ∷ AsksFor 6 ∷ FindsLevel 6 0 2 0 ∷ FindsLevel 6 1 0 0 ∷ TellsOf 6
+    -- it takes its lines out of the page of level 1
+    ∷ Clears 0 1 all_of_them ∷ ClearingWrites 0 1 true ∷ ClearingWrites 0 1 true
     -- session 1, whose page has not split, takes the name away; and somebody finds nothing
-    ∷ Puts 1 7 [] ∷ SeesOld 1 0 ∷ SeesNew 1 0 0 ∷ ChoosesLine 1 0 no_one no_one ∷ HandWrites 1 true ∷ HandWrites 1 true
-    ∷ AsksFor 5 ∷ FindsNew 5 0 0 ∷ FindsOld 5 1 ∷ TellsOf 5 ∷ []
+    ∷ EntersLevel 1 ∷ Puts 1 7 [] ∷ SeesLevel 1 0 2 0 ∷ ChoosesLine 1 0 no_one no_one ∷ HandWrites 1 true ∷ HandWrites 1 true ∷ AsksFor 5 ∷ FindsLevel 5 0 2 0 ∷ FindsLevel 5 1 0 0 ∷ TellsOf 5 ∷ []
 
 abbrev pub world_split : SplitWorld
 world_split = split_world_after two seven_alone steps_split
 
 pub record IsSplitWorked : Type 0 where
+  -- the last put has not ended, and its version is known, since a get told it
   pub told : split_operations_of world_split ≡
-      record { kind = Writes (65 ∷ []); session = 0; op = 0; begin = 0; end = Some 4; tag = Some (version 1 0) }
-      ∷ record { kind = Reads (Some (66 ∷ [])); session = 4; op = 1; begin = 17; end = Some 34; tag = Some (version 2 0) }
-      ∷ record { kind = Reads (Some (65 ∷ [])); session = 5; op = 2; begin = 19; end = Some 23; tag = Some (version 1 0) }
-      ∷ record { kind = Writes (66 ∷ []); session = 0; op = 3; begin = 24; end = Some 28; tag = Some (version 2 0) }
-      ∷ record { kind = Writes []; session = 1; op = 4; begin = 35; end = Some 40; tag = Some (version 3 1) }
-      ∷ record { kind = Reads (Some []); session = 5; op = 5; begin = 41; end = Some 44; tag = Some (version 3 1) }
+      record { kind = Writes (65 ∷ []); session = 0; op = 0; begin = 1; end = Some 5; tag = Some (version 1 0) }
+      ∷ record { kind = Reads (Some (66 ∷ [])); session = 4; op = 1; begin = 19; end = Some 47; tag = Some (version 2 0) }
+      ∷ record { kind = Reads (Some (65 ∷ [])); session = 5; op = 2; begin = 21; end = Some 25; tag = Some (version 1 0) }
+      ∷ record { kind = Writes (66 ∷ []); session = 0; op = 3; begin = 26; end = Some 30; tag = Some (version 2 0) }
+      ∷ record { kind = Writes (67 ∷ []); session = 0; op = 4; begin = 48; end = None; tag = Some (version 3 0) }
+      ∷ record { kind = Reads (Some (66 ∷ [])); session = 5; op = 5; begin = 53; end = Some 57; tag = Some (version 2 0) }
+      ∷ record { kind = Reads (Some (67 ∷ [])); session = 6; op = 6; begin = 58; end = Some 61; tag = Some (version 3 0) }
+      ∷ record { kind = Writes []; session = 1; op = 7; begin = 66; end = Some 70; tag = Some (version 4 1) }
+      ∷ record { kind = Reads (Some []); session = 5; op = 8; begin = 71; end = Some 74; tag = Some (version 4 1) }
       ∷ []
-  -- the old page has the signpost, and no line of the name any more
-  pub signed : (world_split.session 0).old_page.signed ≡ true
-  pub cleared : (world_split.session 0).old_page.page.line 7 ≡ first_copy
+  -- both old pages have the signpost, and no line of the name any more
+  pub signed : shows_signpost ((world_split.session 0).level 0).page ≡ true
+  pub signed_again : shows_signpost ((world_split.session 0).level 1).page ≡ true
+  pub cleared : (counts (seven_alone 0) ((world_split.session 0).level 0).page new_page).line 7 ≡ first_copy
+  pub cleared_again : (counts (seven_alone 1) ((world_split.session 0).level 1).page new_page).line 7 ≡ first_copy
 
--- session 0 puts a content under the name, at its old files or at its new ones
+-- session 0 puts a content under the name, at the level that it has come to
 abbrev pub puts_split : (content : ℕ) → List SplitDeed
-puts_split content = KeepsContent content ∷ DoesStep (Puts 0 7 (content ∷ [])) ∷ DoesStep (SeesOld 0 1) ∷ DoesStep (ChoosesLine 0 0 no_one no_one) ∷ DoesStep (HandWrites 0 true) ∷ DoesStep (HandWrites 0 true) ∷ []
+puts_split content = KeepsContent content ∷ DoesStep (Puts 0 7 (content ∷ [])) ∷ DoesStep (SeesLevel 0 1 0 0) ∷ DoesStep (ChoosesLine 0 0 no_one no_one) ∷ DoesStep (HandWrites 0 true) ∷ DoesStep (HandWrites 0 true) ∷ []
 
--- it puts a content, splits its page, and puts another one. Then the first one is forgotten, though the old page still shows it; and somebody gets the other one
+-- it splits its page there, and comes to the next level
+abbrev pub goes_on_split : List SplitDeed
+goes_on_split = DoesStep (Signs 0) ∷ DoesStep (HandWrites 0 true) ∷ DoesStep (HandWrites 0 true) ∷ DoesStep (Signs 0) ∷ DoesStep (EntersLevel 0) ∷ []
+
+-- It puts a content, splits its page twice, and puts another one at level 2. Then the first one is forgotten, though both old pages still show it; and somebody
+-- gets the other one
 abbrev pub deeds_split : List SplitDeed
 deeds_split =
-    puts_split 65 ++ ((DoesStep (Signs 0) ∷ DoesStep (HandWrites 0 true) ∷ DoesStep (HandWrites 0 true) ∷ DoesStep (Signs 0) ∷ DoesStep (EntersNew 0) ∷ []) ++ (puts_split 66
-    ++ ForgetsContent 65 ∷ DoesStep (AsksFor 5) ∷ DoesStep (FindsOld 5 0) ∷ DoesStep (FindsNew 5 0 0) ∷ DoesStep (FindsOld 5 1) ∷ DoesStep (TellsOf 5) ∷ []))
+    DoesStep (EntersLevel 0) ∷ (puts_split 65 ++ (goes_on_split ++ (goes_on_split ++ (puts_split 66
+    ++ ForgetsContent 65 ∷ DoesStep (AsksFor 5) ∷ DoesStep (FindsLevel 5 0 0 0) ∷ DoesStep (FindsLevel 5 0 1 0) ∷ DoesStep (FindsLevel 5 0 2 0) ∷ DoesStep (FindsLevel 5 1 0 0) ∷ DoesStep (TellsOf 5) ∷ []))))
+
+abbrev pub state_split : SplitState
+state_split = split_state_after two seven_alone first_state deeds_split
 
 pub record AreSplitContentsWorked : Type 0 where
   -- all keep the rules
   pub may : AllSplitMay two by_number seven_alone first_state deeds_split
-  pub told : ((split_state_after two seven_alone first_state deeds_split).world.op 2).kind ≡ Reads (Some (66 ∷ []))
-  pub forgotten : (split_state_after two seven_alone first_state deeds_split).forgotten 65 ≡ true
-  pub shows : (shown ((split_state_after two seven_alone first_state deeds_split).world.session 0).old_page.page 7).bytes ≡ 65 ∷ []
+  pub told : (state_split.world.op 2).kind ≡ Reads (Some (66 ∷ []))
+  pub forgotten : state_split.forgotten 65 ≡ true
+  pub shows : (shown (counts (seven_alone 0) ((state_split.world.session 0).level 0).page new_page) 7).bytes ≡ 65 ∷ []
+  pub shows_too : (shown (counts (seven_alone 1) ((state_split.world.session 0).level 1).page new_page) 7).bytes ≡ 65 ∷ []
