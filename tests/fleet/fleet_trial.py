@@ -3,8 +3,8 @@
     fleet_trial.py GRIDFS [SECONDS] [--grids N] [--kills N] [--bug NAME]
 
 Each grid is one of ./grid. Clients begin by the map as it is, or by one from before, and have their sessions for a few operations. `gridfs-fleet spread`
-is begun anew where it was killed; once all slices are spread, some are moved elsewhere. What is started here is ended, each by its process. Then all slices have to be spread, each name's history has to have an
-order, and each grid that names left has none of them.
+is begun anew where it was killed; once all slices are spread, some are moved elsewhere. What is started here is ended, each by its process. Then all slices
+have to be spread, each name's history has to have an order, and no mover may have met anything but silence or sessions that others use.
 """
 
 import argparse
@@ -25,12 +25,14 @@ TOP = os.path.join(HERE, "..", "..")
 sys.path[:0] = [HERE, os.path.join(HERE, "..", "names")]
 import trial as names_trial
 
+from gridfs_client.errors import SessionTaken, Unanswered
 from gridfs_client.fleet_map import read_map
 
 LABELS = ["north", "east", "south", "west"]
 CLIENTS, SESSIONS = 3, 8
 STARTED, PATIENCE = 60, 90  # seconds
 TENANT = "ann"
+MAY_END = {0, Unanswered.status, SessionTaken.status}  # a mover, beside clients and while nodes are away
 
 
 class Trial:
@@ -38,7 +40,7 @@ class Trial:
         self.folder, self.program, self.bug, self.draw = folder, program, bug, random.Random()
         self.map, self.log = f"{folder}/map", open(f"{folder}/log", "ab")
         self.grids, self.clients, self.mover = {}, {}, None
-        self.count = collections.Counter()
+        self.count, self.statuses = collections.Counter(), set()  # the latter those of movers
 
     def start_grid(self, label, **plan):
         names_trial.write_plan(f"{self.folder}/{label}.plan", tenant=TENANT, **{"sessions": SESSIONS, "each": 2, **plan})
@@ -53,7 +55,7 @@ class Trial:
             out.write(f"[gridfs]\ntenant = {TENANT}\nsocket = {self.folder}/{label}/socket\nlocks = {self.folder}/locks.{label}\n")
 
     def fleet(self, *words):
-        return [sys.executable, "-B", os.path.join(TOP, "clients", "python", "gridfs-fleet"), "--map", self.map, *words]
+        return [sys.executable, "-B", f"{HERE}/fleet_mover.py", "--map", self.map, *words]
 
     def tell(self, *words):
         subprocess.run(self.fleet(*words), check=True, stdout=self.log, stderr=self.log)
@@ -69,6 +71,7 @@ class Trial:
             self.count["movers ended"] += 1
             if self.mover.returncode:
                 self.count[f"movers with status {self.mover.returncode}"] += 1
+            self.statuses.add(self.mover.returncode)
             self.mover = None
         now, words = read_map(self.map), ["spread"]
         if self.mover is None and not now.moves and not now.next_part() and not is_over:
@@ -150,6 +153,7 @@ def run(folder, program, seconds, grids, kills, bug=None):
             now = read_map(trial.map)
         trial.count["moves"] = now.last_move
         if not bug:
+            wrong += [f"a mover has ended with status {status}" for status in sorted(trial.statuses - MAY_END)]
             told = subprocess.run(trial.fleet("status"), capture_output=True, text=True, check=False)
             trial.log.write(told.stdout.encode())
             if told.returncode or len(set(now.shares().values())) > 1:
