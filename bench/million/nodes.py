@@ -35,8 +35,8 @@ from gridfs_grid.carried import free_ports
 from gridfs_grid.carrier import Carrier, Node, journal_of
 from gridfs_grid.planned import planned
 from gridfs_grid.tenant import tick_of
+from gridfs_s3.going_on import WORD_OF_GRID
 from gridfs_s3.index import ADDED, Index, stored
-from gridfs_s3.sessions import WORD_OF_GRID
 
 STEP = 7_919  # from one name to the next
 SESSIONS, FILES = 8, 64  # files of a volume: eight pages of each session

@@ -3,7 +3,7 @@
 
     histories_beside.py FIRST COUNT      so many from a seed on; the status is 1 where one has no order
 
-They are those of histories_in_memory.py, with gateways that are killed and writes that take effect late. Who lists asks the others as sessions.py does, between two steps of these.
+They are those of histories_in_memory.py, with gateways that are killed and writes that take effect late. Who lists asks the others as all_pages.py does, between two steps of these.
 """
 
 import contextlib

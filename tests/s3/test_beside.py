@@ -20,8 +20,8 @@ import test_going_on
 from bodies_in_memory import Body
 from gridfs_client.errors import Unanswered
 from gridfs_s3 import peers
+from gridfs_s3.all_pages import AllPages
 from gridfs_s3.peers import NEVER, AllBut, Changes
-from gridfs_s3.sessions import Pool
 from gridfs_s3.shared import Shared
 from gridfs_s3.store import Store
 from memory import Memory, MemorySession
@@ -215,15 +215,16 @@ class Asked(unittest.TestCase):
         self.assertEqual(self.told(idle), (True, True))
 
 
-def pool_of(told, looks, sessions=3, far=()):
-    """A pool with session 1, which is settled; others tell this by session, and these at addresses."""
-    pool = Pool.__new__(Pool)
+def pages_of(told, looks, sessions=3, far=()):
+    """All pages, of a gateway with session 1, which is settled; others tell this by session, and these at addresses."""
+    pool = types.SimpleNamespace()
     layout = types.SimpleNamespace(pages=4, levels=[types.SimpleNamespace(page_volumes=range(4))], pages_in=lambda volume: range(volume, volume + 1), page=lambda _, page: (page, 0))
     store = types.SimpleNamespace(settled={0, 1, 2, 3}, writer=types.SimpleNamespace(has_settled_all=lambda: True))
-    pool.layout, pool.sessions, pool.looks, pool.looked, pool.known = layout, sessions, asyncio.Lock(), 0.0, (0, {})
+    pool.layout, pool.sessions = layout, sessions
     pool.workers = {1: types.SimpleNamespace(store=store, is_silent=False, is_lent=False, settled_when_lent=())}
     pool.shared = types.SimpleNamespace(index=types.SimpleNamespace(beginnings=0, open=set(), is_begun=lambda *_: True), changes=Changes())
-    pool.secret, pool.claims = lambda: KEY, types.SimpleNamespace(name=lambda number: number)
+    pool.claims, pages = types.SimpleNamespace(name=lambda number: number), AllPages(pool, {})
+    pages.secret, pages.questions = lambda: KEY, []
 
     async def lease():
         return None
@@ -235,18 +236,18 @@ def pool_of(told, looks, sessions=3, far=()):
         return True
 
     async def ask_all(key, known):
-        pool.asked += [(0, known(start)) for start, *_ in far]
+        pages.questions += [(0, known(start)) for start, *_ in far]
         return [peers.Told(*each) for each in far]
 
     async def ask(reach, key, session, known):
         start, *rest = told[session]
-        pool.asked.append((session, known(start)))
+        pages.questions.append((session, known(start)))
         return peers.Told(start, *rest) if rest else None
 
-    pool.lease, pool.run, pool.has_sessions, pool.asked = lease, run, has_sessions, []
-    pool.remote = types.SimpleNamespace(ask_all=ask_all)
+    pool.lease, pool.run, pages.has_sessions = lease, run, has_sessions
+    pages.remote = types.SimpleNamespace(ask_all=ask_all)
     peers.ask = ask
-    return pool
+    return pages
 
 
 class Where(unittest.TestCase):
@@ -255,81 +256,81 @@ class Where(unittest.TestCase):
     def setUp(self):
         self.addCleanup(setattr, peers, "ask", peers.ask)
 
-    def look(self, pool):
+    def look(self, pages):
         self.seen = []
-        asyncio.run(pool.look_at_all())
+        asyncio.run(pages.look())
         return self.seen
 
-    def pool(self, told, **more):
-        return pool_of(told, lambda volume: self.seen.append(volume), **more)
+    def pages(self, told, **more):
+        return pages_of(told, lambda volume: self.seen.append(volume), **more)
 
     def test_it(self):
         every = [0, 1, 2, 3]
         told = {2: ("a", frozenset({2, 3}), 7, None), 3: ("b", frozenset({3}), 0, frozenset())}
-        pool = self.pool(told)
-        self.assertEqual((self.look(pool), pool.asked, pool.known), (every, [(2, NEVER)], (0, {"a": 7})))
+        pages = self.pages(told)
+        self.assertEqual((self.look(pages), pages.questions, pages.known), (every, [(2, NEVER)], (0, {"a": 7})))
         told[2] = "a", frozenset({2, 3}), 9, frozenset({3, 1})
-        self.assertEqual((self.look(pool), pool.asked[1:], pool.known), ([1, 3], [(2, 7)], (0, {"a": 9})))
+        self.assertEqual((self.look(pages), pages.questions[1:], pages.known), ([1, 3], [(2, 7)], (0, {"a": 9})))
         told[2] = "a", frozenset({2}), 9, frozenset()
-        self.assertEqual((self.look(pool), pool.asked[2:], pool.known), ([], [(2, 9), (3, NEVER)], (0, {"a": 9, "b": 0})))
-        pool.shared.index.open = {2}  # (a page asks for a later one)
-        self.assertEqual(self.look(pool), [2])
+        self.assertEqual((self.look(pages), pages.questions[2:], pages.known), ([], [(2, 9), (3, NEVER)], (0, {"a": 9, "b": 0})))
+        pages.pool.shared.index.open = {2}  # (a page asks for a later one)
+        self.assertEqual(self.look(pages), [2])
         # One that does not answer, or has no session of that number any more; then what it told counts no more.
         for gone in (("a",), ("a", frozenset({4}), 9, frozenset())):
             told[2] = gone
-            self.assertEqual((self.look(pool), pool.known), (every, (0, {})))
+            self.assertEqual((self.look(pages), pages.known), (every, (0, {})))
         # The index was begun anew, and has no pages of others.
         told[2] = "a", frozenset({2, 3}), 9, frozenset()
-        pool.known = 0, {"a": 9}
-        pool.shared.index.beginnings = 1
-        self.look(pool)
-        self.assertEqual((pool.asked[-1], pool.known), ((2, NEVER), (1, {"a": 9})))
+        pages.known = 0, {"a": 9}
+        pages.pool.shared.index.beginnings = 1
+        self.look(pages)
+        self.assertEqual((pages.questions[-1], pages.known), ((2, NEVER), (1, {"a": 9})))
 
     def test_gateways_at_addresses(self):
         """All of these are asked, and by names those that have what they have not. One with the same sessions may have them still, or again."""
         every, told, far = [0, 1, 2, 3], {3: ("c", frozenset({3}), 4, frozenset({3}))}, [("a", frozenset({2}), 7, frozenset({1})), ("b", frozenset({2}), 8, frozenset({2}))]
-        pool = self.pool(told, far=far)
-        pool.known = 0, {"a": 6}
-        self.assertEqual((self.look(pool), pool.asked, pool.known), ([1, 2, 3], [(0, 6), (0, NEVER), (3, NEVER)], (0, {"a": 7, "b": 8, "c": 4})))
+        pages = self.pages(told, far=far)
+        pages.known = 0, {"a": 6}
+        self.assertEqual((self.look(pages), pages.questions, pages.known), ([1, 2, 3], [(0, 6), (0, NEVER), (3, NEVER)], (0, {"a": 7, "b": 8, "c": 4})))
         far[1] = "b", frozenset({3}), 8, None
-        self.assertEqual((self.look(pool), pool.asked[3:]), (every, [(0, 7), (0, 8)]))
+        self.assertEqual((self.look(pages), pages.questions[3:]), (every, [(0, 7), (0, 8)]))
         far[1] = "b", frozenset({3}), 8, frozenset()
-        self.assertEqual(self.look(pool), [1])
-        far.append((pool.shared.changes.start, frozenset({1}), 0, None))  # (its own address is among these)
-        self.assertEqual(self.look(pool), [1])
+        self.assertEqual(self.look(pages), [1])
+        far.append((pages.pool.shared.changes.start, frozenset({1}), 0, None))  # (its own address is among these)
+        self.assertEqual(self.look(pages), [1])
         far[:2] = []
         told[2] = ("d",)
-        self.assertEqual((self.look(pool), pool.known), (every, (0, {})))
+        self.assertEqual((self.look(pages), pages.known), (every, (0, {})))
 
     def test_a_look_that_fails(self):
         """What was told before it has to be looked at still."""
-        pool = self.pool({2: ("a", frozenset({2, 3}), 9, frozenset({1}))})
-        pool.known, run = (0, {"a": 7}), pool.run
+        pages = self.pages({2: ("a", frozenset({2, 3}), 9, frozenset({1}))})
+        pages.known, run = (0, {"a": 7}), pages.pool.run
 
         async def fails(*_, **__):
             raise Unanswered("silent")
 
-        pool.run = fails
+        pages.pool.run = fails
         with self.assertRaises(Unanswered):
-            self.look(pool)
-        pool.run = run
-        self.assertEqual((self.look(pool), pool.asked), ([1], [(2, 7), (2, 7)]))
+            self.look(pages)
+        pages.pool.run = run
+        self.assertEqual((self.look(pages), pages.questions), ([1], [(2, 7), (2, 7)]))
 
     def test_what_is_told(self):
         """Not before all pages are settled; and what a note says of a session that is lent."""
-        pool = self.pool({})
-        changes = pool.shared.changes
+        pages = self.pages({})
+        changes = pages.pool.shared.changes
         changes.ends(1, 3)
-        told = lambda count: asyncio.run(pool.changed_since(count))
+        told = lambda count: asyncio.run(pages.changed_since(count))
         self.assertEqual((told(0), told(1), told(NEVER)), ((1, {3}), (1, set()), (1, None)))
         changes.begins(1, 2)
         self.assertEqual(told(1), (1, {2}))
 
-        async def noted(pages):
-            return pages
+        async def noted(settled):
+            return settled
 
         for settled, wanted in (([AllBut(), AllBut({0})], {0, 2}), ([AllBut(), {0, 1, 2}], None), ([()], None)):
-            pool.settled_now = lambda settled=settled: noted(settled)
+            pages.settled_now = lambda settled=settled: noted(settled)
             self.assertEqual(told(1), (1, wanted))
 
 

@@ -25,10 +25,12 @@ from gridfs_client.errors import Unanswered
 from gridfs_client.fleet_map import read_map
 from gridfs_client.layout import Layout, Volume
 from gridfs_client.sessions import Pace, Session
-from gridfs_s3 import sessions
+from gridfs_s3 import going_on
+from gridfs_s3.all_pages import SURE_FOR, AllPages
 from gridfs_s3.notes import Begun, Notes
-from gridfs_s3.sessions import SURE_FOR, Pool
+from gridfs_s3.sessions import Pool
 from gridfs_s3.store import Store
+from gridfs_s3.sweeping import Sweeps
 from gridfs_s3.workers import Lending, Worker
 
 COUNT, SESSIONS = 40, 8
@@ -484,7 +486,7 @@ class HowFar(unittest.TestCase):
     def test_all_pages_are_looked_at_first(self):
         """After a kill: a session goes on only once the index has all pages as they are; and not where no look ends well."""
         for faults, wanted in ((2, ["look", "look", "look", "went on"]), (99, ["look"] * 5)):
-            pool, done, left = Pool.__new__(Pool), [], [Unanswered("silent")] * faults
+            done, left = [], [Unanswered("silent")] * faults
 
             async def look():
                 done.append("look")
@@ -494,9 +496,10 @@ class HowFar(unittest.TestCase):
             async def go_on(*_):
                 done.append("went on")
 
-            pool.look_at_all, pool.go_on_by_after = look, go_on
-            with mock.patch.multiple(sessions, RETRY=0, TRIES=5):
-                asyncio.run(pool.go_on_after([(None, None, None)]))
+            found = going_on.GoingOn(types.SimpleNamespace(all_pages=types.SimpleNamespace(look=look)))
+            found.go_on_by_after = go_on
+            with mock.patch.multiple(going_on, RETRY=0, TRIES=5):
+                asyncio.run(found.go_on_after([(None, None, None)]))
             self.assertEqual(done, wanted)
 
     def test_what_a_command_notes(self):
@@ -551,7 +554,7 @@ class HowFar(unittest.TestCase):
                 pool = Pool.__new__(Pool)
                 pool.settings = types.SimpleNamespace(end_path=lambda _: path, is_wanted=lambda _: True)
                 pool.shared = types.SimpleNamespace(index=types.SimpleNamespace(beginnings=0))
-                pool.lending, pool.unswept, pool.lends, pool.renew = Lending(), set(), {1}, lambda _: None
+                pool.lending, pool.sweeps, pool.lends, pool.renew = Lending(), Sweeps(pool), {1}, lambda _: None
                 worker = Worker(types.SimpleNamespace(number=1, home=2, last=8), io.BytesIO())
                 worker.store = types.SimpleNamespace(writer=types.SimpleNamespace(carried=carried, has_settled_all=lambda: len(carried) == 2))
 
@@ -578,27 +581,27 @@ class HowFar(unittest.TestCase):
             pool = Pool.__new__(Pool)
             pool.settings, pool.layout = types.SimpleNamespace(end_path=lambda _: path), self.store(8).layout
             pool.shared = types.SimpleNamespace(index=types.SimpleNamespace(beginnings=0))
-            worker = Worker(types.SimpleNamespace(number=1, home=2, last_at_home=told, pace=Pace()), None)
+            worker, pages = Worker(types.SimpleNamespace(number=1, home=2, last_at_home=told, pace=Pace()), None), AllPages(pool, {})
             worker.settled_when_lent = {0: Tag(5, 1), 1: Tag(6, 1), 2: Tag(7, 1)}
             for last, note, left in (
                 (8, End(2, 8), {0, 1, 2}), (9, End(2, 8), {0, 1, 2}), (9, End(2, 9, frozenset({(0, 2)})), {1, 2}), (9, End(2, 12, frozenset({(0, 2), (3, 3)})), {1}),
                 (10, End(2, 8), set()), (8, End(66, 8), set()), (8, None, set()), (None, End(2, 8), set()),
             ):  # fmt: skip
                 write_end(path, End(2, 8))
-                found = pool.settled_in_note(worker)
+                found = pages.settled_in_note(worker)
                 self.assertEqual({page for page in range(3) if page in found}, left, (last, note))
                 worker.settled_when_lent.pop(2)
-                found = pool.settled_in_note(worker)
+                found = pages.settled_in_note(worker)
                 self.assertEqual({page for page in range(3) if page in found}, left - {2}, (last, note))
                 worker.settled_when_lent[2] = Tag(7, 1)
             write_end(path, End(2, 8))
             last, note, pool.shared.index.beginnings = 8, End(2, 8), 1  # (the index was begun anew, and has them no more)
-            self.assertEqual(pool.settled_in_note(worker), ())
+            self.assertEqual(pages.settled_in_note(worker), ())
             pool.shared.index.beginnings, settled = 0, {1: Tag(6, 1)}
             worker.store = types.SimpleNamespace(settled={}, writer=types.SimpleNamespace(has_settled_all=lambda: False))
             worker.store.has_back = lambda *_: (self.assertTrue(worker.settled_when_lent), vars(worker.store).update(settled=settled))
             pool.have_back(worker, settled)
-            self.assertEqual((worker.settled_when_lent, pool.settled_in_note(worker), path.exists()), ((), settled, False))
+            self.assertEqual((worker.settled_when_lent, pages.settled_in_note(worker), path.exists()), ((), settled, False))
 
     def test_notes(self):
         """What is noted of a session, and is believed where its home tells that number, or the one before."""

@@ -30,9 +30,9 @@ from gridfs_client.fleet import ground_of
 from gridfs_client.fleet_map import SLICES, new_map
 from gridfs_client.pages import parse_page
 from gridfs_client.settings import Settings
-from gridfs_s3 import sessions
+from gridfs_s3 import growing
+from gridfs_s3.all_pages import AllPages
 from gridfs_s3.index import Index
-from gridfs_s3.sessions import Pool
 from gridfs_s3.shared import Shared
 from gridfs_s3.store import Store
 from gridfs_s3.trips import Trip
@@ -376,13 +376,12 @@ class Steps(unittest.TestCase):
 class Looks(unittest.TestCase):
     def test_levels_one_after_another(self):
         """For a listing the new pages are looked at once all old ones were, of those that have split as was seen by then."""
-        pool, told = Pool.__new__(Pool), []
+        pool, told = types.SimpleNamespace(), []
         pool.layout = Memory(sessions=1, pages=2, levels=(2, 2)).layout
         first, second, third = (list(range(level.volume, level.volume + level.volumes)) for level in pool.layout.levels)
         index = Index()
         index.layout = pool.layout
-        pool.shared, pool.sessions, pool.looks, pool.looked = types.SimpleNamespace(index=index), 2, asyncio.Lock(), 0.0
-        pool.known, pool.secret = (0, {}), None
+        pool.shared, pool.sessions, pages = types.SimpleNamespace(index=index), 2, AllPages(pool, {})
         store = types.SimpleNamespace(settled=(), writer=types.SimpleNamespace(has_settled_all=lambda: False))
         pool.workers = {number: types.SimpleNamespace(store=store, is_silent=False, is_lent=False, settled_when_lent=()) for number in (1, 2)}
 
@@ -399,8 +398,8 @@ class Looks(unittest.TestCase):
         async def has_sessions():
             return True
 
-        pool.lease, pool.run, pool.has_sessions = lease, run, has_sessions
-        asyncio.run(pool.look_at_all())
+        pool.lease, pool.run, pages.has_sessions = lease, run, has_sessions
+        asyncio.run(pages.look())
         new = [volume for volume in second if any(pool.layout.before(page) == 0 for page in pool.layout.pages_in(volume))]
         self.assertEqual(told, [first, "ended", new, "ended"])
         self.assertFalse(set(third) & set(new))
@@ -411,11 +410,10 @@ class Paces(unittest.TestCase):
 
     sleep = staticmethod(asyncio.sleep)
 
-    def pool(self, numbers=(1, 2, 3, 4, 5, 6), split=lambda number: None):
-        pool, self.done, self.at_once, self.rests = Pool.__new__(Pool), [], [], []
+    def growing(self, numbers=(1, 2, 3, 4, 5, 6), split=lambda number: None):
+        pool, self.done, self.at_once, self.rests = types.SimpleNamespace(named=str), [], [], []
         pool.workers = {number: types.SimpleNamespace(number=number, is_lent=False, is_silent=False) for number in numbers}
-        pool.tried_to_split, pool.asked, pool.grid = {}, time.monotonic(), ""
-        under_way = set()
+        pool.asked, under_way = time.monotonic(), set()
 
         async def lease(number):
             return pool.workers[number]
@@ -428,19 +426,19 @@ class Paces(unittest.TestCase):
             return work(types.SimpleNamespace(split=lambda page: self.done.append((worker.number, page)) or split(worker.number)))
 
         sleep = self.sleep
-        self.enterContext(mock.patch.object(sessions.asyncio, "sleep", lambda seconds: self.rests.append(seconds) or sleep(0)))
-        self.enterContext(mock.patch.object(sessions.time, "thread_time", iter(range(1_000)).__next__))
+        self.enterContext(mock.patch.object(growing.asyncio, "sleep", lambda seconds: self.rests.append(seconds) or sleep(0)))
+        self.enterContext(mock.patch.object(growing.time, "thread_time", iter(range(1_000)).__next__))
         pool.lease, pool.run = lease, run
-        return pool
+        return growing.Growing(pool)
 
     def test_some_at_a_time(self):
         """Requests find a session; and who asks has as much of the processor, but nobody waits for one who is not there."""
         for numbers, most in (((1, 2, 3, 4, 5, 6), 2), ((1, 2, 3), 1), ((1,), 1)):
-            pool = self.pool(numbers)
-            asyncio.run(pool.split(7, set(range(1, 9))))
+            found = self.growing(numbers)
+            asyncio.run(found.split(7, set(range(1, 9))))
             self.assertEqual((self.done, max(self.at_once), self.rests), ([(number, 7) for number in numbers], most, [len(numbers)]))
-            pool.asked -= sessions.ASKS_FOR
-            asyncio.run(pool.split(8, {1}))
+            found.pool.asked -= growing.ASKS_FOR
+            asyncio.run(found.split(8, {1}))
             self.assertEqual(self.rests, [len(numbers), 0])
 
     def test_those_that_can_not(self):
@@ -450,47 +448,47 @@ class Paces(unittest.TestCase):
             if number == 2:
                 raise Unanswered("none")
 
-        pool = self.pool(split=fails)
-        pool.workers[1].is_lent = pool.workers[3].is_silent = True
-        with mock.patch.object(sessions, "tell") as told:
-            asyncio.run(pool.split(7, {1, 2, 3, 4}))
-            asyncio.run(pool.split(7, {1, 2, 3}))
+        found = self.growing(split=fails)
+        found.pool.workers[1].is_lent = found.pool.workers[3].is_silent = True
+        with mock.patch.object(growing, "tell") as told:
+            asyncio.run(found.split(7, {1, 2, 3, 4}))
+            asyncio.run(found.split(7, {1, 2, 3}))
         self.assertEqual((self.done, told.call_count), ([(2, 7), (4, 7)], 1))
-        pool.tried_to_split[2, 7] -= sessions.TIDY
-        asyncio.run(pool.split(7, {2}))
+        found.tried[2, 7] -= growing.AGAIN
+        asyncio.run(found.split(7, {2}))
         self.assertEqual(self.done[2:], [(2, 7)])
 
     def test_one_that_is_lent_meanwhile(self):
         """Nobody waits for long until it comes back."""
-        pool = self.pool()
+        found = self.growing()
 
         async def lease(number):
             if number == 1:
                 await asyncio.Event().wait()
-            return pool.workers[number]
+            return found.pool.workers[number]
 
-        pool.lease = lease
-        with mock.patch.object(sessions, "tell"), mock.patch.object(sessions, "SPLIT_LEASE", 0.05):
-            asyncio.run(asyncio.wait_for(pool.split(7, {1, 2}), 10))
+        found.pool.lease = lease
+        with mock.patch.object(growing, "tell"), mock.patch.object(growing, "SPLIT_LEASE", 0.05):
+            asyncio.run(asyncio.wait_for(found.split(7, {1, 2}), 10))
         self.assertEqual(self.done, [(2, 7)])
 
     def test_as_long_as_it_is_wanted(self):
         """All pages of all levels but the last split; no more once nobody waits, and then others may have the sessions."""
-        pool = self.pool((1, 2))
-        pool.layout, pool.wants_plan = Memory(sessions=2, pages=2, levels=(2, 2)).layout, asyncio.Event()
-        pool.shared = types.SimpleNamespace(index=types.SimpleNamespace(whole=lambda page: {2} if page == 1 else set()))
+        found = self.growing((1, 2))
+        found.pool.layout = Memory(sessions=2, pages=2, levels=(2, 2)).layout
+        found.pool.shared = types.SimpleNamespace(index=types.SimpleNamespace(whole=lambda page: {2} if page == 1 else set()))
         for wanted, last in ((True, 6), (False, 1)):
             locks = {number: mock.Mock() for number in (1, 2)}
-            every, pool.growing, self.done[:] = list(locks.values()), locks, []
+            every, found.locks, self.done[:] = list(locks.values()), locks, []
             pages = []
 
             async def split(page, whose, pages=pages, wanted=wanted):
                 pages.append((page, set(whose)))
                 if not wanted:
-                    pool.growing = None
+                    found.locks = None
 
-            pool.split = split
-            asyncio.run(pool.grow(locks))
+            found.split = split
+            asyncio.run(found.grow(locks))
             self.assertEqual(pages, [(page, {1} if page == 1 else {1, 2}) for page in range(last)])
             self.assertEqual(([lock.close.call_count for lock in every], locks), ([1, 1], {}))
 

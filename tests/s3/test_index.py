@@ -23,7 +23,8 @@ from gridfs_client.core import Copied, Known, Line, Page, Signpost
 from gridfs_client.errors import CarrierFault, Damaged, NoRoom, Unanswered
 from gridfs_client.pages import text_of
 from gridfs_client.runs import Run
-from gridfs_s3 import looker, sessions
+from gridfs_s3 import looker, sweeping
+from gridfs_s3.all_pages import AllPages
 from gridfs_s3.gateway import Gateway
 from gridfs_s3.grids import Grids
 from gridfs_s3.index import Few, Index, Union, line_in
@@ -208,14 +209,14 @@ class Pages(unittest.TestCase):
         for turn in range(300):
             lines = tuple(Line(name, draw.randrange(1, 99), draw.choice(contents), draw.choice(("", "t=5"))) for name in draw.sample(names, draw.randrange(len(names) + 1)))
             page = Page(lines, draw.choice(((), (0, 7))), 99, (Signpost(1, 0, 9, "west"),) if turn % 10 == 0 else ())
-            found = later_page(text_of(page), "the index")
+            found = later_page(text_of(page))
             for ask in draw.sample(asks, len(asks)):
                 self.assertEqual(ask(found), ask(page))
             self.assertEqual((found, hash(found), whole(found)), (page, hash(page), page))
         with self.assertRaises(Damaged):
-            later_page(b"no page\n", "the index")
+            later_page(b"no page\n")
         with self.assertRaises(ValueError):
-            later_page(b"names 2 1\n01 @ a\n", "the index").shown("a")
+            later_page(b"names 2 1\n01 @ a\n").shown("a")
 
     def test_what_pages_ask_for(self):
         index = Index()
@@ -267,14 +268,14 @@ class FewTests(unittest.TestCase):
         self.assertEqual((told(Few([])), Few([]).has_any(""), Few([]).total("")), ([], False, (0, 0)))
 
 
-def pool_of(settled, looks):
-    """A pool whose sessions have settled these pages, each with what a look does."""
+def pages_of(settled, looks):
+    """All pages, of sessions that have settled these, each with what a look does."""
     layout = types.SimpleNamespace(levels=[types.SimpleNamespace(page_volumes=range(len(looks)))], pages=len(looks), pages_in=lambda volume: range(volume, volume + 1), page=lambda _, page: (page, 0))
     pool = Pool.__new__(Pool)
-    pool.layout, pool.sessions, pool.looks, pool.looked = layout, len(settled), asyncio.Lock(), 0.0
-    pool.known, pool.secret, pool.shared = (0, {}), None, types.SimpleNamespace(index=types.SimpleNamespace(beginnings=0, open=set(), is_begun=lambda *_: True))
+    pool.layout, pool.sessions, pages = layout, len(settled), AllPages(pool, {})
+    pool.shared = types.SimpleNamespace(index=types.SimpleNamespace(beginnings=0, open=set(), is_begun=lambda *_: True))
     writer = lambda pages: types.SimpleNamespace(has_settled_all=lambda: len(pages) == layout.pages)
-    pool.workers = {number: types.SimpleNamespace(store=types.SimpleNamespace(settled=pages, writer=writer(pages)), is_silent=False, is_lent=False, settled_when_lent=()) for number, pages in enumerate(settled, 1)}
+    pool.workers = {number: types.SimpleNamespace(store=types.SimpleNamespace(settled=each, writer=writer(each)), is_silent=False, is_lent=False, settled_when_lent=()) for number, each in enumerate(settled, 1)}
 
     async def lease():
         return None
@@ -286,8 +287,8 @@ def pool_of(settled, looks):
         await asyncio.sleep(0)
         return work(types.SimpleNamespace(look_at=lambda volumes: [looks[volume]() for volume in volumes]))
 
-    pool.lease, pool.run, pool.has_sessions = lease, run, has_sessions
-    return pool
+    pool.lease, pool.run, pages.has_sessions = lease, run, has_sessions
+    return pages
 
 
 class Looks(unittest.TestCase):
@@ -297,23 +298,23 @@ class Looks(unittest.TestCase):
             ([everything, everything], True, []), ([everything, {0, 2}], False, [1]), ([everything, set()], False, [0, 1, 2]), ([{1}, {1, 2}], False, [0, 2]),
         ]:  # fmt: skip
             found = []
-            pool = pool_of(settled, [lambda each=each: found.append(each) for each in range(3)])
-            self.assertEqual(pool.is_exact(), is_exact)
-            asyncio.run(pool.look_at_all())
+            pages = pages_of(settled, [lambda each=each: found.append(each) for each in range(3)])
+            self.assertEqual(pages.is_exact(), is_exact)
+            asyncio.run(pages.look())
             self.assertEqual(sorted(found), looked)
-            pool.sessions += 1  # (another gateway has it)
-            self.assertFalse(pool.is_exact())
+            pages.pool.sessions += 1  # (another gateway has it)
+            self.assertFalse(pages.is_exact())
 
     def test_who_comes_while_others_look(self):
         """A look that began before does not do; one for all who wait does."""
         value, seen, count = [0], {}, [0]
 
         async def work():
-            pool = pool_of([set()], [lambda: (seen.update(value=value[0]), count.__setitem__(0, count[0] + 1))])
+            pages = pages_of([set()], [lambda: (seen.update(value=value[0]), count.__setitem__(0, count[0] + 1))])
 
             async def listing():
                 wanted = value[0]
-                await pool.look_at_all()
+                await pages.look()
                 self.assertGreaterEqual(seen["value"], wanted)
 
             found = []
@@ -343,7 +344,8 @@ class Looks(unittest.TestCase):
             return asked[-1]
 
         async def work():
-            pool = types.SimpleNamespace(is_exact=lambda: False, look_at_all=look, loop=asyncio.get_running_loop(), threads=None, shared=types.SimpleNamespace(index=index))
+            pages = types.SimpleNamespace(is_exact=lambda: False, look=look)
+            pool = types.SimpleNamespace(all_pages=pages, loop=asyncio.get_running_loop(), threads=None, shared=types.SimpleNamespace(index=index))
             return await Gateway.listing_by(Gateway.__new__(Gateway), pool, listing)
 
         self.assertTrue(asyncio.run(work()))
@@ -359,8 +361,8 @@ class Looks(unittest.TestCase):
                 raise fault
 
         async def work():
-            pool = pool_of([set()], [look])
-            return await asyncio.gather(*(pool.look_at_all() for _ in range(3)), return_exceptions=True)
+            pages = pages_of([set()], [look])
+            return await asyncio.gather(*(pages.look() for _ in range(3)), return_exceptions=True)
 
         told = asyncio.run(work())
         self.assertEqual([type(each) for each in told], [type(None), Unanswered, type(None)])
@@ -368,7 +370,7 @@ class Looks(unittest.TestCase):
 
     def test_several_grids(self):
         """Nobody is asked where all grids are settled, no move is under way, and no signpost leads to a grid that the map lacks."""
-        pool = lambda is_exact, *leads: types.SimpleNamespace(is_exact=lambda: is_exact, shared=types.SimpleNamespace(index=types.SimpleNamespace(leads=set(leads))))
+        pool = lambda is_exact, *leads: types.SimpleNamespace(all_pages=types.SimpleNamespace(is_exact=lambda: is_exact), shared=types.SimpleNamespace(index=types.SimpleNamespace(leads=set(leads))))
         for east, west, moves, is_exact in [
             (pool(True), pool(True), (), True), (pool(True, "west"), pool(True, "east"), (), True), (pool(True, "north"), pool(True), (), False),
             (pool(True), pool(False), (), False), (pool(True), pool(True), ("a move",), False),
@@ -384,10 +386,10 @@ class Looks(unittest.TestCase):
             if faults:
                 raise faults.pop()
 
-        asyncio.run(pool_of([set()], [look]).look_at_all())
+        asyncio.run(pages_of([set()], [look]).look())
         faults = [Unanswered("silent")] * 3
         with self.assertRaises(Unanswered):
-            asyncio.run(pool_of([set()], [look]).look_at_all())
+            asyncio.run(pages_of([set()], [look]).look())
 
 
 class Swept(unittest.TestCase):
@@ -395,15 +397,16 @@ class Swept(unittest.TestCase):
 
     def setUp(self):
         self.done = []
-        self.enterContext(mock.patch.object(sessions, "begin", lambda store: store.sweep))
+        self.enterContext(mock.patch.object(sweeping, "begin", lambda store: store.sweep))
 
-    def pool(self):
-        pool = pool_of([{0}], [])
+    def sweeps(self):
+        pool = pages_of([{0}], []).pool
         parts = lambda: (self.done.append("part") for _ in range(3))
         forget = lambda: self.done.append("forgotten") or 5
         pool.workers[1].store.sweep = types.SimpleNamespace(parts=parts, forget=forget)
         pool.workers[1].is_busy = False
-        pool.waiting, pool.unswept, pool.swept_at, pool.sweeping, pool.in_want, pool.freed, pool.threads, pool.tasks = [], {1}, {}, asyncio.Lock(), 0, 0, None, set()
+        pool.waiting, pool.threads, pool.tasks, found = [], None, set(), sweeping.Sweeps(pool)
+        found.unswept = {1}
         pool.loop = asyncio.get_running_loop()
         lease, run = pool.lease, pool.run
 
@@ -411,29 +414,30 @@ class Swept(unittest.TestCase):
             return work(pool.workers[1].store)
 
         pool.lease, pool.run = lambda _: lease(), run
-        return pool
+        return found
 
     def test_while_nobody_waits(self):
         async def work():
-            pool = self.pool()
+            found = self.sweeps()
+            pool = found.pool
             pool.workers[1].is_busy = True
-            task = pool.spawn(pool.sweep_chunks(60))
+            task = pool.spawn(found.sweep(60))
             await asyncio.sleep(0.1)
             self.assertEqual(self.done, ["part"])
             pool.workers[1].is_busy, pool.waiting = False, ["somebody"]
             await asyncio.sleep(0.1)
             self.assertEqual(self.done, ["part"])
             # Who finds no room waits for what is under way, which waits for nobody then.
-            self.assertTrue(await pool.found_room())
+            self.assertTrue(await found.found_room())
             self.assertEqual(self.done, [*["part"] * 3, "forgotten"])
-            self.assertFalse(await pool.found_room())
+            self.assertFalse(await found.found_room())
             await task
             # Not again, unless somebody died since, and not soon.
-            pool.unswept, pool.waiting = {1}, []
-            await pool.sweep_chunks(60)
-            self.assertEqual((len(self.done), pool.unswept), (4, {1}))
-            await pool.sweep_chunks(0)
-            self.assertEqual((len(self.done), pool.unswept, pool.freed), (8, set(), 10))
+            found.unswept, pool.waiting = {1}, []
+            await found.sweep(60)
+            self.assertEqual((len(self.done), found.unswept), (4, {1}))
+            await found.sweep(0)
+            self.assertEqual((len(self.done), found.unswept, found.freed), (8, set(), 10))
 
         asyncio.run(work())
 
@@ -441,7 +445,7 @@ class Swept(unittest.TestCase):
         """It is tried once more where some was found, and else told at once."""
 
         class Taken:
-            pool = types.SimpleNamespace()
+            pool = types.SimpleNamespace(sweeps=types.SimpleNamespace())
 
             async def run(self, work, is_soon):
                 return work()
@@ -454,7 +458,7 @@ class Swept(unittest.TestCase):
             return has_found
 
         gateway = Gateway.__new__(Gateway)
-        gateway.grids, gateway.take, Taken.pool.found_room = types.SimpleNamespace(pools_of=lambda _: []), taken, found
+        gateway.grids, gateway.take, Taken.pool.sweeps.found_room = types.SimpleNamespace(pools_of=lambda _: []), taken, found
         for has_found, faults, tries in ((True, 1, 2), (True, 2, 2), (False, 1, 1)):
             left, asked, done = [NoRoom("none")] * faults, [], []
 
@@ -471,16 +475,17 @@ class Swept(unittest.TestCase):
         """A command may have had it, and moved what it names: nothing is forgotten."""
 
         async def work():
-            pool = self.pool()
+            found = self.sweeps()
+            pool = found.pool
             pool.workers[1].is_busy = True
-            task = pool.spawn(pool.sweep_chunks(60))
+            task = pool.spawn(found.sweep(60))
             await asyncio.sleep(0.05)
             pool.workers[1].store = types.SimpleNamespace(**vars(pool.workers[1].store))
             pool.workers[1].is_busy = False
             await task
-            self.assertEqual((self.done, pool.unswept, pool.swept_at), (["part"] * 3, {1}, {}))
+            self.assertEqual((self.done, found.unswept, found.swept_at), (["part"] * 3, {1}, {}))
             pool.workers[1].is_lent = True
-            await pool.sweep_chunks(0)
+            await found.sweep(0)
             self.assertEqual(len(self.done), 3)
 
         asyncio.run(work())

@@ -16,6 +16,7 @@ import endpoint
 from gridfs_client import CarrierFault, Pace, SessionTaken, Unanswered
 from gridfs_client.opening import SOON, turn_of
 from gridfs_s3 import gateway, sessions
+from gridfs_s3.all_pages import AllPages
 from gridfs_s3.sessions import Pool
 
 SPOILT = """
@@ -219,7 +220,7 @@ class Collected(unittest.TestCase):
     def test_once_all_is_settled(self):
         """Collections of what nobody holds don't go through what is known of pages by then: while they do, nobody else has a turn."""
         pool, done = Pool.__new__(Pool), []
-        pool.sessions, pool.goes_on, pool.workers = 1, None, {1: None}
+        pool.sessions, pool.going_on, pool.workers = 1, types.SimpleNamespace(task=None), {1: None}
 
         async def tidy_session(_):
             await asyncio.sleep(0)
@@ -235,13 +236,13 @@ class Collected(unittest.TestCase):
 class LentMeanwhile(unittest.TestCase):
     def test_nobody_waits_for_it(self):
         """Who looks whether sessions are there, or settles a page, waits for none that is given to a command right then."""
-        for work, others in ((lambda pool: pool.has_sessions(), True), (lambda pool: pool.settle(0), None)):
+        for work, others in ((lambda pool: AllPages(pool, {}).has_sessions(), True), (lambda pool: pool.settle(0), None)):
             self.assertEqual(asyncio.run(asyncio.wait_for(self.lent_amid(work), 10)), (others, [2]))
 
     async def lent_amid(self, work):
         """What comes of it, and by which sessions, while the first one is lent before it is waited for."""
         pool, done = Pool.__new__(Pool), []
-        pool.asking_all, pool.sure_until, pool.has_settled = asyncio.Lock(), 0.0, lambda *_: False
+        pool.has_settled = lambda *_: False
         session = types.SimpleNamespace(expect_own=lambda: None)
         pool.workers = {number: types.SimpleNamespace(number=number, is_lent=False, is_silent=False, session=session) for number in (1, 2)}
 

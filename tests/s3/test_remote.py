@@ -10,6 +10,7 @@ import tempfile
 import time
 import types
 import unittest
+from collections import Counter
 from unittest import mock
 
 sys.path.insert(0, os.path.dirname(os.path.abspath(__file__)))
@@ -19,7 +20,9 @@ import endpoint
 import test_beside
 from gridfs_client.errors import BadSettings
 from gridfs_client.settings import Settings
-from gridfs_s3 import peers, remote, sessions
+from gridfs_s3 import peers, remote
+from gridfs_s3.all_pages import AllPages
+from gridfs_s3.claims import answer
 from gridfs_s3.grids import Grids
 from gridfs_s3.peers import MOST_ASKING, NEVER, PATIENCE, Told
 from gridfs_s3.remote import Remote
@@ -162,7 +165,7 @@ class Between(unittest.TestCase):
                 made.append(sum(asker.made.values()))
             asker.lines.popitem()[1].close()
 
-        connect, asker.made = asker.connect, sessions.Counter()
+        connect, asker.made = asker.connect, Counter()
         asker.connect = lambda address: (asker.made.update([address]), connect(address))[1]
         self.beside(work)
         self.assertEqual((made, self.asked, self.lines), ([1, 2, 2], list(range(4, 34)), []))
@@ -305,24 +308,24 @@ class Bounds(unittest.TestCase):
     def met(self, answers, strangers):
         """How many of those who connect at once are spoken with at a time; by a gateway whose certificate they don't have."""
         pool = Pool.__new__(Pool)
-        pool.sessions, pool.secret, pool.meeting, pool.tasks, pool.workers = 1, lambda: KEY, sessions.Counter(), set(), {}
-        pool.shared, pool.remote = types.SimpleNamespace(changes=peers.Changes()), answers
-        handshakes = []
+        pool.sessions, pool.tasks, pool.workers, handshakes = 1, set(), {}, []
+        pool.shared, pages = types.SimpleNamespace(changes=peers.Changes()), AllPages(pool, {})
+        pages.secret, pages.remote = lambda: KEY, answers
 
         async def work():
             pool.loop = asyncio.get_running_loop()
-            taken, connect = pool.loop.connect_accepted_socket, pool.meet
+            taken, connect = pool.loop.connect_accepted_socket, pages.meet
             pool.loop.connect_accepted_socket = lambda *words, **more: (handshakes.append(1), taken(*words, **more))[1]
             with answers.listener() as listener:
-                pool.loop.add_reader(listener, sessions.answer, listener, lambda connection: connect(connection, how=answers.accept))
+                pool.loop.add_reader(listener, answer, listener, lambda connection: connect(connection, how=answers.accept))
                 begin, most = time.monotonic(), 0
                 while time.monotonic() < begin + 2.5 * PATIENCE:
                     await asyncio.gather(*(self.stranger(answers.listens[0]) for _ in range(strangers)))
-                    most = max(most, *pool.meeting.values())
+                    most = max(most, *pages.meeting.values())
                     await asyncio.sleep(0.05)
                 pool.loop.remove_reader(listener)
                 await asyncio.gather(*pool.tasks)
-            return most, len(handshakes), pool.meeting.total()
+            return most, len(handshakes), pages.meeting.total()
 
         return asyncio.run(work())
 

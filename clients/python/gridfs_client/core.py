@@ -416,3 +416,8 @@ def changed(
     number = line.since if line else new_version(client, least).number
     signposts = journal.signposts if signpost is None or signpost in journal.signposts else (*journal.signposts, signpost)
     return Page((*kept, line) if line else kept, tuple(after), number, signposts)
+
+
+def with_another(journal: Page, line: Line) -> Page:
+    """A journal that a line of this name is on top of, with another line of it: what else goes with the change is the same."""
+    return Page((*journal.lines[:-1], line), journal.after, line.since, journal.signposts)

@@ -25,7 +25,9 @@ SURE = r"(?:0|[1-9][0-9]{0,5})"  # no slot that nobody has, and so no line that 
 SIZE = r"[1-9][0-9]{0,18}"
 PLACE = rf"(?:{NUMBER} {NUMBER}:{SURE}|{NUMBER}\.{NUMBER}:(?:0|{SIZE}))"
 IN_LINE = r"@(?:[A-Za-z0-9_-]{4})*(?:[A-Za-z0-9_-]{2,3})?"
-PLAIN = re.compile(rf"([1-9][0-9]*) (?:\{{[!-z]+\}} )?(-|{IN_LINE}|{SIZE} [A-Za-z0-9_-]{{43}} {PLACE}) (.+)", re.DOTALL)
+SHORT = rf"-|{IN_LINE}|{SIZE} [A-Za-z0-9_-]{{43}} {PLACE}"
+PLAIN = re.compile(rf"([1-9][0-9]*) (?:\{{[!-z]+\}} )?({SHORT}) (.+)", re.DOTALL)
+PLAIN_NAMES = re.compile(rf"^[1-9][0-9]* (?:\{{[!-z]+\}} )?(?:{SHORT}) ([^\n]+)$", re.MULTILINE)  # of all such lines in a text
 
 
 class Skimmed(NamedTuple):

@@ -96,7 +96,7 @@ class Gateway:
         self.in_memory = 0  # gets whose answer may be in memory though it is not short
         self.map_faults = list[str]()  # what was the matter when a later map was looked for last
         if not grids.map:
-            grids.pools[""].secret = lambda: next(iter(self.keys.values())).secret.encode()
+            grids.pools[""].all_pages.secret = lambda: next(iter(self.keys.values())).secret.encode()
 
     # Sessions
 
@@ -167,7 +167,7 @@ class Gateway:
                     if number is not None or not want.passes_over(taken.pool, taken.worker):
                         raise
                 except NoRoom:
-                    if has_searched or not await taken.pool.found_room():
+                    if has_searched or not await taken.pool.sweeps.found_room():
                         raise
                     has_searched = True
                 except NotSettled:
@@ -185,7 +185,7 @@ class Gateway:
         are under way. Else all pages that others may have changed are looked at first; over several grids along the ways of all names."""
         if not self.grids.map:
             return await self.listing_by(self.grids.pool(""), work)
-        if not (self.grids.is_exact() and all(await asyncio.gather(*(pool.has_sessions() for pool in self.grids.pools.values())))):
+        if not (self.grids.is_exact() and all(await asyncio.gather(*(pool.all_pages.has_sessions() for pool in self.grids.pools.values())))):
             return await self.all(lambda every: work(Few(every)))
         names = Union([pool.shared.index for pool in self.grids.pools.values()])
         return await asyncio.get_running_loop().run_in_executor(None, lambda: work(names))
@@ -194,8 +194,8 @@ class Gateway:
         """The same of one grid. Others may look meanwhile: a page may come into the index whose line went because of one that is not there yet. Then it is begun anew."""
         index = pool.shared.index
         for _ in range(TURNS):
-            if not (pool.is_exact() and await pool.has_sessions()):
-                await pool.look_at_all()
+            if not (pool.all_pages.is_exact() and await pool.all_pages.has_sessions()):
+                await pool.all_pages.look()
             is_whole, before = not index.open, index.times_open
             told = await pool.loop.run_in_executor(pool.threads, lambda: work(index))
             if is_whole and index.times_open == before:

@@ -246,7 +246,7 @@ class Grids:
         """Whether the indexes of all grids have what names hold, with nobody asked: none of them lacks anything, no move is under way, and no name went on to a
         grid that the map lacks."""
         pools = self.pools.values()
-        return self.map is not None and not self.map.moves and all(pool.is_exact() and pool.shared.index.leads <= self.pools.keys() for pool in pools)
+        return self.map is not None and not self.map.moves and all(pool.all_pages.is_exact() and pool.shared.index.leads <= self.pools.keys() for pool in pools)
 
     async def look_at(self, grid: str) -> Looked | ClientError:
         """What is seen of each bucket of a grid, by another session where the home of one is silent; or why it can't be told."""

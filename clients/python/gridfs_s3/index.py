@@ -2,7 +2,7 @@
 
 It has the text of each page as any session of this gateway saw it last, with the tag of its file, and a row for each line. A tag tells one content of a
 file: so a page of which the grid tells the same tag is the page that stands here. Which pages have to be asked for, so that the rows are what names held at
-some moment of a request, is not decided here (sessions.py).
+some moment of a request, is not decided here (all_pages.py).
 
 Of a page that has split the lines are rows as long as the session's page of the next level, which takes its place for their names, is not known here. That was written only once the old
 one had the signpost: so whoever saw it need not have seen that (gridfs_client/splits.py).
@@ -27,11 +27,11 @@ from gridfs_client.buckets import Held
 from gridfs_client.core import BEYOND, Known, Line, Page, Version, version_of
 from gridfs_client.errors import BadSettings, ClientError
 from gridfs_client.layout import Layout
-from gridfs_client.pages import FIRST_WORDS, HEAD, parse_line, parse_page, text_of
+from gridfs_client.pages import parse_line, parse_page, text_of
 from gridfs_client.ways import Found, version_in
 
 from .errors import tell
-from .later import later_page
+from .later import WHERE, head_in, later_page
 from .places import KEYS, NULL, VERSIONS, Object, of_words
 
 FORM = 1
@@ -48,7 +48,6 @@ LINE: Final = ""  # in the place of a name: the row is that of a line of a sessi
 SIZE: Final = 7  # places in a row
 WORDS: Final = 10
 AT_ONCE = 5_000  # names that are counted before others are let in
-FIRST_LINE: Final = re.compile(HEAD.pattern.encode() + rb"\n")
 TO_A_LEVEL: Final = b"\n>%d " % BEYOND  # a signpost to more pages
 LINES: Final = re.compile(rb"\n[^>\n]")  # behind the first one, and signposts
 BESIDE = (KEYS, VERSIONS)  # names of objects that don't tell their keys
@@ -111,15 +110,6 @@ def line_in(text: bytes, name: str) -> Line | None:
             return line
         at = text.find(end, at + 1)  # (another name ends so)
     return None
-
-
-def head_in(text: bytes) -> tuple[int, tuple[int, ...]]:
-    """The number of a page, and after which numbers others have to be seen, by its first line; Damaged where it has none."""
-    if found := FIRST_LINE.match(text):
-        number, *after = map(int, found[0][len(FIRST_WORDS) :].split())
-        return number, tuple(after)
-    page = parse_page(text[: text.find(b"\n") + 1], "the index")
-    return page.number, page.after
 
 
 class Names(Protocol):
@@ -243,7 +233,7 @@ class Index:
             self.note(place // 64, place % 64, *head_in(head), TO_A_LEVEL in head, length > len(head) or bool(LINES.search(head)))
             self.fullest = max(self.fullest, length)
         for place, text in base.execute("select place, text from pages where instr(text, x'0a3e')") if self.grid else ():  # (a grid alone has but one in a page)
-            page = parse_page(text, "the index")
+            page = parse_page(text, WHERE)
             self.leads.update(leads_of(page))
             self.note(place // 64, place % 64, page.number, page.after, has_split(page), bool(page.lines))
         self.open = {page for page in {page for page, _ in self.asks} if not self.is_closed(page)}
@@ -335,7 +325,7 @@ class Index:
             told = self.base.execute("select number, session, text from pages where place = ?", (page * 64 + session,)).fetchone()
             if told is None:
                 return None
-            known = Known(Tag(told[0], told[1]), later_page(told[2], "the index"))
+            known = Known(Tag(told[0], told[1]), later_page(told[2]))
             self.is_recent(page, session, known, len(told[2]))
             return known
 
@@ -430,7 +420,7 @@ class Index:
                 with self.guard:
                     told = self.base.execute("select text from pages where place = ?", (page * 64 + session,)).fetchone()
                 if told:
-                    yield parse_page(told[0], "the index")
+                    yield parse_page(told[0], WHERE)
 
     def texts(self, session: int, pages: range) -> list[bytes]:
         """The texts of these pages of a session, as far as they are known."""

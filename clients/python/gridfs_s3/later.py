@@ -1,11 +1,15 @@
 """Pages whose lines are read once they are asked for: of the eight pages beside which a put chooses its version it needs the names, and few lines."""
 
+import re
 from functools import cached_property
-from typing import Any, cast
+from typing import Any, Final, cast
 
 from gridfs_client.core import Line, Page
-from gridfs_client.pages import parse_line, parse_page
-from gridfs_client.skimming import PLAIN
+from gridfs_client.pages import FIRST_WORDS, HEAD, parse_line, parse_page
+from gridfs_client.skimming import PLAIN_NAMES
+
+WHERE: Final = "the index"  # a text stands that is read later
+FIRST_LINE: Final = re.compile(HEAD.pattern.encode() + rb"\n")
 
 
 class Lines(dict[str, Line]):
@@ -30,25 +34,18 @@ class Lines(dict[str, Line]):
 class LaterPage(Page):
     """A page by its text, which is a page's."""
 
-    def __init__(self, text: bytes, where: str):
-        at = text.find(b"\n") + 1
-        head = parse_page(text[:at], where)
-        super().__init__((), head.after, head.number)
+    def __init__(self, text: bytes):
+        number, after = head_in(text)
+        super().__init__((), after, number)
         del self.__dict__["lines"]
-        self.__dict__["texts"] = text[at:].decode().split("\n")[-2::-1]  # (from the last one on)
+        self.__dict__["text"] = text[text.find(b"\n") + 1 :].decode()
 
-    texts: list[str]
+    text: str
 
     @cached_property
     def by_name(self) -> dict[str, Line]:
-        found = Lines()
-        for text in self.texts:
-            if plain := PLAIN.fullmatch(text):
-                found[plain[3]] = cast(Line, text)
-            else:
-                line = parse_line(text)
-                found[line.name] = line
-        return found
+        texts, names = self.text.split("\n")[-2::-1], PLAIN_NAMES.findall(self.text)[::-1]  # (from the last one on)
+        return Lines(zip(names, cast(list[Line], texts)) if len(names) == len(texts) else map(named, texts))
 
     @cached_property
     def lines(self) -> tuple[Line, ...]:
@@ -56,7 +53,7 @@ class LaterPage(Page):
 
     @cached_property
     def removed(self) -> tuple[Line, ...]:
-        if not any(" - " in text for text in self.texts):
+        if " - " not in self.text:
             return ()
         return tuple(line for line in self.lines if line.content is None)
 
@@ -67,11 +64,28 @@ class LaterPage(Page):
         return hash(whole(self))
 
 
+def named(text: str) -> tuple[str, Line]:
+    """A line by its name, as a text where it has one of few short forms."""
+    if plain := PLAIN_NAMES.fullmatch(text):
+        return plain[1], cast(Line, text)
+    line = parse_line(text)
+    return line.name, line
+
+
+def head_in(text: bytes) -> tuple[int, tuple[int, ...]]:
+    """The number of a page, and after which numbers others have to be seen, by its first line; Damaged where it has none."""
+    if found := FIRST_LINE.match(text):
+        number, *after = map(int, found[0][len(FIRST_WORDS) :].split())
+        return number, tuple(after)
+    page = parse_page(text[: text.find(b"\n") + 1], WHERE)
+    return page.number, page.after
+
+
 def whole(page: Page) -> Page:
     """The same with all lines read."""
     return Page(page.lines, page.after, page.number) if isinstance(page, LaterPage) else page
 
 
-def later_page(text: bytes, where: str) -> Page:
+def later_page(text: bytes) -> Page:
     """The page of a text; at once where it has signposts."""
-    return parse_page(text, where) if b"\n>" in text else LaterPage(text, where)
+    return parse_page(text, WHERE) if b"\n>" in text else LaterPage(text)

@@ -112,7 +112,7 @@ async def serve(asked: argparse.Namespace) -> None:
         pass
     # What is under way at sessions is left as where the process is killed: a session's next change settles it.
     for pool in grids.pools.values():
-        pool.note_end()
+        pool.going_on.note_end()
         pool.close()
     os._exit(0)
 

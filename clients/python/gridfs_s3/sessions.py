@@ -2,62 +2,45 @@
 
 import asyncio
 import gc
-import secrets
-import socket
 import time
 from collections import Counter
-from collections.abc import Callable, Collection, Iterator, Sequence
+from collections.abc import Callable, Collection, Sequence
 from concurrent.futures import ThreadPoolExecutor
 from contextlib import suppress
 from dataclasses import replace
-from functools import partial
-from itertools import islice
-from typing import IO, Any, TypeVar
+from typing import Any, TypeVar
 
-from gridfs_client.answers import NO_SESSION, PlanTold, Tag
+from gridfs_client.answers import Tag
 from gridfs_client.asking import ask_plan
 from gridfs_client.carriers import Carrier
 from gridfs_client.core import Page
-from gridfs_client.ends import End, parse_end, read_end, write_end
-from gridfs_client.errors import BadSettings, CarrierFault, ClientError, NoSuchName, SessionTaken, Unanswered
+from gridfs_client.ends import End, read_end, write_end
+from gridfs_client.errors import BadSettings, CarrierFault, ClientError, SessionTaken, Unanswered
 from gridfs_client.fleet_map import Move
-from gridfs_client.in_chunks import ChunkContents, Gone, why_none
+from gridfs_client.in_chunks import ChunkContents, why_none
 from gridfs_client.layout import Layout, layout_of
-from gridfs_client.names import NamedFiles
 from gridfs_client.opening import SOON
-from gridfs_client.settings import GROWTH, Settings
+from gridfs_client.settings import Settings
 from gridfs_client.ways import Ground, slice_of
 
-from . import peers
-from .claims import Claims, answer
+from .all_pages import AllPages
+from .claims import Claims
 from .errors import error_of, tell
+from .going_on import GoingOn
+from .growing import Growing
 from .index import Index
 from .looker import Looker
-from .notes import Begun, Notes
-from .peers import MOST_ASKING, NEVER, AllBut, Pages, Reach
-from .remote import Remote
+from .peers import AllBut
 from .shared import Shared, Turns
 from .store import Store
-from .sweeping import NotWhole, begin
+from .sweeping import Sweeps
 from .trips import Trip
-from .workers import Lending, Turn, Wanted, Worker, who_asks
+from .workers import RETRY, Lending, Turn, Wanted, Worker, who_asks
 
 Told = TypeVar("Told")
 TIDY = 30.0  # seconds
 TRIES = 60  # of settling a page by a session whose home is silent
 LOOK = 0.1  # seconds between looks at what other commands want
-PLAN_AGAIN, ANSWERS = 10.0, 2.0  # seconds after which all nodes are asked whether the plan has grown, and for which their answers are waited for
-SPLIT_AT_ONCE, SPLIT_LEASE = 2, 5.0  # sessions by which a page splits at the same time; seconds for which one is waited for
-ASKS_FOR = 1.0  # seconds for which somebody who asks is taken to ask for more
-SURE_FOR = 2.0  # seconds for which sessions that were this gateway's are taken to be
-SOME, TURNS = 16, 3  # volumes that a session looks at, before others have their turn; and how often it is tried
-WORD_OF_GRID = ".s3/index"  # a name, with what the index of this grid says of it
-SWEEP_AGAIN, SWEEP_IN_WANT = 3_600.0, 60.0  # seconds after which chunks that nobody names are looked for again, and where something finds no room
-ROOM_FOR = 10.0  # seconds for which who finds none waits for that
-REST = 0.02  # seconds after which it is looked again whether somebody waits
-END = object()
-Meets = Callable[[socket.socket], Reach]
-RETRY = 1.0  # seconds until a session whose home is silent, or a carrier that has ended, is tried again
 
 
 class Pool:
@@ -73,7 +56,6 @@ class Pool:
         self.begun: dict[int, asyncio.Task[None]] = {}  # pages on which something is changed, each with what settles it before
         self.carrier: Carrier | None = None
         self.layout: Layout  # once it is opened
-        self.notes: Notes | None = None  # of how far sessions come, where a later gateway may go on
         self.sessions = 0  # of the tenant, once it is opened
         self.fault: ClientError | None = None  # why it was not opened at first
         self.threads = ThreadPoolExecutor(32, thread_name_prefix="session")
@@ -82,25 +64,14 @@ class Pool:
         self.tasks: set[asyncio.Task[None]] = set()
         self.lends: set[int] = set()  # numbers of sessions that are lent, or are to be
         self.lasting: list[asyncio.Task[None]] = []  # what goes on as long as the gateway does
-        self.claims = Claims(settings, lambda claim, answer: self.loop.call_soon_threadsafe(self.loop.add_reader, claim, answer), self.meet)
-        self.remote = Remote({} if ground else settings.values)  # gateways of the tenant on other machines (over several grids nobody is asked)
-        self.secret: Callable[[], bytes] | None = None  # which the tenant's gateways have, and others have not
-        self.meeting = Counter[Meets]()  # how many connections of other gateways there are, by names and by addresses
-        self.known: tuple[int, dict[str, int]] = 0, {}  # how many changes of other gateways the index has, by their starts; and which beginning of the index
+        self.all_pages = AllPages(self, {} if ground else settings.values)  # (over several grids no other gateway is asked)
+        self.claims = Claims(settings, lambda claim, answer: self.loop.call_soon_threadsafe(self.loop.add_reader, claim, answer), self.all_pages.meet)
+        self.going_on, self.growing, self.sweeps = GoingOn(self), Growing(self), Sweeps(self)
         self.asking = asyncio.Lock()  # of who asks all nodes: what they tell of no session is kept for one who asks
         self.settling = asyncio.Semaphore()  # so that requests find a session
         self.has_begun = False  # to see to what earlier clients left
         self.tidied: set[int] = set()  # numbers of sessions whose pages are being settled
-        self.looks, self.looked = asyncio.Lock(), 0.0  # at all pages; and when the last one began that ended well
-        self.asking_all, self.sure_until = asyncio.Lock(), 0.0  # whether all sessions are still this gateway's
-        self.wants_plan = asyncio.Event()  # a page has split to others that are not known here
         self.asked = 0.0  # when somebody asked for something last
-        self.growing: dict[int, IO[str]] | None = None  # sessions whose pages all split, since a command waits for that; empty once they have
-        self.tried_to_split: dict[tuple[int, int], float] = {}  # sessions with a page, and when
-        self.goes_on: asyncio.Task[None] | None = None  # where an earlier gateway was killed, until all pages were looked at
-        self.unswept: set[int] = set()  # numbers of sessions that may have chunks that no line names, left by who died
-        self.swept_at: dict[int, float] = {}  # when these were looked for last
-        self.sweeping, self.in_want, self.freed = asyncio.Lock(), 0, 0  # and how many wait for room meanwhile; how many chunks were found in all
 
     # Beginning
 
@@ -139,7 +110,7 @@ class Pool:
             lock.close()
             return None
         session = Turn(carrier, number, home, self.settings.pace())
-        session.notes, session.looker = self.notes, self.looker
+        session.notes, session.looker = self.going_on.notes, self.looker
         worker = known or Worker(session, lock)
         worker.session = session
         self.renew(worker)
@@ -148,8 +119,7 @@ class Pool:
 
     async def begin(self) -> None:
         """Opens it, or has it opened as soon as that can be done; then what goes on side by side with requests. Faults of settings are raised."""
-        if listener := self.remote.listener():
-            self.loop.add_reader(listener, answer, listener, partial(self.meet, how=self.remote.accept))
+        self.all_pages.listen()
         try:
             await self.loop.run_in_executor(self.threads, self.open)
             if others := self.claims.told():
@@ -160,87 +130,9 @@ class Pool:
             self.fault = fault
             tell(f"{self.named()}{fault}: it is tried again")
             self.spawn(self.open_again())
-        await self.go_on()
-        self.lasting = [self.spawn(self.tidy()), self.spawn(self.lend_on()), self.spawn(self.follow_plan()), self.spawn(self.split_on()), self.spawn(self.sweep_on())]
-
-    async def go_on(self) -> None:
-        """Goes on with the index of an earlier gateway, if that is of this grid. Where that gateway ended in order, and nobody had a session since, nothing is
-        under way into its pages, and they stand in the index."""
-        index = self.shared.index
-        if not index.is_kept:
-            return
-        before = self.read_notes()
-        found = await asyncio.gather(*(self.go_on_by(worker, before.get(worker.number)) for worker in list(self.workers.values())))  # (first: asking for the word takes numbers)
-        try:
-            word = await self.run(await self.lease(), self.word_of_grid, is_soon=True) if self.is_open else ""
-        except ClientError:
-            word = ""
-        if not word or index.about("grid") != word:
-            index.forget()
-            for worker in self.workers.values():
-                self.renew(worker)
-            if word:
-                index.say("grid", word)
-        elif killed := [each for each in found if each]:
-            self.goes_on = self.spawn(self.go_on_after(killed))
-
-    async def go_on_after(self, killed: list[tuple[Worker, Store, Begun]]) -> None:
-        """Goes on by sessions whose gateway was killed, once the index has all pages as they are. Requests are served meanwhile."""
-        for _ in range(TRIES):
-            try:
-                await self.look_at_all()
-                break
-            except ClientError:
-                await asyncio.sleep(RETRY)
-        else:
-            return
-        await asyncio.gather(*(self.go_on_by_after(*each) for each in killed))
-
-    async def go_on_by_after(self, worker: Worker, store: Store, begun: Begun) -> None:
-        with suppress(ClientError):
-            await self.run(await self.lease(worker.number), lambda now: store.go_on_after(begun) if now is store else None, is_soon=True)
-
-    def word_of_grid(self, store: Store) -> str:
-        """What the index of this grid says of it: a random word under a name. (What the index has is not asked: perhaps it is another grid's.)"""
-        files = NamedFiles(store.session, self.layout)
-        try:
-            return files.get(WORD_OF_GRID)[0].decode()
-        except NoSuchName:
-            files.put(WORD_OF_GRID, secrets.token_hex(16).encode())
-            return files.get(WORD_OF_GRID)[0].decode()
-
-    def read_notes(self) -> dict[int, Begun]:
-        """How far each session came by the gateway before; from now on it is noted how far it comes by this one."""
-        try:
-            self.notes = Notes(f"{self.shared.index.path}.sessions")
-        except OSError as fault:
-            tell(f"{fault.filename}: {fault.strerror}: a gateway that goes on after a kill settles all pages")
-            return {}
-        found = ((number, self.notes.read(number)) for number in self.workers)
-        told = {number: begun for number, begun in found if begun}
-        for worker in self.workers.values():
-            worker.session.notes = self.notes
-        return told
-
-    async def go_on_by(self, worker: Worker, begun: Begun | None) -> tuple[Worker, Store, Begun] | None:
-        """Begins with a session, as it ended; where its gateway was killed, how far it had come, if nobody had it since and all its pages were settled."""
-        end = parse_end(self.shared.index.about(f"session {worker.number}"))
-        if end is None and begun is None:
-            return None
-        with suppress(ClientError):
-            await self.run(await self.lease(worker.number), partial(Store.go_on, end=end), is_soon=True)
-            if begun and begun.is_settled and worker.session.last and begun.is_last(worker.session.home, worker.session.last) and not worker.store.goes_on:
-                return worker, worker.store, begun
-        return None
-
-    def note_end(self) -> None:
-        """Writes down how far each session came, for a later gateway. Called once nothing is under way."""
-        index = self.shared.index
-        if index.is_kept:
-            for worker in self.workers.values():
-                end = None if worker.is_busy or worker.is_silent or worker.is_lent else worker.store.end()
-                index.say(f"session {worker.number}", end.text() if end else "")
-            index.close()
+        await self.going_on.begin()
+        lasting = self.tidy(), self.lend_on(), self.growing.follow_plan(), self.growing.split_on(), self.sweeps.go_on()
+        self.lasting = list(map(self.spawn, lasting))
 
     def named(self) -> str:
         return f"{self.grid}: " if self.grid else ""
@@ -301,155 +193,6 @@ class Pool:
         pages = [(number, page, index.known(index.counting(page, number), number)) for number in numbers for page in whole]
         return [(number, page) for number, page, known in pages if known is None or not is_shared(known.page, move, lambda name, page=page: self.page_of(name) == page)]  # type: ignore[misc]
 
-    # All names
-
-    def is_exact(self) -> bool:
-        """Whether the index has what all pages say, with nobody asked: all sessions of the tenant are here, and nothing but changes of this gateway comes
-        into their pages."""
-        return self.has_all and all(worker.store.writer.has_settled_all() for worker in self.workers.values())
-
-    async def has_sessions(self) -> bool:
-        """Whether all sessions are still this gateway's, as each of them was found to be in the last two seconds. (It may have been stopped, and replaced by
-        another one, which nobody tells it.)"""
-        async with self.asking_all:
-            now = self.asked = time.monotonic()
-            if now <= self.sure_until:
-                return True
-            found = all(await asyncio.gather(*map(self.has_session, list(self.workers))))
-            self.sure_until = now + SURE_FOR if found else 0.0
-            return found
-
-    async def settled_now(self) -> list[Pages]:
-        """Of each session that is here the pages into which nothing has come but changes of this gateway, at some moment of the call. Of one that is lent these are those of
-        which its note says nothing. Of others that this gateway has no more, none."""
-        if not await self.has_sessions():
-            return [()]
-        lent = {number: worker for number, worker in self.workers.items() if worker.settled_when_lent}
-        left = await asyncio.gather(*(self.loop.run_in_executor(self.threads, self.settled_in_note, each) for each in lent.values()))
-        rest = [worker.store for number, worker in self.workers.items() if number not in lent]
-        return [*left, *map(settled_by, rest)]
-
-    def settled_in_note(self, worker: Worker) -> Pages:
-        """(A thread's.) Those of a lent session. First its home tells how far the session came, and then the note is read: so that has all writes of which anybody was told."""
-        with worker.asking:
-            pages, session, last = worker.settled_when_lent, worker.session, None
-            if not pages:  # (it was had back meanwhile)
-                return settled_by(worker.store)
-            if worker.index_when_lent == self.shared.index.beginnings:
-                pace, session.pace = session.pace, replace(session.pace, timeout=SOON)
-                with suppress(ClientError):
-                    last = session.last_at_home()
-                session.pace = pace
-            end = read_end(self.settings.end_path(worker.number))
-            if last is None or end is None or not end.covers(session.home, last):
-                return ()
-        written = {page for place in end.written if (page := self.layout.page_at(*place)) is not None}
-        return AllBut(written) if isinstance(pages, AllBut) else {page for page in pages if page not in written}
-
-    def have_back(self, worker: Worker, carried: dict[int, Tag]) -> None:
-        """(A thread's.) Goes on by a session that was lent."""
-        path = self.settings.end_path(worker.number)
-        with worker.asking:
-            worker.store.has_back(carried, read_end(path))
-            worker.settled_when_lent = ()  # (not before: else a listing amid that would look at all pages)
-            write_end(path, None)
-
-    # Other gateways of the tenant
-
-    def meet(self, connection: socket.socket, how: Meets = peers.by_socket) -> None:
-        """Another process has connected, by the name of a session or by the address for others."""
-        if not self.is_open or self.secret is None or self.meeting[how] >= MOST_ASKING:
-            connection.close()
-            return
-        connection.setblocking(False)
-        self.meeting[how] += 1
-        task = self.spawn(peers.tell(how(connection), self.secret(), self.shared.changes.start, self.workers, self.changed_since))
-        task.add_done_callback(lambda _: self.meeting.subtract([how]))
-
-    async def changed_since(self, count: int) -> tuple[int, Collection[int] | None]:
-        """How many changes there were, and the pages of this gateway's sessions that are other ones since there were so many, or may be soon; None where that can't be told."""
-        settled = await self.settled_now()
-        now, pages = self.shared.changes.since(count)
-        noted = pages_of(settled)
-        return now, None if pages is None or noted is None else pages | noted
-
-    async def ask_others(self) -> tuple[list[peers.Told], bool]:
-        """What other gateways tell of what changed since the index had their pages; and whether they have all other sessions. All are asked that have an address; and by
-        names those of this machine that have what is left."""
-        beginnings, counts = self.known
-        known = counts if beginnings == self.shared.index.beginnings else {}
-        left, found = set(range(1, self.sessions + 1)) - self.workers.keys(), list[peers.Told]()
-        if left and self.secret:
-            found += [told for told in await self.remote.ask_all(self.secret(), lambda start: known.get(start, NEVER)) if told.start != self.shared.changes.start]
-            left = left.difference(*(told.sessions for told in found))
-        while left and self.secret:
-            number = min(left)
-            told = await peers.ask(peers.by_name(self.claims.name(number)), self.secret(), number, lambda start: known.get(start, NEVER))
-            if told is None or number not in told.sessions:
-                break
-            found.append(told)
-            left -= told.sessions
-        return found, not left
-
-    async def has_session(self, number: int) -> bool:
-        if self.workers[number].is_lent:  # (it is asked for right before it is waited for: who comes after the command waits until that is done)
-            return True
-        try:
-            worker = await self.lease(number)
-            await self.run(worker, lambda store: worker.session.expect_own(), is_soon=True)
-            return True
-        except ClientError:
-            return False
-
-    async def look_at_all(self) -> None:
-        """Sees that the index has each page as it was at some moment of this call, or a later one. Who comes while others look waits, and then one look is for
-        all of those."""
-        begin = time.monotonic()
-        async with self.looks:
-            if self.looked > begin:
-                return
-            begun = time.monotonic()
-            beginnings = self.shared.index.beginnings
-            told, is_all = await self.ask_others()
-            others: list[Pages] = [() if each.pages is None else AllBut(each.pages) for each in told]
-            settled = [*await self.settled_now(), *others] if is_all else [()]
-            for level in self.layout.levels:  # (the old pages first, of those that have split)
-                await self.look_at_volumes(self.volumes_to_look_at(level.page_volumes, settled))
-            self.looked, self.known = begun, (beginnings, {each.start: each.count for each in told})
-
-    def volumes_to_look_at(self, volumes: range, settled: Sequence[Pages]) -> list[int]:
-        """Those of a level with pages that are not settled, or ask for later ones than are known."""
-        changed = pages_of(settled)
-        if changed is None:
-            return [volume for volume in volumes if not self.is_exact_in(volume, settled)]
-        found = {self.layout.page(1, page)[0] for page in changed | self.shared.index.open}
-        return sorted(volume for volume in found if volume in volumes)
-
-    async def look_at_volumes(self, volumes: list[int]) -> None:
-        """Looks at these volumes, by all sessions side by side."""
-        left = iter(volumes)
-        count = sum(not worker.is_silent and not worker.is_lent for worker in self.workers.values())
-        found = await asyncio.gather(*(self.look_at_some(left) for _ in range(max(1, count))), return_exceptions=True)
-        for fault in found:
-            if fault:
-                raise fault  # (once all have ended)
-
-    def is_exact_in(self, volume: int, settled: Sequence[Pages]) -> bool:
-        """The same of the pages in a volume, where these of each session are settled."""
-        begun = (page for page in self.layout.pages_in(volume) if self.shared.index.is_begun(self.layout, page))
-        return all(page in pages for page in begun for pages in settled)
-
-    async def look_at_some(self, volumes: Iterator[int]) -> None:
-        """Looks at these volumes, some at a time, by another session where the home of one is silent."""
-        while some := list(islice(volumes, SOME)):
-            for turn in range(TURNS):
-                try:
-                    await self.run(await self.lease(), lambda store, some=some: store.look_at(some), is_soon=turn < TURNS - 1)  # type: ignore[misc]
-                    break
-                except (Unanswered, SessionTaken):
-                    if turn == TURNS - 1:
-                        raise
-
     # Taking turns
 
     def is_idle(self, worker: Worker) -> bool:
@@ -508,7 +251,7 @@ class Pool:
         while True:
             await asyncio.sleep(LOOK)
             try:
-                self.see_growth()
+                self.growing.see()
                 for number, worker in list(self.workers.items()):
                     if number not in self.lends and not worker.is_silent and len(self.lends) < max(1, len(self.workers) // 2) and self.settings.is_wanted(number):
                         self.lends.add(number)
@@ -535,7 +278,7 @@ class Pool:
                 settled: AllBut | Collection[int] = AllBut() if worker.store.writer.has_settled_all() else dict(worker.store.writer.carried)
                 carried, path = dict(worker.store.writer.carried), self.settings.end_path(worker.number)
                 last = worker.session.last
-                self.unswept.add(worker.number)  # (what it was to have forgotten is not known any more, and the command may die)
+                self.sweeps.unswept.add(worker.number)  # (what it was to have forgotten is not known any more, and the command may die)
                 self.renew(worker)
                 worker.settled_when_lent, worker.index_when_lent = settled, self.shared.index.beginnings
                 write_end(path, None if last is None else End(worker.session.home, last, settled=len(carried) if isinstance(settled, AllBut) else 0))
@@ -553,6 +296,14 @@ class Pool:
             finally:
                 worker.is_lent = False
                 self.lends.discard(worker.number)
+
+    def have_back(self, worker: Worker, carried: dict[int, Tag]) -> None:
+        """(A thread's.) Goes on by a session that was lent."""
+        path = self.settings.end_path(worker.number)
+        with worker.asking:
+            worker.store.has_back(carried, read_end(path))
+            worker.settled_when_lent = ()  # (not before: else a listing amid that would look at all pages)
+            write_end(path, None)
 
     # Working
 
@@ -590,7 +341,7 @@ class Pool:
 
         every: list[tuple[Pool, Worker]] = [(self, worker), *others]
         for pool, each in every:
-            pool.go_by_plan(each)
+            pool.growing.go_by_plan(each)
         future = self.loop.run_in_executor(self.threads, begin)
         future.add_done_callback(end)
         return await asyncio.shield(future)
@@ -605,7 +356,7 @@ class Pool:
             for each in self.idle() if isinstance(fault, Unanswered) else ():
                 self.spawn(self.ask_whether_silent(each))
         elif isinstance(fault, BadSettings):
-            self.wants_plan.set()
+            self.growing.wants_plan.set()
 
     def probe(self, worker: Worker) -> None:
         """Leaves a worker out until its home answers."""
@@ -688,129 +439,6 @@ class Pool:
             worker.is_silent = False
             self.release(worker)
 
-    # More room
-
-    async def follow_plan(self) -> None:
-        """Goes on by a plan that has grown, once all nodes that answer have it."""
-        while True:
-            self.wants_plan.clear()
-            if self.is_open and self.carrier:
-                async with self.asking:
-                    layout = await self.loop.run_in_executor(self.threads, self.grown, self.carrier)
-                    with suppress(ClientError):
-                        await self.loop.run_in_executor(self.threads, self.ask_room)
-                if layout:
-                    await self.take_layout(layout)
-            await asyncio.sleep(RETRY)
-            with suppress(asyncio.TimeoutError):
-                await asyncio.wait_for(self.wants_plan.wait(), PLAN_AGAIN - RETRY)
-
-    def grown(self, carrier: Carrier) -> Layout | None:
-        """(A thread's.) What all nodes that answer tell, where that is more volumes than are known here."""
-        begun, found = carrier.now(), set[Layout]()
-        try:
-            carrier.attach(NO_SESSION)
-            for place in range(carrier.told.nodes if carrier.told else 0):
-                assert carrier.told
-                carrier.send(carrier.told.node_at(place), b"plan")
-            while (is_last := not carrier.silent_since(begun)) or carrier.now() < begun + ANSWERS:
-                answer = carrier.receive(NO_SESSION, 0 if is_last else max(0, begun + ANSWERS - carrier.now()))
-                if isinstance(answer, PlanTold):
-                    found.add(layout_of(answer))
-                elif is_last:
-                    break
-        except ClientError:
-            return None
-        self.shared.may_grow = found == {self.layout}
-        more = found.pop() if len(found) == 1 else self.layout
-        return more if more.sessions == self.layout.sessions and more.volumes[: len(self.layout.volumes)] == self.layout.volumes != more.volumes else None
-
-    async def take_layout(self, layout: Layout) -> None:
-        tell(f"{self.named()}the plan has {len(layout.volumes)} volumes now, {len(layout.volumes) - len(self.layout.volumes)} more than before")
-        self.layout = layout
-        for number in list(self.workers):
-            try:
-                worker = await self.lease(number)
-            except Unanswered:
-                continue  # (it is renewed once its home answers)
-            self.go_by_plan(worker)
-            self.release(worker)
-        self.shared.may_grow = True
-
-    def go_by_plan(self, worker: Worker) -> None:
-        """Has a worker that is leased go by the last plan."""
-        if worker.store.layout is not self.layout:
-            carried = worker.store.writer.carried  # (its pages stay where they are)
-            self.renew(worker)
-            worker.store.writer.has_more_pages(carried)
-
-    async def split_on(self) -> None:
-        """Has pages split wholly that have begun to, by each session that is here: else each look at their names is one at the old pages, too."""
-        while True:
-            await asyncio.sleep(RETRY)
-            if self.growing:
-                await self.grow(self.growing)
-            elif self.is_open:
-                for page, whose in sorted(self.shared.index.to_split(self.layout).items()):
-                    await self.split(page, whose)
-
-    def see_growth(self) -> None:
-        """Where a command waits for that, all pages of the sessions that are here are to split; it has each session once that is done, and sees to what is left."""
-        is_wanted = self.is_open and self.settings.is_wanted(GROWTH)
-        if not is_wanted:
-            self.growing = None
-        elif self.growing is None:
-            self.growing = {number: lock for number in self.workers if (lock := self.settings.grows(number))}
-
-    async def grow(self, locks: dict[int, IO[str]]) -> None:
-        """Has all pages of these sessions split, one after another, as long as a command waits for that."""
-        try:
-            self.wants_plan.set()
-            until = time.monotonic() + PLAN_AGAIN
-            while len(self.layout.levels) == 1 and time.monotonic() < until:
-                await asyncio.sleep(LOOK)
-            for level in self.layout.levels[:-1]:
-                for page in range(level.first, level.first + level.pages):
-                    if self.growing is not locks:
-                        return
-                    await self.split(page, locks.keys() - self.shared.index.whole(page))
-        finally:
-            while locks:
-                locks.popitem()[1].close()
-
-    async def split(self, page: int, whose: Collection[int]) -> None:
-        """Has a page split by these sessions, as far as they are here, some at a time, so that requests find one; and lets who asks for something have as much of the processor."""
-        now, at_once = time.monotonic(), asyncio.Semaphore(max(1, min(SPLIT_AT_ONCE, len(self.workers) // 2)))
-        wanted = [number for number in sorted(whose) if number in self.workers and now >= self.tried_to_split.get((number, page), now - TIDY) + TIDY]
-        if wanted:
-            used = sum(await asyncio.gather(*(self.split_by(number, page, at_once) for number in wanted)))
-            await asyncio.sleep(used if time.monotonic() < self.asked + ASKS_FOR else 0)
-
-    async def split_by(self, number: int, page: int, at_once: asyncio.Semaphore) -> float:
-        """The same by one session: how many seconds of the processor it took."""
-
-        def split(store: Store) -> float:
-            begun = time.thread_time()
-            store.split(page)
-            return time.thread_time() - begun
-
-        async with at_once:
-            worker = self.workers[number]
-            if worker.is_lent or worker.is_silent:
-                return 0.0
-            self.tried_to_split[number, page] = time.monotonic()
-            try:
-                async with asyncio.timeout(SPLIT_LEASE):  # (one that is lent may come back late)
-                    await self.lease(number)
-                used = await self.run(worker, split, is_soon=True)
-                self.tried_to_split.pop((number, page), None)
-                return used
-            except (ClientError, TimeoutError) as fault:
-                tell(f"{self.named()}session {number}: page {page} does not split yet: {fault or 'it is used'}")
-            except Exception as fault:
-                error_of(fault)
-            return 0.0
-
     # Pages
 
     async def settle_before(self, name: str) -> None:
@@ -863,8 +491,8 @@ class Pool:
         chunks that nothing names any more."""
         while not self.is_open:
             await asyncio.sleep(RETRY)
-        if self.goes_on:
-            await self.goes_on
+        if self.going_on.task:
+            await self.going_on.task
         self.has_begun = True
         self.settling = asyncio.Semaphore(max(1, len(self.workers) // 2))
         await asyncio.gather(*(self.tidy_session(number) for number in list(self.workers)))
@@ -913,61 +541,7 @@ class Pool:
                     error_of(fault)
                     break
         if not store.goes_on:
-            self.unswept.add(number)
-
-    # Chunks that no line names
-
-    async def sweep_on(self) -> None:
-        """Looks for chunks that clients which died left, and no line names, while nobody waits."""
-        while True:
-            await asyncio.sleep(RETRY)
-            await self.sweep_chunks(SWEEP_AGAIN)
-
-    async def found_room(self) -> bool:
-        """Where something finds no room: whether such chunks were found, within some seconds. Those that are looked for then are looked for at once."""
-        before = self.freed
-        self.in_want += 1
-        try:
-            await asyncio.wait([self.spawn(self.sweep_chunks(SWEEP_IN_WANT))], timeout=ROOM_FOR)
-        finally:
-            self.in_want -= 1
-        return self.freed > before
-
-    async def sweep_chunks(self, again: float) -> None:
-        """The same by one session after another, each where that was not done in so many seconds since."""
-        async with self.sweeping:
-            for number in sorted(self.unswept):
-                if time.monotonic() < self.swept_at.get(number, -again) + again or self.workers[number].is_lent:
-                    continue
-                try:
-                    self.freed += await self.sweep_chunks_of(number)
-                    self.unswept.discard(number)
-                    self.swept_at[number] = time.monotonic()
-                except (ClientError, Gone, NotWhole):
-                    continue  # (it is tried again)
-                except Exception as fault:
-                    error_of(fault)
-                    self.unswept.discard(number)
-
-    async def sweep_chunks_of(self, number: int) -> int:
-        """Has nodes forget what no page of the session names: how many chunks that were. NotWhole too where the session is renewed meanwhile: a command may have had it."""
-        store = self.workers[number].store
-        sweep = await self.run(await self.lease(number), begin)
-        if sweep is None:
-            return 0
-        parts, begun = sweep.parts(), time.monotonic()
-        while await self.loop.run_in_executor(self.threads, lambda: next(parts, END) is not END):
-            await self.rest(time.monotonic() - begun)
-            begun = time.monotonic()
-        if store is not self.workers[number].store:
-            raise NotWhole
-        return await self.loop.run_in_executor(self.threads, sweep.forget)
-
-    async def rest(self, seconds: float) -> None:
-        """Lets others have so much of the processor, and waits until nobody waits for a session; unless somebody waits for room."""
-        await asyncio.sleep(0 if self.in_want else seconds)
-        while not self.in_want and (self.waiting or any(each.is_busy and not each.is_silent and not each.is_lent for each in self.workers.values())):
-            await asyncio.sleep(REST)
+            self.sweeps.unswept.add(number)
 
     async def flush(self) -> None:
         """Has chunks forgotten that nothing names any more, by the sessions that are free."""
@@ -982,20 +556,6 @@ class Pool:
         self.looker.close()
         if self.carrier:
             self.carrier.close()
-
-
-def settled_by(store: Store) -> Pages:
-    return AllBut() if store.writer.has_settled_all() else store.settled
-
-
-def pages_of(settled: Sequence[Pages]) -> set[int] | None:
-    """The pages that are not settled, where of each session all others are."""
-    found = set[int]()
-    for each in settled:
-        if not isinstance(each, AllBut):
-            return None
-        found |= each.pages
-    return found
 
 
 def is_shared(page: Page, move: Move, is_here: Callable[[str], bool]) -> bool:

@@ -18,7 +18,7 @@ from .notes import Begun, Notes
 from .peers import AllBut
 from .store import Store
 
-
+RETRY = 1.0  # seconds until a session whose home is silent, or a carrier that has ended, is tried again
 who_asks: ContextVar[str] = ContextVar("who_asks", default="")  # the access key or the signed URL by which something is asked for
 
 
