@@ -31,6 +31,8 @@ Meets = Callable[[socket.socket], Reach]
 
 
 class AllPages:
+    """Sees that the index has them, and tells other gateways which changed."""
+
     def __init__(self, pool: "Pool", values: Mapping[str, str]):
         self.pool = pool
         self.remote = Remote(values)  # gateways of the tenant on other machines

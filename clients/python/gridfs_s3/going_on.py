@@ -23,6 +23,8 @@ WORD_OF_GRID = ".s3/index"  # a name, with what the index of this grid says of i
 
 
 class GoingOn:
+    """By the index of an earlier gateway, and how far its sessions had come."""
+
     def __init__(self, pool: "Pool"):
         self.pool = pool
         self.notes: Notes | None = None  # of how far sessions come, where a later gateway may go on

@@ -27,6 +27,8 @@ ASKS_FOR = 1.0  # seconds for which somebody who asks is taken to ask for more
 
 
 class Growing:
+    """By later plans, and by pages that split to those of them."""
+
     def __init__(self, pool: "Pool"):
         self.pool = pool
         self.wants_plan = asyncio.Event()  # a page has split to others that are not known here

@@ -229,24 +229,24 @@ class Index:
         self.not_cleared.clear()
         self.not_signed.clear()
         for place, number, session, length, head in base.execute("select place, number, session, length(text), substr(text, 1, 500) from pages"):
-            self.tags[place // 64, place % 64] = Tag(number, session)
-            self.note(place // 64, place % 64, *head_in(head), TO_A_LEVEL in head, length > len(head) or bool(LINES.search(head)))
+            self.note(divmod(place, 64), Tag(number, session), *head_in(head), TO_A_LEVEL in head, length > len(head) or bool(LINES.search(head)))
             self.fullest = max(self.fullest, length)
         for place, text in base.execute("select place, text from pages where instr(text, x'0a3e')") if self.grid else ():  # (a grid alone has but one in a page)
-            page = parse_page(text, WHERE)
+            page, each = parse_page(text, WHERE), divmod(place, 64)
             self.leads.update(leads_of(page))
-            self.note(place // 64, place % 64, page.number, page.after, has_split(page), bool(page.lines))
+            self.note(each, self.tags[each], page.number, page.after, has_split(page), bool(page.lines))
         self.open = {page for page in {page for page, _ in self.asks} if not self.is_closed(page)}
 
-    def note(self, page: int, session: int, number: int, after: tuple[int, ...], is_split: bool, has_lines: bool) -> None:
-        self.numbers[page, session] = number
+    def note(self, each: tuple[int, int], tag: Tag, number: int, after: tuple[int, ...], is_split: bool, has_lines: bool) -> None:
+        """Of a page and its session. (One pair is for all: there may be half a million.)"""
+        self.tags[each], self.numbers[each] = tag, number
         if is_split:
-            self.note_split(page, session)
-            self.not_cleared.add((page, session)) if has_lines else self.not_cleared.discard((page, session))
+            self.note_split(*each)
+            self.not_cleared.add(each) if has_lines else self.not_cleared.discard(each)
         if after:
-            self.asks[page, session] = after
+            self.asks[each] = after
         else:
-            self.asks.pop((page, session), None)
+            self.asks.pop(each, None)
 
     def note_split(self, page: int, session: int) -> None:
         whose = self.split.setdefault(page, set())
@@ -361,8 +361,7 @@ class Index:
             except sqlite3.OperationalError as fault:
                 self.go_on_in_memory(fault)
                 self.keep_text(page, session, known, text)
-            self.tags[page, session] = known.tag
-            self.note(page, session, known.page.number, known.page.after, has_split(known.page), bool(known.page.signposts and known.page.lines))
+            self.note((page, session), known.tag, known.page.number, known.page.after, has_split(known.page), bool(known.page.signposts and known.page.lines))
             if self.layout and (first := self.layout.before(page)) is not None:
                 self.note_split(first, session)  # (else nobody had written this one)
             self.leads.update(leads_of(known.page))
