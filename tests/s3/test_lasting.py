@@ -154,7 +154,8 @@ class Lasting(unittest.TestCase):
         """What a watch tells that meets these faults, one after another; None where it goes on."""
 
         async def watch():
-            found = gateway.Gateway(types.SimpleNamespace(map=None, pools={"": types.SimpleNamespace(lasting=[asyncio.create_task(each) for each in lasting], named=lambda: "")}), "carol", {}, "", None)
+            pool = types.SimpleNamespace(lasting=[asyncio.create_task(each) for each in lasting], named=lambda: "", all_pages=types.SimpleNamespace())
+            found = gateway.Gateway(types.SimpleNamespace(map=None, pools={"": pool}), "carol", {}, "", None)
             left = list(looks)
 
             async def look(*_):
