@@ -207,6 +207,7 @@ BUGS = {
     "a listing waits for a session that is lent": ("test_lasting.py LentMeanwhile", "all_pages.py", "        if self.pool.workers[number].is_lent:  # (it is asked for", "        if False:  # (it is asked for"),
     "a put waits for a session that is lent": ("test_lasting.py LentMeanwhile", "sessions.py", "            if not worker.is_lent:\n                await self.settle_by(", "            if True:\n                await self.settle_by("),
     "each collection goes through all pages that are known": ("test_lasting.py Collected", "sessions.py", "        gc.freeze()  # (what is known", "        pass  # (what is known"),
+    "full collections are as often as Python has them": ("test_lasting.py Collected", "sessions.py", "        gc.set_threshold(*COLLECTIONS)\n", ""),
     "a client that leaves is a fault": ("test_malformed.py Malformed.test_a_client_that_leaves", "connections.py", " or isinstance(exc, (ConnectionError, RequestPayloadError)):", ":"),
 }
 

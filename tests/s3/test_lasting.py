@@ -1,6 +1,7 @@
 """A gateway that runs for long: it takes the room of a plan that has grown, and that of all pages; and it ends where it can't serve any more, instead of going on with errors alone."""
 
 import asyncio
+import gc
 import os
 import signal
 import subprocess
@@ -220,6 +221,7 @@ class Silent(unittest.TestCase):
 class Collected(unittest.TestCase):
     def test_once_all_is_settled(self):
         """Collections of what nobody holds don't go through what is known of pages by then: while they do, nobody else has a turn."""
+        self.addCleanup(gc.set_threshold, *gc.get_threshold())
         pool, done = Pool.__new__(Pool), []
         pool.sessions, pool.going_on, pool.workers = 1, types.SimpleNamespace(task=None), {1: None}
 
@@ -232,6 +234,7 @@ class Collected(unittest.TestCase):
         with words["collect"], words["freeze"], self.assertRaises(TimeoutError):
             asyncio.run(asyncio.wait_for(pool.tidy(), 0.1))
         self.assertEqual(done, ["settled", "collect", "freeze"])
+        self.assertEqual(gc.get_threshold(), sessions.COLLECTIONS)
 
 
 class LentMeanwhile(unittest.TestCase):

@@ -41,6 +41,7 @@ Told = TypeVar("Told")
 TIDY = 30.0  # seconds
 TRIES = 60  # of settling a page by a session whose home is silent
 LOOK = 0.1  # seconds between looks at what other commands want
+COLLECTIONS = 700, 10, 100  # thresholds of Python's collections of cycles: full ones are ten times as seldom as it has them
 
 
 class Pool:
@@ -498,6 +499,7 @@ class Pool:
         await asyncio.gather(*(self.tidy_session(number) for number in list(self.workers)))
         gc.collect()
         gc.freeze()  # (what is known of pages stays: else each full collection goes through all of it, while nobody else has a turn)
+        gc.set_threshold(*COLLECTIONS)
         while True:
             await asyncio.sleep(TIDY)
             for number in list(self.workers):
