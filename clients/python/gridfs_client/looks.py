@@ -3,7 +3,11 @@
 A node tells the tag of the copy that it has itself, and asks nobody. Take a whole row of nodes that have the file, and the greatest tag that one of them told. Each operation
 that had ended before the look began had stored its tag, or a greater one, at a whole column, and that has a node in the row. So none of them had a greater one.
 Where all nodes of a column told this tag at least, each operation that begins behind the look meets it, since it asks a whole row. So the look is a read of the file, which gives the
-content of this tag: the file is *settled*. Nothing else follows from a look. Answers to another look, or by another plan, are not counted beside these.
+content of this tag: the file is *settled*. Nothing else follows from a look. Answers to another look, or by another plan, are not counted beside these:
+between two plans a node may be lost.
+
+Looks at several volumes may go at once. Who was silent is asked each time, and not waited for until it answers a look. A node that did not tell which lines it knows
+is asked for its plan: an older program would call a look bad.
 """
 
 import secrets

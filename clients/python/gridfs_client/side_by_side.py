@@ -1,6 +1,7 @@
 """A listing of many names by several processes, each with a session of its own: one process of Python keeps but one core busy.
 
-The process of a share is told as JSON in a line what it is to do. It has the session's lock from the one that begins it, and ends with that one.
+The volumes of first pages are dealt out in turn, with the pages in their place, where there are 32 of them or more. Where a process ends before it has told all, the command looks
+at its share. The process of a share is told as JSON in a line what it is to do. It has the session's lock from the one that begins it, and ends with that one.
 """
 
 import json

@@ -4,7 +4,16 @@ A later plan may give a tenant a *level* of more pages. A page of the level befo
 first puts a *signpost* into its own old page, journal first: from then on no line of that changes. Then it writes its own page of the new bucket, which
 begins with all lines of the old one that are names of it. So of each session one page counts: that of the new bucket once it was written, and until
 then the part of the old one that has names of the new bucket. That is read as one register, and written as one; so all that is said of pages
-and journals (core.py) is said of these.
+and journals (core.py) is said of these:
+
+- A look reads it. Where the old page shows no signpost, the new one was never written before that moment. Where it does, its lines are fixed: if the new
+  page is not written at a later moment, the old one counts then, as it was seen; and if it is written, it counts.
+- It never goes back. The new page is written only once the old one was carried with the signpost, so nothing that was asked for earlier comes into the
+  old page or its journal any more. The first journal of the new bucket is built on that old one, and has a greater number, or the same where that page
+  is split again at once. To sign and to clear change nothing that counts of any bucket.
+- Journals form one chain. Whoever enters reads the old journal. If that has the signpost it never gets another line, and the new journal decides. A
+  pending first write of it was built on the same old journal, and is over once another one was answered.
+- What pages ask to be seen *after* holds: these are numbers of pages that counted, and a new page has that of its session's old page, or a greater one.
 
     work = answering(request, split)      # what the client of the new bucket asks for (core.py)
     which, asked = next(work)             # at the old bucket or the new one; then work.send(answer), until it returns the answer and the split
