@@ -8,7 +8,7 @@ the first difference in a sentence.
 
 A log has one JSON map a line, in the order in which things happened: `setup` first; then `request`, `delivered`, `lost`,
 `retry`, `gave up`, `crash` and `back`, and behind each of them what it brought about, `sent` for each message and `answer` for an operation that is done
-(docs/COMPARE.md). The status is 0 where there is no difference, 1 where there is one, 2 where the log has another form.
+(examples/compare/README.md). The status is 0 where there is no difference, 1 where there is one, 2 where the log has another form.
 """
 
 import argparse
