@@ -1,4 +1,19 @@
-"""All pages of a tenant at one grid: which of them have to be looked at so that the index has them as they are, and what other gateways tell of that (docs/S3.md, *Many objects*)."""
+"""All pages of a tenant at one grid: which of them have to be looked at so that the index has them as they are, and what other gateways tell of that (docs/S3.md, *Many objects*).
+
+No page is asked for where the gateway has all sessions of its tenant, and each has settled all its pages: then nobody but this gateway changes a page, and nothing of earlier clients is
+under way into one. Once in SURE_FOR seconds each session's home is asked whether it is still this gateway's: so one that was stopped, and replaced elsewhere, goes on for so long at most.
+Else those volumes are looked at that have pages which are not settled, by all sessions side by side, and each page whose tag is another one is read. One look does for all listings that
+came before it began. Over several grids the indexes of all are taken as they are at one moment, where no move is under way and all grids are settled.
+
+While a session is lent a listing looks at the volumes of the pages alone that its command notes (gridfs_client/ends.py). First the session's home tells its last operation, and then the
+note is read: each operation of which anybody was told was known to the home by then, and had been noted before. Where the home tells of more than one operation after the last that is
+noted, somebody has the session without a note, as an older client, which begins by an operation that reads. Then all volumes are looked at, and later all pages of the session are settled
+anew. So it is too where the home is silent, or a note would have too many files. No note outlives the gateway that lent the session, so it need not be synced.
+
+Of pages that split (gridfs_client/splits.py) a listing looks at all old ones first, and then at the new ones of those that have split. So it sees of each session a page that counted at
+some moment of the request. A page from which lines went stands in the index only once the new pages of these are there too: so each name is told once, whichever is read first. A page is
+settled together with those in its place.
+"""
 
 import asyncio
 import socket

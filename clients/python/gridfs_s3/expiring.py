@@ -1,6 +1,7 @@
 """The lifecycles that buckets are given, and the looks by which what has expired goes.
 
 A look removes nothing of which the gateway is not sure: an object only where it is still as it was seen, and only while the clock is one that clients agree with.
+Rules that are taken back are in force for two seconds more at most. `x-amz-expiration` is not told.
 """
 
 import asyncio

@@ -1,4 +1,9 @@
-"""How a gateway goes on with the index of an earlier one, and what it leaves for a later one (docs/S3.md, *Many objects*)."""
+"""How a gateway goes on with the index of an earlier one, and what it leaves for a later one (docs/S3.md, *Many objects*).
+
+After an end in order, with nobody at its sessions since, it asks for nothing. After a kill it serves at once, and compares the tags of all pages meanwhile, by a look for each volume.
+`FILE.sessions` tells the last operation that each session began: a page that it wrote is settled anew. Where somebody had a session since, or pages were not settled yet, all pages of that
+session are. The name `.s3/index` tells whether an index is of this grid.
+"""
 
 import asyncio
 import secrets

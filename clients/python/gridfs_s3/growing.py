@@ -1,4 +1,9 @@
-"""What a tenant's growth wants of a gateway: it goes on by a plan that has grown, and has pages split to more of the same grid (docs/NAMES.md, *Pages that split*)."""
+"""What a tenant's growth wants of a gateway: it goes on by a plan that has grown, and has pages split to more of the same grid (docs/NAMES.md, *Pages that split*).
+
+`gridfs-client grow` locks `TENANT-0.wanted`, as another command locks that of a session for which it waits. As long as it does, a gateway locks `TENANT-N.grows` of each session N that it
+has, and has all pages of these split, one bucket after another: so these are changes of its own, and a listing asks nobody. After each bucket it rests as long as that took of the
+processor, where somebody asks for something. Once all are through it lets go of these locks, and the command has each session in turn, and sees to what is left.
+"""
 
 import asyncio
 import time

@@ -8,6 +8,16 @@ gateway's start, and one of this connection. He asks, as often as he likes for a
 
 A MAC is by a key that all gateways of the tenant have, since they have the tenant's access keys, and other tenants' have not. It is over START, CHALLENGE and all that was said.
 Nothing rests on an answer but that less is looked at.
+
+Why a listing is still exact. A page is noted before anything of a change is asked for, and remembered with a count once the change is over. A listing asks once it has begun. A change that
+was over by then is remembered, so its page is looked at. One that is under way is told too, so its page is looked at, and the next listing is told it once more. One that begins later need
+not be seen. The new count is kept only once all looks have ended well. So the index has each page as it was when its gateway was asked, or later. A session that comes to another gateway is
+told as settled once that has written each page of it: so all these pages are told.
+
+By addresses it holds word for word, since each question bears a word of its own: no answer is older than its question. But names of a machine keep two gateways from one session, and
+addresses don't. So all addresses are asked, also those of which no session is wanted any more, and the pages of each answer are looked at. A gateway that was stopped, and replaced by one
+that is asked too, hides nothing of that one. Where its successor is not asked, it may tell for two seconds at most that nothing changed: then it finds at the homes of its sessions that
+they are no more its own, and all volumes are looked at.
 """
 
 import asyncio

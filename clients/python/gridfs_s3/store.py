@@ -1,4 +1,9 @@
-"""Objects over the names of one session: what the client for names lacks, which are conditions, times, and uploads in parts."""
+"""Objects over the names of one session: what the client for names lacks, which are conditions, times, and uploads in parts.
+
+Registers can't compare and swap between writers. So conditions are judged only by a gateway that has all sessions of its tenant. Each session first writes its page of the key once, so that
+no late write can change it. Then changes of one key go one after another, and the condition is judged right before its change. It needs all homes; else it is told 503, and nothing was
+changed. A change of tags is made so too: it undoes no put that comes meanwhile. Where the content can't stay where it is, it is put anew beside the tags.
+"""
 
 import secrets
 import time
