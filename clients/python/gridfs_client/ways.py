@@ -8,6 +8,19 @@ A look goes along the way, and looks at the pages of a grid only once it has loo
 grid, because of one at the new grid, is not missed. The other way round, a line that counts and stands at a grid before the last one is read again
 at the end: where it has gone meanwhile, the look begins anew.
 
+Why each name has one order, by the rules of docs/FLEET.md:
+
+- A look that saw no signpost has read each page of the old grid before it showed one. Until then nobody had written a line at the new grid. So it is a look at both.
+- Lines that went from the old grid had a greater one at the new grid before. Pages of the new grid are read later, so that one is seen. So pages of one grid need not ask for those of
+  another.
+- Removals that were forgotten at the new grid were so only once no old page showed the name, for good. A look that still has an old line reads its page again, and finds it gone.
+- After the signpost an old page gets no line of the slice any more: its journal has the signpost, journals form a chain, and a change that finds it goes on to the new grid.
+- A copy left in a dead journal is below all that came since.
+- Who begins by the new map misses nothing. All old pages were frozen by then, and the new ones showed at least as much. Rule 6c brings along the numbers of removals that were forgotten.
+- A page that splits takes its signposts, NUMBER and AFTERs along, and a session's page that counts is one register. So what a mover has seen of all pages stays so: each shows the
+  signpost, or has a number that is high enough.
+- A copied removal has a number that may be below that of an older page of its session. So SINCE says beside what others were made.
+
     state = walk(name, stop)
     while request := request_of(state):
         state = told(state, ..)           # a client of the grid, or what came of its request
