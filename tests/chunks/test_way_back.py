@@ -1,6 +1,7 @@
 """The last way back: contents of each form, read from journals of nodes and the folders beside them, as far as a copy of them is left."""
 
 import contextlib
+import hashlib
 import io
 import os
 import shutil
@@ -11,10 +12,12 @@ from unittest import mock
 from memory_with_chunks import SHORT, World
 
 from gridfs_client import copies, journals_command, shelves
+from gridfs_client.command import told_of
 from gridfs_client.contents import joined
 from gridfs_client.errors import BadFile
 from gridfs_client.in_chunks import ReadContents
 from gridfs_client.journals import Journals
+from gridfs_client.mirror import ToFolder, ToGrid
 from gridfs_client.names import NamedFiles
 from gridfs_client.shelves import segments_in, sum_of
 from gridfs_client.streams import Source
@@ -302,6 +305,50 @@ class Reading(Cases):
             disk.append(b"extent bob 1 7 1 9 0 50 98\n")
         with contextlib.closing(Journals([disk.path for disk in disks], "ann")) as journals:
             self.assertEqual({tenant for node in journals.nodes for tenant, _ in node.facts.sessions}, {"ann"})
+
+
+class Mirrors(Cases):
+    """A folder and names, also of contents that were put in parts."""
+
+    def mirror(self, kind, **wishes):
+        @contextlib.contextmanager
+        def names(_):
+            files = self.world.client(1)
+            yield files
+            files.close()
+
+        return kind(os.path.join(self.folder, "mirror"), "", names, lambda _: 0, lambda *_: None, self.fail, **wishes).run()
+
+    def test_what_was_put_in_parts_is_not_moved_again(self):
+        self.put_all_forms()
+        self.assertEqual(set(self.mirror(ToFolder).moved), set(self.held))
+        for kind in (ToFolder, ToGrid):
+            report = self.mirror(kind)
+            self.assertEqual((report.moved, report.same), ([], len(self.held)))
+        for name, at in (("parts", 3), ("listed", -1), ("several", 3)):
+            path = os.path.join(self.folder, "mirror", name)
+            with open(path, "r+b") as file:
+                file.seek(at, os.SEEK_SET if at >= 0 else os.SEEK_END)
+                file.write(b"?!?"[: 3 if at >= 0 else 1])
+            with open(path, "rb") as file:
+                self.held[name] = file.read()
+        self.assertEqual(set(self.mirror(ToGrid).moved), {"parts", "listed", "several"})
+        self.assertEqual({name: self.world.client(2).get(name)[0] for name in self.held}, self.held)
+
+    def test_what_is_told_of_parts(self):
+        self.put_all_forms()
+        entries = {entry.name: entry for entry in self.world.client(1).names()}
+        for name, content in self.held.items():
+            whole = hashlib.sha256(content).hexdigest()
+            self.assertEqual(entries[name].sha256, "" if name in ("parts", "listed") else whole)
+            self.assertEqual(told_of(entries[name]).get("sha256", whole), whole)
+            told, begin = self.world.client(2).parts(name), 0
+            for part in told:
+                self.assertEqual((part.is_list, part.sha256), (False, hashlib.sha256(content[begin : begin + part.size]).hexdigest()))
+                begin += part.size
+            self.assertEqual((begin, len(told)), (len(content), 3 if name == "parts" else 4 if name == "listed" else 1))
+        self.assertEqual([part["size"] for part in told_of(entries["parts"])["parts"]], list(map(len, PARTS)))
+        self.assertEqual([sorted(part) for part in told_of(entries["listed"])["parts"]], [["list_sha256", "size"], ["sha256", "size"]])
 
 
 class Copies(Cases):

@@ -119,6 +119,14 @@ class ReadContents:
                     yield Cut(part, max(0, first - begin), min(part.size, end - begin))
             begin += part.size
 
+    def without_lists(self, parts: Iterable[Part]) -> Iterator[Part]:
+        """These parts, and in the place of each list what it names. Gone, Damaged."""
+        for part in parts:
+            if isinstance(part, PartList):
+                yield from self.without_lists(each for each, _ in self.entries(part))
+            else:
+                yield part
+
     def entries(self, listed: PartList) -> tuple[tuple[Part, str], ...]:
         """What a list names, each with its word. Gone, Damaged."""
         if listed not in self.lists:
