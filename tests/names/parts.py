@@ -212,10 +212,14 @@ def commands_over_a_broker(program):
     return f"{tried.tried} compared", tried.wrong
 
 
+TYPED = ["mypy", "--strict", "--follow-imports", "silent", "--cache-dir", os.devnull]
+
+
 def package():
     wrong, done = [], []
     for words, where in (
         (["mypy", "--strict", "--cache-dir", os.devnull, "gridfs_client"], PACKAGE),
+        ([*TYPED, "figures.py", "pictures.py", "record.py", "../bench/recorded.py"], os.path.join(TOP, "tools")),
         (["mandoc", "-Tlint", os.path.join(TOP, "docs", "gridfs-client.1")], "."),
         ([os.path.join(TOP, "tools", "install"), "--client", os.path.abspath("installed")], "."),
     ):
