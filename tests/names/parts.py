@@ -226,6 +226,7 @@ def package():
         told = subprocess.run(words, cwd=where, capture_output=True, text=True)
         wrong += [f"{words[0]}: {told.stdout}{told.stderr}"] if told.returncode else []
         done.append(os.path.basename(words[0]))
+    wrong += [] if os.listdir("installed/lib/gridfs/gridfs_client/__pycache__") else ["install: no module is compiled"]
     wrong += helped("installed/bin/gridfs-client")
     shutil.copytree(PACKAGE, "package")
     subprocess.run([sys.executable, "-m", "venv", "--without-pip", "venv"], check=True)
