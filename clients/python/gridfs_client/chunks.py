@@ -485,7 +485,7 @@ class Chunks:
         """Has the nodes of their columns forget these, for good: no number up to the last of a run, or to the floor, is kept any more. Those of which not all nodes
         told so."""
         asked = self.to_forget(runs, floor)
-        told = self.ask(list(asked), seconds)
+        told = self.ask(list(asked), seconds, lambda told, _: all(question in told or question.place in self.silent for question in asked))
         return list(dict.fromkeys(run for question, run in asked.items() if question not in told))
 
     def raise_floors(self, session: int, floor: int, places: Iterable[int], seconds: float) -> set[int]:
