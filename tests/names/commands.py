@@ -183,7 +183,7 @@ class Commands:
         self.held("what a dry one has left", len(self.run("ls", "gone")[1].splitlines()), 5)
         self.lines("rm -r", ["rm", "-r", "gone/"], [b"removed " + name.encode() for name in names], b"removed 3")
         self.held("what is left", [line.split()[-1] for line in self.run("ls")[1].splitlines()], [b"gone", b"gonex"])
-        self.refused("rm -r of no name", ["rm", "-r", "gone"], 1, "grid:gone/: no name begins so")
+        self.refused("rm -r of no name", ["rm", "-r", "gone"], 1, "gridfs-client: gone/: no name begins so")
         self.refused("a dry run of one name", ["rm", "--dry-run", "gone"], 2, "--dry-run goes with -r")
         status, told, _ = self.run("rm", "-r", "--json", "grid:")
         self.held("rm -r of all names", (status, sorted(json.loads(told)["removed"])), (0, ["gone", "gonex"]))

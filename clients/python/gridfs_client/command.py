@@ -15,7 +15,7 @@ from typing import IO, Any, TypeVar
 
 from . import __version__
 from .answers import PlanTold
-from .asking import LAST_CALL, SILENCE, ask_all, ask_plan, why_unanswered
+from .asking import LAST_CALL, SILENCE, ask_plan, ask_soon, why_unanswered
 from .carriers import INTERRUPTED, Carrier
 from .errors import BadFile, BadSettings, ClientError, NoRoom, NoSuchName, Refused, Silent, Skipped, Unanswered
 from .fleet import MAP_NAME, FleetFiles, expect_no_map
@@ -265,7 +265,8 @@ def parser() -> argparse.ArgumentParser:
          source=dict(place, metavar="SOURCE"), target=dict(place, metavar="TARGET"),
          **{"--dry-run": dict(is_given, help="tell what would be done, and do nothing"),
             "--delete": dict(is_given, help="remove what is in the target and not in the source")})  # fmt: skip
-    word("status", status, "tell which nodes answer, and what the tenant has used of its room")
+    word("status", status, "tell which nodes answer, and then what the tenant has used of its room",
+         **{"--nodes": dict(is_given, dest="is_of_nodes", help="the nodes alone")})  # fmt: skip
     word("sweep", sweep, "forget names that were taken away, and chunks that dead commands left; of all sessions that nobody uses",
          **{"--catch-up": dict(is_given, help="after damage: first let pages that are older than others ask for catch up")})  # fmt: skip
     word("renew", renew, "move contents that are in slots to chunks, once a plan gives room for these; by one session after another, so that others go on")
@@ -507,12 +508,19 @@ def status(opened: Opened | OpenedFleet, args: argparse.Namespace) -> None:
     told = told_shape(opened.told)
     if said and told and said != told:
         raise BadSettings(f"grid: it is {told.rows}x{told.columns}, as its nodes tell, and not {said.rows}x{said.columns}")
-    nodes = ask_all(opened.carrier, min(SILENCE, opened.sessions.pace.timeout), said)
+    nodes = ask_soon(opened.carrier, said)
     assert nodes
+    opened.sessions.pass_over(nodes.silent)
+    if not args.json:
+        out_lines(nodes_lines(nodes))
+    if args.is_of_nodes:
+        if args.json:
+            tell(args, {"tenant": opened.settings.tenant} | nodes_value(nodes))
+        return
     usage, fault = (None, Silent(nodes.summary())) if nodes.goes_on() is False else used(opened.names)
     left_out = str(fault) if fault else None
     value = {"tenant": opened.settings.tenant} | nodes_value(nodes) | usage_value(usage, left_out)
-    tell(args, value, *nodes_lines(nodes), *usage_lines(usage, left_out))
+    tell(args, value, *usage_lines(usage, left_out))
     if fault and not isinstance(fault, BadSettings):
         raise fault
 
