@@ -1,5 +1,7 @@
 /* carry: runs a node, or any program that reads and writes lines `TO FROM BODY`, and carries its lines by an engine. Lines that
-   can't be carried are dropped whole and counted: a node bears their loss. Nothing here waits for the node or for anybody. */
+   can't be carried are dropped whole and counted: a node bears their loss. Nothing here waits for the node or for anybody. A tenant's lines are held up while he takes
+   answers slowly: what is dropped for lack of room he asks for again, later and in vain. One connection that takes nothing at all
+   holds up his others for at most 5 seconds. */
 #define _GNU_SOURCE
 #include "metrics.h"
 #include "node.h"

@@ -1,4 +1,8 @@
-"""Chunks of one session: contents of at most 1 MiB, each written once at all nodes of a column, and read from any of them (docs/CHUNKS.md)."""
+"""Chunks of one session: contents of at most 1 MiB, each written once at all nodes of a column, and read from any of them (docs/CHUNKS.md).
+
+Numbers of chunks are drawn, and not the clock's alone: a clock that went back could give the number of a chunk that is there. With the
+same bytes a node says `kept`. Then two lines would name one chunk, and the first removal would take it from both.
+"""
 
 import random
 import threading

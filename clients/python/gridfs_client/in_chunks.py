@@ -1,4 +1,9 @@
-"""Contents of names in chunks, of one session: written, read, and forgotten once no line names them."""
+"""Contents of names in chunks, of one session: written, read, and forgotten once no line names them.
+
+A content's runs name a column each. So where a chunk can't be kept at one column, what is kept stays, and the rest goes elsewhere. What was
+replaced is forgotten later, so that a get that began before ends well: by a command at its end, by a gateway after a minute. Nothing rests on
+a forget, so nobody waits for its sync.
+"""
 
 from collections import deque
 from collections.abc import Callable, Collection, Generator, Iterable, Iterator

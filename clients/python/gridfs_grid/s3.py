@@ -2,6 +2,8 @@
 
 FOLDER/grid has the grid's files (FOLDER itself, where a grid without S3 was there before), FOLDER/s3 the access keys of each tenant and configurations for s3cmd and rclone, FOLDER/log.NAME what each process told. A
 browser finds a page at http://ADDRESS:PORT/-/; it asks for an access key and its secret.
+
+It starts another `./grid` for the nodes: each has its own log, and either can be killed and started alone.
 """
 
 import os
