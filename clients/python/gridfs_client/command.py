@@ -264,7 +264,8 @@ def parser() -> argparse.ArgumentParser:
     word("mirror", mirror, "make a folder and the names with a prefix alike, one way",
          source=dict(place, metavar="SOURCE"), target=dict(place, metavar="TARGET"),
          **{"--dry-run": dict(is_given, help="tell what would be done, and do nothing"),
-            "--delete": dict(is_given, help="remove what is in the target and not in the source")})  # fmt: skip
+            "--delete": dict(is_given, help="remove what is in the target and not in the source"),
+            "--exclude": dict(metavar="PATTERN", action="append", default=[], help="leave alone, on both sides, what has this name, or with / in it this path from the folder on; * ? [] as a shell has them")})  # fmt: skip
     word("status", status, "tell which nodes answer, and then what the tenant has used of its room",
          **{"--nodes": dict(is_given, dest="is_of_nodes", help="the nodes alone")})  # fmt: skip
     word("sweep", sweep, "forget names that were taken away, and chunks that dead commands left; of all sessions that nobody uses",
@@ -316,8 +317,9 @@ def get(opened: Opened | OpenedFleet, args: argparse.Namespace) -> None:
 
 
 def told_of(entry: Entry) -> dict[str, object]:
-    """An entry, with words where there are any."""
-    return {key: value for key, value in asdict(entry).items() if key != "words" or value}
+    """An entry, with words where there are any, and with the digest of the whole content or what is told of its parts."""
+    parts = [{"size": part.size, "list_sha256" if part.is_list else "sha256": part.sha256} for part in entry.parts]
+    return {key: value for key, value in (asdict(entry) | {"parts": parts}).items() if key not in ("words", "sha256", "parts") or value}
 
 
 def line_of(entry: Entry) -> str:
@@ -386,8 +388,10 @@ def remove_whole(opened: Opened | OpenedFleet, args: argparse.Namespace) -> None
 
 
 def stat(opened: Opened | OpenedFleet, args: argparse.Namespace) -> None:
-    entry = told_of(opened.by_sessions(lambda names: names.stat(args.name)))
-    tell(args, entry, *(f"{key}: {value}" for key, value in entry.items()))
+    entry = opened.by_sessions(lambda names: names.stat(args.name))
+    value = told_of(entry)
+    parts = {"parts": ", ".join(f"{part.size} {'list ' * part.is_list}{part.sha256}" for part in entry.parts)} if entry.parts else {}
+    tell(args, value, *(f"{key}: {each}" for key, each in (value | parts).items()))
 
 
 def sweep(opened: Opened | OpenedFleet, args: argparse.Namespace) -> None:
@@ -489,6 +493,7 @@ def mirror(opened: Opened | OpenedFleet, args: argparse.Namespace) -> None:
     kind = ToFolder if to_grid is None else ToGrid
     prefix = from_grid if to_grid is None else to_grid
     made = kind(folder, prefix or "", opened.names_for, opened.turn_of, line_teller(args), complain, args.delete, args.dry_run)
+    made.excludes = args.exclude
     report = made.run()
     value = {"dry_run": args.dry_run, made.word: report.moved, "removed": report.removed, "same": report.same, "skipped": report.skipped}
     moved, removed = (f"would {made.word}", "remove") if args.dry_run else (made.done, "removed")

@@ -10,7 +10,7 @@ from typing import IO
 
 from . import core, ways
 from .buckets import OLDER, Bucket, Held, held_of
-from .contents import Content, Inline
+from .contents import Content, Inline, PartTold
 from .core import Line, Version
 from .errors import BadName, BadSettings, ClientError, Damaged, NoRoom, NoSuchName, Replaced
 from .fleet_map import FleetMap
@@ -184,6 +184,11 @@ class FleetFiles:
     def stat(self, name: str) -> Entry:
         check_name(name)
         return entry_of(self.present(name)[2])
+
+    def parts(self, name: str) -> tuple[PartTold, ...]:
+        check_name(name)
+        _, found, held = self.present(name)
+        return self.grid(found.grid).parts_of(held)
 
     def put(self, name: str, content: bytes | IO[bytes], words: Callable[[], str] = no_words) -> Entry:
         check_name(name)

@@ -10,13 +10,14 @@ from collections.abc import Callable, Collection, Generator, Iterable, Iterator
 from contextlib import closing, suppress
 from dataclasses import dataclass
 from itertools import islice
-from typing import cast
+from typing import Protocol, cast
 
 from .carriers import Carrier
 from .chunk_lines import CHUNK_CHARGE, MOST_CHUNK
 from .chunks import MORE_ROOM, ROOM_LASTS, Chunks, Rooms, Wanted
 from .contents import InChunks, InSlots, PartList, Part, digest_in_hex, parse_part, to_base64
 from .errors import CarrierFault, Damaged, NoRoom, Unanswered
+from .grid import Shape
 from .runs import Place, Run, runs_of
 from .sessions import Files, Session
 from .streams import Digest, Source
@@ -43,14 +44,116 @@ class Cut:
         return (self.first, self.end) == (0, self.part.size)
 
 
-class ChunkContents:
-    """The contents of a session in chunks."""
+class ChunkSource(Protocol):
+    """Where chunks are read from: nodes, or what nodes have on their disks."""
+
+    @property
+    def shape(self) -> Shape: ...
+
+    def get(self, wanted: Iterable[Wanted]) -> Generator[bytes | None, None, None]:
+        """The bytes that are wanted of these chunks, in their order; None for one that was forgotten. Damaged where there is no sound one."""
+
+
+class ReadContents:
+    """Contents in chunks, to be read."""
 
     most = MOST_CHUNK  # fewer in tests
 
-    def __init__(self, chunks: Chunks):
-        self.chunks = chunks
+    def __init__(self, source: ChunkSource):
+        self.source = source
         self.lists: dict[PartList, tuple[tuple[Part, str], ...]] = {}
+
+    def remember(self, listed: PartList, entries: tuple[tuple[Part, str], ...]) -> PartList:
+        if len(self.lists) >= MOST_LISTS:
+            del self.lists[next(iter(self.lists))]
+        self.lists[listed] = entries
+        return listed
+
+    def wanted(self, part: InChunks, first: int, end: int) -> Iterator[Wanted]:
+        """The chunks that have the bytes from the first to before the end."""
+        places = (place for run in part.runs for place in run.places())
+        for at, place in enumerate(places):
+            begin = at * self.most
+            size = min(self.most, part.size - begin)
+            if begin + size > first and begin < end:
+                from_here = max(0, first - begin)
+                yield Wanted(place, size, from_here, min(size, end - begin) - from_here)
+
+    def read(self, part: InChunks) -> Generator[bytes, None, None]:
+        """All bytes of a content, as `read_cuts` gives them."""
+        return self.read_cuts([Cut(part, 0, part.size)])
+
+    def read_cuts(self, cuts: Iterable[Cut]) -> Generator[bytes, None, None]:
+        """What is cut from these contents, one after another; the last bytes of one that is read whole once its digest was found right. Gone where a chunk was
+        forgotten; Damaged."""
+        coming = deque[Cut]()
+
+        def wanted() -> Iterator[Wanted]:
+            for cut in cuts:
+                if cut.part.pieces != -(-cut.part.size // self.most):
+                    raise Damaged("as many chunks as are named don't hold so many bytes")
+                if any(run.column >= self.source.shape.columns for run in cut.part.runs):
+                    raise Damaged(f"it is in a column that a grid of {self.source.shape.columns} has not: is `grid` right?")
+                coming.append(cut)
+                yield from self.wanted(cut.part, cut.first, cut.end)
+
+        digest, read = Digest(), 0
+        with closing(self.source.get(wanted())) as found:
+            for piece in found:
+                if piece is None:
+                    raise Gone
+                cut = coming[0]
+                read += len(piece)
+                if cut.is_whole:
+                    digest.update(piece)
+                if read == cut.end - cut.first:
+                    if cut.is_whole and digest.digest().hex() != digest_in_hex(cut.part.digest):
+                        raise Damaged("its chunks don't hold it")
+                    digest, read = Digest(), 0
+                    coming.popleft()
+                yield piece
+
+    def cuts(self, parts: Iterable[Part], first: int, end: int) -> Iterator[Cut]:
+        """What has the bytes from the first to before the end, of contents that are in chunks, one behind the other. Lists are read as they are come to."""
+        begin = 0
+        for part in parts:
+            if begin < end and begin + part.size > first and part.size:
+                if isinstance(part, PartList):
+                    yield from self.cuts((each for each, _ in self.entries(part)), first - begin, end - begin)
+                elif isinstance(part, InChunks):
+                    yield Cut(part, max(0, first - begin), min(part.size, end - begin))
+            begin += part.size
+
+    def without_lists(self, parts: Iterable[Part]) -> Iterator[Part]:
+        """These parts, and in the place of each list what it names. Gone, Damaged."""
+        for part in parts:
+            if isinstance(part, PartList):
+                yield from self.without_lists(each for each, _ in self.entries(part))
+            else:
+                yield part
+
+    def entries(self, listed: PartList) -> tuple[tuple[Part, str], ...]:
+        """What a list names, each with its word. Gone, Damaged."""
+        if listed not in self.lists:
+            if listed.length > MOST_LENGTH:
+                raise Damaged("the list of its parts is too long")
+            try:
+                lines = b"".join(self.read(listed.list)).decode().splitlines()
+                entries = tuple((parse_part(" ".join(words[:3])), " ".join(words[3:])) for words in (line.split(" ") for line in lines))
+            except (ValueError, IndexError):
+                raise Damaged("the list of its parts has no form") from None
+            if sum(part.size for part, _ in entries) != listed.size or any(not isinstance(part, InChunks) for part, _ in entries):
+                raise Damaged("the list of its parts has another length")
+            self.remember(listed, entries)
+        return self.lists[listed]
+
+
+class ChunkContents(ReadContents):
+    """The contents of a session in chunks."""
+
+    def __init__(self, chunks: Chunks):
+        super().__init__(chunks)
+        self.chunks = chunks
 
     def rooms(self) -> Rooms:
         """What nodes have room for; nothing where the tenant may have no chunks."""
@@ -107,84 +210,6 @@ class ChunkContents:
         text = "".join(f"{part.text()}{f' {word}' if word else ''}\n" for part, word in entries).encode()
         at = self.put(Source(text), column, lambda *_: None)
         return self.remember(PartList(sum(part.size for part, _ in entries), at.digest, at.size, at.runs), entries)
-
-    def remember(self, listed: PartList, entries: tuple[tuple[Part, str], ...]) -> PartList:
-        if len(self.lists) >= MOST_LISTS:
-            del self.lists[next(iter(self.lists))]
-        self.lists[listed] = entries
-        return listed
-
-    # Reading
-
-    def wanted(self, part: InChunks, first: int, end: int) -> Iterator[Wanted]:
-        """The chunks that have the bytes from the first to before the end."""
-        places = (place for run in part.runs for place in run.places())
-        for at, place in enumerate(places):
-            begin = at * self.most
-            size = min(self.most, part.size - begin)
-            if begin + size > first and begin < end:
-                from_here = max(0, first - begin)
-                yield Wanted(place, size, from_here, min(size, end - begin) - from_here)
-
-    def read(self, part: InChunks) -> Generator[bytes, None, None]:
-        """All bytes of a content, as `read_cuts` gives them."""
-        return self.read_cuts([Cut(part, 0, part.size)])
-
-    def read_cuts(self, cuts: Iterable[Cut]) -> Generator[bytes, None, None]:
-        """What is cut from these contents, one after another; the last bytes of one that is read whole once its digest was found right. Gone where a chunk was
-        forgotten; Damaged."""
-        coming = deque[Cut]()
-
-        def wanted() -> Iterator[Wanted]:
-            for cut in cuts:
-                if cut.part.pieces != -(-cut.part.size // self.most):
-                    raise Damaged("as many chunks as are named don't hold so many bytes")
-                if any(run.column >= self.chunks.shape.columns for run in cut.part.runs):
-                    raise Damaged(f"it is in a column that a grid of {self.chunks.shape.columns} has not: is `grid` right?")
-                coming.append(cut)
-                yield from self.wanted(cut.part, cut.first, cut.end)
-
-        digest, read = Digest(), 0
-        with closing(self.chunks.get(wanted())) as found:
-            for piece in found:
-                if piece is None:
-                    raise Gone
-                cut = coming[0]
-                read += len(piece)
-                if cut.is_whole:
-                    digest.update(piece)
-                if read == cut.end - cut.first:
-                    if cut.is_whole and digest.digest().hex() != digest_in_hex(cut.part.digest):
-                        raise Damaged("its chunks don't hold it")
-                    digest, read = Digest(), 0
-                    coming.popleft()
-                yield piece
-
-    def cuts(self, parts: Iterable[Part], first: int, end: int) -> Iterator[Cut]:
-        """What has the bytes from the first to before the end, of contents that are in chunks, one behind the other. Lists are read as they are come to."""
-        begin = 0
-        for part in parts:
-            if begin < end and begin + part.size > first and part.size:
-                if isinstance(part, PartList):
-                    yield from self.cuts((each for each, _ in self.entries(part)), first - begin, end - begin)
-                elif isinstance(part, InChunks):
-                    yield Cut(part, max(0, first - begin), min(part.size, end - begin))
-            begin += part.size
-
-    def entries(self, listed: PartList) -> tuple[tuple[Part, str], ...]:
-        """What a list names, each with its word. Gone, Damaged."""
-        if listed not in self.lists:
-            if listed.length > MOST_LENGTH:
-                raise Damaged("the list of its parts is too long")
-            try:
-                lines = b"".join(self.read(listed.list)).decode().splitlines()
-                entries = tuple((parse_part(" ".join(words[:3])), " ".join(words[3:])) for words in (line.split(" ") for line in lines))
-            except (ValueError, IndexError):
-                raise Damaged("the list of its parts has no form") from None
-            if sum(part.size for part, _ in entries) != listed.size or any(not isinstance(part, InChunks) for part, _ in entries):
-                raise Damaged("the list of its parts has another length")
-            self.remember(listed, entries)
-        return self.lists[listed]
 
     # Forgetting
 
