@@ -284,7 +284,7 @@ class Waiting(unittest.TestCase):
 
     def test_homes_that_are_well(self):
         """One that is up and late is not passed over, as while it goes round a silent node; nor is one noted that was late, and told something in the end."""
-        homes, late, begun = [Home(node) for node in range(4)], 1.5, []
+        homes, late, begun = [Home(node) for node in range(4)], 0.0, []
 
         def play(node, body):
             if body == "plan":
@@ -293,7 +293,7 @@ class Waiting(unittest.TestCase):
                 return []
             return homes[node](node, body)
 
-        for late, number, noted in ((1.5, 1, set()), (60, 2, set())):
+        for late, number, noted in ((0.6, 1, set()), (60, 2, set())):
             carrier = Played(play)
             begun[:] = [carrier.clock]
             with tempfile.TemporaryDirectory() as folder:
