@@ -276,6 +276,11 @@ class FleetFiles:
         for files in self.grids.values():
             files.close()
 
+    def let_go(self) -> None:
+        """Behind a call that did not end well, as at one grid."""
+        for files in self.grids.values():
+            files.let_go()
+
 
 def spool() -> "tempfile.SpooledTemporaryFile[bytes]":
     return tempfile.SpooledTemporaryFile(1 << 20)

@@ -133,6 +133,8 @@ class Look:
 
     def is_late(self) -> None:
         """Nobody is waited for any more: who did not answer is silent."""
+        for node in self.waits_for():
+            self.carrier.note_unheard(node)
         self.silence.since.update(dict.fromkeys(self.waits_for(), self.carrier.now()))
 
     def take(self, told: LookTold, begun: float) -> None:

@@ -409,7 +409,7 @@ class Removal(Mirror):
     def run(self) -> Report:
         entries = self.entries()
         if not entries:
-            raise NoSuchName(f"{GRID}{self.prefix}: no name begins so")
+            raise NoSuchName(f"{shown(self.prefix)}: no name begins so" if self.prefix else "there are no names")
         self.remove_all(entries)
         return self.report
 

@@ -27,7 +27,7 @@ MOST_LOST = 14  # nodes that may be lost at a place, one after another
 def tick_of(longest, least):
     """Seconds from one tick to the next, which are so many where lines are short: a tick that comes before the longest line was answered has it sent
     again."""
-    return least + (longest - SHORT_LINE) / SLOWEST / 4
+    return least + max(0, longest - SHORT_LINE) / SLOWEST / 4
 
 
 class Request:
