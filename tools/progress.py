@@ -21,7 +21,7 @@ def at_once():
     return max(1, min(len(os.sched_getaffinity(0)), free // BYTES_OF_A_CHECK))
 
 
-def crates_below(program=None):
+def crates_below(program: str | None = None) -> dict[str, list[str]]:
     """The crates that a program stands on and the program, or all crates, each with those of the repository that its line in
     crates.txt names. The lowest are first."""
     below = {}

@@ -17,17 +17,17 @@ RECORD = f"{TOP}/crates/{PROGRAM}/out/{PROGRAM}.proved"
 PARTS = ("src", "specs", "proofs")
 
 
-def digest_of_file(path):
+def digest_of_file(path: str) -> str:
     with open(path, "rb") as file:
         return hashlib.file_digest(file, "sha256").hexdigest()
 
 
-def kit():
+def kit() -> str:
     """The kit that is on the path, as it names itself."""
     return subprocess.run(["rt", "version"], capture_output=True, text=True, check=True).stdout.strip()
 
 
-def commit():
+def commit() -> str:
     """The commit of the checkout, or where it is none that this isn't known."""
     git = ["git", "-C", TOP]
     try:
@@ -38,7 +38,7 @@ def commit():
     return named + (", and changes that were not committed" if changed else "")
 
 
-def own_digest(crate, line, by):
+def own_digest(crate: str, line: str, by: str) -> str:
     """The digest of the crate's own files and of its line in crates.txt, with this kit."""
     digest = hashlib.sha256(repr((by, line, digest_of_file(f"{TOP}/HANDLES"))).encode())
     for part in PARTS:
@@ -50,14 +50,14 @@ def own_digest(crate, line, by):
     return digest.hexdigest()
 
 
-def digests(by, program=PROGRAM):
+def digests(by: str, program: str = PROGRAM) -> dict[str, str]:
     """The digests of the crates that a program stands on and of the program, with this kit."""
     below = crates_below(program)
-    with open(f"{TOP}/crates.txt") as lines:
-        lines = {line.partition(":")[0].split()[0]: line.strip() for line in lines if ":" in line.partition("#")[0]}
-    found = {}
+    with open(f"{TOP}/crates.txt") as listed:
+        lines = {line.partition(":")[0].split()[0]: line.strip() for line in listed if ":" in line.partition("#")[0]}
+    found: dict[str, str] = {}
 
-    def found_for(crate):
+    def found_for(crate: str) -> str:
         if crate not in found:
             lower = [found_for(it) for it in below[crate]]
             found[crate] = hashlib.sha256(repr((own_digest(crate, lines[crate], by), lower)).encode()).hexdigest()
@@ -68,7 +68,7 @@ def digests(by, program=PROGRAM):
     return found
 
 
-def keep_record(sources, by, of_commit):
+def keep_record(sources: str, by: str, of_commit: str) -> None:
     """Says beside the program that its whole build and all proofs were run on sources of this digest, by this kit."""
     values = {
         "sources": sources,
@@ -82,7 +82,7 @@ def keep_record(sources, by, of_commit):
     os.replace(f"{RECORD}.new", RECORD)
 
 
-def kept_record():
+def kept_record() -> dict[str, str]:
     """The values of the record; none where there is no whole one."""
     try:
         with open(RECORD) as lines:
@@ -92,7 +92,7 @@ def kept_record():
     return values if {"sources", "program", "kit", "commit", "date"} <= values.keys() else {}
 
 
-def is_of(record, sources):
+def is_of(record: dict[str, str], sources: str) -> bool:
     """Whether the program that is there is the one of the record, of sources of this digest."""
     program = f"{TOP}/crates/{PROGRAM}/out/{PROGRAM}"
     return bool(record) and record["sources"] == sources and os.path.isfile(program) and digest_of_file(program) == record["program"]

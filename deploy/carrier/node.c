@@ -1,5 +1,7 @@
 /* carry: runs a node, or any program that reads and writes lines `TO FROM BODY`, and carries its lines by an engine. Lines that
-   can't be carried are dropped whole and counted: a node bears their loss. Nothing here waits for the node or for anybody. */
+   can't be carried are dropped whole and counted: a node bears their loss. Nothing here waits for the node or for anybody. A tenant's lines are held up while he takes
+   answers slowly: what is dropped for lack of room he asks for again, later and in vain. One connection that takes nothing at all
+   holds up his others for at most 5 seconds. */
 #define _GNU_SOURCE
 #include "metrics.h"
 #include "node.h"
@@ -30,6 +32,7 @@ enum {
     METRICS = 10,               /* seconds between two writes of the metrics */
     GREET_FIRST = 3,            /* seconds from the node's first line, by when links are up, until it is to greet the others, .. */
     GREET = 60,                 /* .. and from then on to the next time */
+    LACKS = 10,                 /* seconds from a line by which the node asks for chunks that it lacks until it has all, or nobody gives them */
     PLACES = 64,                /* of nodes: that of a node is its number modulo this */
     FORGET = 3 * GREET          /* seconds after which what a node told of its lines is not believed any more */
 };
@@ -54,7 +57,10 @@ static bool skipping, node_full;                /* in a line that is too long; t
 static double rested;                           /* when a tenant that waits for his rate may go on */
 static uint64_t given, tick_end;                /* bytes written to the node, in all and up to its last tick */
 static size_t tick_waits;                       /* bytes of its own queue up to the end of a tick; 0 without one */
-static double tick_time, tick_due;
+static double tick_time, tick_due, tick_given;
+static double quick_time;                       /* from one tick to the next while a peer is silent */
+static double asked_since[PLACES];              /* of the node at each place: when it was first sent a line since it told one; 0 where it was sent none */
+static double lacks_until;                      /* as long as the node asked for chunks a moment ago */
 static const char *metrics_file, *journal;      /* NULL where there is none */
 static double metrics_due, last_line;           /* when the metrics are written; when the node last wrote something, 0 before */
 static bool node_ready;                         /* it has read its journal */
@@ -228,7 +234,7 @@ void for_node(struct queue *queue, const char *text, size_t length) {
         else if (strlen(queue->head) + body > longest) count.too_long++;
         else if (body && add(queue, queue->head, text, body, &count.full)) {
             count.in++;
-            if (!is_tenant(queue->name) && queue != mine) hear_form(queue->name, text, body);
+            if (!is_tenant(queue->name) && queue != mine) hear_form(queue->name, text, body), asked_since[atoi(queue->name) % PLACES] = 0;
             if (queue->tally) queue->tally->lines++, queue->tally->bytes += (long)body + 1;
         }
     }
@@ -326,6 +332,17 @@ static void give_tick(void) {
     if (add(mine, mine->head, "tick", 4, &count.full)) tick_waits = held(mine), ticks++;
 }
 
+/* Only a tick has a session ask round a peer that is silent, so ticks come quickly then, by the length of registers' lines. They don't while the node asks for chunks that it lacks: a tick
+   has it ask again, and those lines are long. */
+static double next_tick(double time) {
+    double due = tick_due;
+    for (size_t i = 0; i < PLACES && time >= lacks_until; i++) {
+        double since = asked_since[i] > tick_given ? asked_since[i] : tick_given;
+        if (asked_since[i] > 0 && since + quick_time < due) due = since + quick_time;
+    }
+    return due;
+}
+
 /* It is to tell the others which forms of lines it speaks: again and again, since lines are lost, and others are started again. */
 static void give_greet(double time) {
     if (node_in.fd >= 0 && add(mine, mine->head, "greet", 5, &count.full)) greet_due = time + about(GREET);
@@ -346,6 +363,24 @@ static void charge_for(const char *to, size_t name, const char *body, size_t len
     }
 }
 
+/* Whether one of these words, each with a space behind it, stands behind so many others. */
+static bool has_word(const char *body, size_t length, int others, const char *const *words) {
+    const char *end = body + length, *space;
+    for (; others; others--, body = space + 1)
+        if (!(space = memchr(body, ' ', (size_t)(end - body)))) return false;
+    for (; *words; words++)
+        if ((size_t)(end - body) >= strlen(*words) && !memcmp(body, *words, strlen(*words))) return true;
+    return false;
+}
+
+/* A line to the node of this name. A letter that asks is answered at once: `T S OP ROUND V F ask ..`, and others. */
+static void asks_peer(const char *name, const char *body, size_t length) {
+    static const char *const letters[] = {"ask", "store ", "confirm ", NULL}, *const chunks[] = {"seeks ", "wants ", NULL};
+    double *since = &asked_since[atoi(name) % PLACES];
+    if (*since == 0 && has_word(body, length, 6, letters)) *since = last_line;
+    if (has_word(body, length, 1, chunks)) lacks_until = last_line + LACKS;
+}
+
 static void take_line(const char *text, size_t length) {
     const char *space = memchr(text, ' ', length);
     size_t name = space ? (size_t)(space - text) : 0, head = name + own + 2;
@@ -359,7 +394,7 @@ static void take_line(const char *text, size_t length) {
     else if (!good) count.strange++;
     else if (name == own && !memcmp(text, me, own)) for_node(mine, text + head, length - head);
     else {
-        if (!is_tenant(text)) hear_form(me, text + head, length - head);
+        if (!is_tenant(text)) hear_form(me, text + head, length - head), asks_peer(text, text + head, length - head);
         engine_carry(text, name, text + head, length - head);
     }
 }
@@ -487,11 +522,11 @@ static void pass(const sigset_t *open_mask) {
     mind_metrics(time);
     if (hung_up) hung_up = 0, engine_runs ? engine_hangup() : (void)0;
     if (ending || fault) end_input();
-    if (time >= tick_due) give_tick(), tick_due = time + about(tick_time);
+    if (time >= next_tick(time)) give_tick(), tick_given = time, tick_due = time + about(tick_time);
     if (greet_due > 0 && time >= greet_due) give_greet(time);
     wake = engine_runs ? engine_turn(time) : time + 0.1;
     feed_node(time);
-    if (tick_due < wake) wake = tick_due;
+    if (next_tick(time) < wake) wake = next_tick(time);
     if (greet_due > 0 && greet_due < wake) wake = greet_due;
     if (metrics_file && metrics_due < wake) wake = metrics_due;
     if (!node_full && rested > time && rested < wake) wake = rested;
@@ -507,7 +542,7 @@ static const char usage[] =
     "             [--grid GRID] [--tick SECONDS] [--plan FILE | --longest BYTES] [--metrics FILE] NUMBER -- COMMAND [ARG ..]\n"
     "Runs COMMAND as node NUMBER and carries its lines. It gives a tick each 0.25 s, and carries lines of at most 4095\n"
     "bytes without their end. If the plan, or --longest, has longer lines, it carries these, and ticks come less often:\n"
-    "each 2.25 s for lines of 2 MiB. SIGTERM ends the command's input, and waits for its end; SIGUSR1 prints the counts.\n"
+    "each 2.25 s for lines of 2 MiB, or by the plan's other lines while a node is silent that was asked. SIGTERM ends the command's input, and waits for its end; SIGUSR1 prints the counts.\n"
     "FILE gets metrics for Prometheus each ten seconds, at SIGUSR1 and at the end. GRID is a name for the grid, where several share\n"
     "a machine or a broker: a letter a to z, and up to 15 more letters or digits. It is a label of the metrics.\n"
     "Status: the command's, or 128 and the number of the signal that ended it; 1: a file can't be used; 2: a wrong word;\n"
@@ -529,9 +564,9 @@ double number(const char *what, const char *word, double least, double most) {
 }
 
 /* Who is gone by a plan, and its longest line: 255 bytes, and 128 for each block that a tenant's largest file may have; or, of what a tenant
-   has, 400 and 15 for each of its lines `open`; or, where a tenant has room for chunks, the longest of any plan. (The node itself refuses a
+   has, 400 and 15 for each of its lines `open`; or, where a tenant has room for chunks, the longest of any plan, beside the longest of others. (The node itself refuses a
    plan with a fault.) */
-static size_t read_plan(const char *plan) {
+static size_t read_plan(const char *plan, size_t *others) {
     struct { char name[17]; size_t opens; } tenants[TENANTS] = {{"", 0}};
     char row[256], name[17];
     size_t found = LONGEST, many = 0;
@@ -551,13 +586,16 @@ static size_t read_plan(const char *plan) {
         } else if (behind && sscanf(row, "gone %16s", name) == 1) {
             add_gone(name);
         } else if (behind && sscanf(row, "%16s chunks %lu", name, &kib) == 2) {
-            length = LONGEST_EVER;
+            found = LONGEST_EVER;
         }
-        if (found < length && length <= LONGEST_EVER) found = length;
+        if (*others < length && length <= LONGEST_EVER) *others = length;
+        if (found < *others) found = *others;
     }
     fclose(file);
     return found;
 }
+
+static double tick_of(size_t line) { return 0.25 + (double)(line - LONGEST) / (1 << 20); }
 
 static char **read_words(char **at) {
     const char *tick = NULL, *length = NULL, *plan = NULL;
@@ -571,9 +609,11 @@ static char **read_words(char **at) {
         if (!found->word || !at[1]) wrong(found->word ? "another word has to follow" : "no such word", *at);
         *found->to = at[1];
     }
-    if (plan) longest = read_plan(plan);
-    if (length) longest = (size_t)number("--longest", length, LONGEST, LONGEST_EVER);
-    tick_time = tick ? number("--tick", tick, 0.01, 3600) : 0.25 + (double)(longest - LONGEST) / (1 << 20);
+    size_t of_registers = LONGEST;
+    if (plan) longest = read_plan(plan, &of_registers);
+    if (length) longest = of_registers = (size_t)number("--longest", length, LONGEST, LONGEST_EVER);
+    tick_time = tick ? number("--tick", tick, 0.01, 3600) : tick_of(longest);
+    quick_time = tick ? tick_time : tick_of(of_registers);
     if (!at[0] || !at[1] || strcmp(at[1], "--") || !at[2]) wrong("NUMBER -- COMMAND", "is wanting");
     me = at[0], own = strlen(me);
     if (metrics_file && !*metrics_file) metrics_file = NULL;

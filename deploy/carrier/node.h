@@ -1,5 +1,7 @@
 /* A carrier has two parts. This one runs the node as a child and keeps what waits for it. The other one, an engine, brings
-   lines from others and to them. */
+   lines from others and to them: links, or one broker of MQTT. Several brokers outlive one of them, but an operation costs more, and
+   passwords are kept at each. Of the messengers that were tried a cluster of NATS took the most processor time, and in ZeroMQ a
+   peer gives itself its name. */
 #ifndef NODE_H
 #define NODE_H
 #include "loop.h"

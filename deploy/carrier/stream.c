@@ -144,6 +144,7 @@ bool take(struct stream *it, int fd, SSL_CTX *context) {
     SSL_set_accept_state(it->ssl);
     it->state = SHAKING, it->dialed = false;
     shake(it);
+    if (it->state == OPEN && !it->paused) it->readable(it);     /* (all may have come at once: no event comes for what TLS has read ahead) */
     return true;
 }
 

@@ -374,6 +374,24 @@ class Asked(unittest.TestCase):
         self.assertEqual((chunks.has_unneeded, [len(server.chunks) for server in servers.at.values()]), (False, [6, 5, 6, 5]))
         self.assertEqual(len(net.asked), 1)  # (that of this test: none is kept of what has ended)
 
+    def test_a_node_that_is_silent(self):
+        """Another one of the column is asked at once, also for long contents; and where that is known, at first. Room is told without it."""
+        servers = Servers()
+        net = Net(servers)
+        runs = client(net).keep(iter([b"x" * (1 << 20)] * 4), 0)
+        for is_noticed, most in ((True, 1), (False, 8)):
+            net.tells_parts, net.unheard, servers.at[0].is_up = is_noticed, {}, False
+            chunks, begun = client(net), net.clock
+            self.assertEqual(len(list(chunks.get(wanted(runs, [1 << 20] * 4)))), 4)
+            self.assertTrue(0.4 < net.clock - begun < most or not is_noticed, net.clock - begun)
+        net.tells_parts, net.unheard = True, {}
+        net.note_unheard(0)
+        chunks, begun = client(net), net.clock
+        self.assertEqual(len(list(chunks.get(wanted(runs, [1 << 20] * 4)))), 4)
+        self.assertEqual(sorted(chunks.ask_rooms(5)), [1, 2, 3])
+        self.assertLess(net.clock - begun, 0.3)
+        servers.at[0].is_up = True
+
     def test_forget_many(self):
         servers = Servers()
         net = Net(servers, lost=0.2)

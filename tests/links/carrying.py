@@ -472,6 +472,28 @@ def ticks(program, folder):
         carry.end()
 
 
+def ticks_while_a_node_is_silent(program, folder):
+    """By a plan with chunks a tick comes each 2.25 s, and more often while a node that was asked tells nothing; but not while this one asks for chunks that it lacks."""
+
+    def come(seconds):
+        before = carry.ticks()
+        time.sleep(seconds)
+        return carry.ticks() - before
+
+    carry = fresh(program, folder, CHUNKS)
+    try:
+        for line in (b"1 0 speaks 3\n", b"1 0 ann 1 5 1 0 0 copy 7 1 00\n"):  # (what wants no answer)
+            carry.says(line)
+        check(come(3) <= 2, "ticks come quickly, and nobody was asked")
+        carry.says(b"1 0 ann 1 5 1 0 0 ask\n")
+        wait_for(lambda: come(3) > 4, "ticks come slowly while a node is silent", 10 * SOON)
+        carry.says(b"1 0 ann seeks 1 1 0\n")
+        time.sleep(0.5)
+        check(come(3) <= 2, "ticks come quickly while chunks are lacking")
+    finally:
+        carry.end()
+
+
 def a_burst(program, folder):
     """While the node reads nothing, few lines of ann's burst are given to it, and so bob's line comes right behind these."""
     path = os.path.join(folder, "0.prom")
@@ -815,6 +837,17 @@ def linked_by_name(program, folder, name, other):
             node.end()
 
 
+def a_first_line_behind_a_handshake(program, folder):
+    """A line that came with the end of the handshake is taken, though no more bytes come."""
+    carry = fresh(wrapped(program, folder, "SSL_do_handshake", "held_up"), folder)
+    try:
+        with come(carry, "ann") as ann:
+            ann.sendall(b"first\n")
+            carry.gets(b"0 ann first")
+    finally:
+        carry.end()
+
+
 def a_slow_name(program, folder):
     """Node 1 has a name that takes long to look up: node 2 is dialed meanwhile."""
     linked_by_name(program, folder, "slow.example", 2)
@@ -1017,5 +1050,5 @@ def metrics_as_prometheus_reads(program, folder):
         carry.end()
 
 
-CHECKS = [odd_files, hosts_amid_a_write, its_own_ports, another_authority, costly_ones, who_may_come, a_denied_one_stays_out, who_is_gone_is_told, who_is_dialed, lines_are_whole, answers_go_home, chunks_go_home, a_tenant_who_takes_his_time, nodes_are_linked, a_still_node, ticks, a_burst, long_answers, a_slow_reader, too_many, long_lines, what_a_tenant_of_many_volumes_has, its_end, its_words, ends_soon, a_slow_name, a_name_of_two_addresses, a_node_that_does_not_end, what_a_denied_one_said, metrics_are_true, forms_are_told, metrics_are_whole]
+CHECKS = [odd_files, hosts_amid_a_write, its_own_ports, another_authority, costly_ones, who_may_come, a_denied_one_stays_out, who_is_gone_is_told, who_is_dialed, lines_are_whole, answers_go_home, chunks_go_home, a_tenant_who_takes_his_time, nodes_are_linked, a_still_node, ticks, ticks_while_a_node_is_silent, a_burst, long_answers, a_slow_reader, too_many, long_lines, what_a_tenant_of_many_volumes_has, its_end, its_words, ends_soon, a_first_line_behind_a_handshake, a_slow_name, a_name_of_two_addresses, a_node_that_does_not_end, what_a_denied_one_said, metrics_are_true, forms_are_told, metrics_are_whole]
 LONG_CHECKS = [metrics_as_prometheus_reads, forms_are_told_again]

@@ -183,7 +183,7 @@ class Commands:
         self.held("what a dry one has left", len(self.run("ls", "gone")[1].splitlines()), 5)
         self.lines("rm -r", ["rm", "-r", "gone/"], [b"removed " + name.encode() for name in names], b"removed 3")
         self.held("what is left", [line.split()[-1] for line in self.run("ls")[1].splitlines()], [b"gone", b"gonex"])
-        self.refused("rm -r of no name", ["rm", "-r", "gone"], 1, "grid:gone/: no name begins so")
+        self.refused("rm -r of no name", ["rm", "-r", "gone"], 1, "gridfs-client: gone/: no name begins so")
         self.refused("a dry run of one name", ["rm", "--dry-run", "gone"], 2, "--dry-run goes with -r")
         status, told, _ = self.run("rm", "-r", "--json", "grid:")
         self.held("rm -r of all names", (status, sorted(json.loads(told)["removed"])), (0, ["gone", "gonex"]))
@@ -348,6 +348,60 @@ class Commands:
         self.held("a sweep behind it", self.run("sweep")[0], 0)
         self.held("all room is free", [each["used"] for each in json.loads(self.run("status", "--json")[1])["chunks"]], [0, 0])
 
+    # Room
+
+    def used(self):
+        """The bytes of chunks in each column."""
+        return [each["used"] for each in json.loads(self.run("status", "--json", GRIDFS_SESSION="4")[1])["chunks"]]
+
+    @contextlib.contextmanager
+    def put_from_a_pipe(self, size, **more):
+        """A put by session 1 of which nodes have chunks, and which waits for more."""
+        put = subprocess.Popen([PYTHON, "-B", CLIENT, "put", "-", "half"], stdin=subprocess.PIPE, stderr=subprocess.PIPE, env=self.environment(GRIDFS_SESSION="1", **more))
+        with contextlib.suppress(BrokenPipeError), put:
+            put.stdin.write(os.urandom(size))
+            until = time.monotonic() + SECONDS
+            while not any(self.used()) and time.monotonic() < until:
+                time.sleep(0.05)
+            yield put
+
+    def room_that_is_given_back(self):
+        """Whatever a command ends with, and also where it is killed, nothing stays taken but what names need."""
+        content = os.urandom(1 << 20)
+        for name in ("a", "b"):
+            self.told(f"put of {name}", ["put", "-", name], b"", given=content)
+        self.refused("rm of a name that is not there, among others", ["rm", "a", "missing", "b"], 1, "missing: no such name")
+        self.held("what rm left", (self.run("ls"), self.used()), ((0, b"", ""), [0, 0]))
+        self.told("rm -f of no name", ["rm", "-f", "a", "b"], b"")
+        self.told("rm -r -f of no name", ["rm", "-r", "-f", "--quiet", "a"], b"")
+        status, told, why = self.run("rm", "a", "b")
+        self.held("rm of no name at all", (status, told, why), (1, b"", "gridfs-client: a: no such name\ngridfs-client: b: no such name\n"))
+        self.refused("a put from a pipe that has no room", ["put", "-", "long"], 3, "has room for", given=os.urandom(10 << 20))
+        self.held("used behind it", self.used(), [0, 0])
+        for number, status in ((signal.SIGINT, 130), (signal.SIGTERM, 143)):
+            with self.put_from_a_pipe(3 << 20) as put:
+                put.send_signal(number)
+                self.held(f"a put that is ended by {number.name}", (put.wait(SECONDS), put.stderr.read(), self.used()), (status, b"", [0, 0]))
+        with self.put_from_a_pipe(3 << 20) as put:
+            put.kill()
+        self.held("a put that is killed leaves something", any(self.used()), True)
+        self.told("the next put of the session", ["put", "-", "small"], b"", given=b"hello", GRIDFS_SESSION="1")
+        self.held("used behind that", self.used(), [0, 0])
+        with self.put_from_a_pipe(7 << 20, GRIDFS_LOCKS="elsewhere") as put:
+            while sum(self.used()) < 5 << 20:
+                time.sleep(0.05)
+            put.kill()
+        self.refused("a put from a pipe that wants the room which another machine's left", ["put", "-", "long"], 3, "gridfs-client sweep", given=os.urandom(5 << 20), GRIDFS_SESSION="1")
+        with open("long", "wb") as out:
+            out.write(os.urandom(5 << 20))
+        self.told("a put of a file that wants it", ["put", "long", "long"], b"", GRIDFS_SESSION="1")
+        with self.put_from_a_pipe(2 << 20) as put:
+            put.kill()
+        self.refused("a put from a pipe behind one that was killed", ["put", "-", "more"], 3, "has room for", given=os.urandom(10 << 20), GRIDFS_SESSION="1")
+        self.held("used behind that, by a name", sum(self.used()) < 6 << 20, True)
+        self.told("rm of all", ["rm", "long", "small"], b"", GRIDFS_SESSION="1")
+        self.held("used at last", self.used(), [0, 0])
+
     def interrupted(self, content, write):
         """A put by session 1, which is interrupted in place of the answer to its first write, of the journal, or to its second one, of the page."""
         ended = self.run("put", "-", "ended", given=content, GRIDFS_VIA=shlex.join([PYTHON, "-B", ENDING, "grid/socket", str(write)]), GRIDFS_SESSION="1")
@@ -444,6 +498,7 @@ PARTS = (
     ["names", "numbered_files", "full", "carriers", "sessions"],
     ["bad_input", "streams", "carried_by_another_put", "interrupts"],
     ["status", "mirror", "whole_prefixes", "terminal"],
+    ["room_that_is_given_back"],
 )
 
 

@@ -41,8 +41,13 @@ def has(lines, text):
 
 def one_is_down(commands):
     lines = ["  row 1   2  (3)", "node 3 is silent", "wholly up: row 0, column 0", "session 4: home 3, silent", "names: 1", "bytes: 5 used"]
+    for words in (["get", "a"], ["put", "-", "b"], ["ls"], ["rm", "b"]):
+        commands.held(f"{words[0]} with a node down", commands.run(*words)[0::2], (0, ""))
+    commands.held("homes that are noted as silent", {name for name in os.listdir("locks") if name.endswith(".silent")} - {"ann-node3.silent"}, set())
     status, told, why = commands.run_until("\nnode 3 is silent\n", "status")
     commands.held("status with a node down", (status, has(lines, told), why), (0, lines, ""))
+    status, told, _ = commands.run_until("\nnode 3 is silent\n", "status", "--nodes")
+    commands.held("status --nodes", (status, has(lines, told)), (0, lines[:4]))
 
 
 def a_row_is_down(commands):

@@ -212,16 +212,21 @@ def commands_over_a_broker(program):
     return f"{tried.tried} compared", tried.wrong
 
 
+TYPED = ["mypy", "--strict", "--follow-imports", "silent", "--cache-dir", os.devnull]
+
+
 def package():
     wrong, done = [], []
     for words, where in (
         (["mypy", "--strict", "--cache-dir", os.devnull, "gridfs_client"], PACKAGE),
+        ([*TYPED, "figures.py", "pictures.py", "record.py", "../bench/recorded.py"], os.path.join(TOP, "tools")),
         (["mandoc", "-Tlint", os.path.join(TOP, "docs", "gridfs-client.1")], "."),
         ([os.path.join(TOP, "tools", "install"), "--client", os.path.abspath("installed")], "."),
     ):
         told = subprocess.run(words, cwd=where, capture_output=True, text=True)
         wrong += [f"{words[0]}: {told.stdout}{told.stderr}"] if told.returncode else []
         done.append(os.path.basename(words[0]))
+    wrong += [] if os.listdir("installed/lib/gridfs/gridfs_client/__pycache__") else ["install: no module is compiled"]
     wrong += helped("installed/bin/gridfs-client")
     shutil.copytree(PACKAGE, "package")
     subprocess.run([sys.executable, "-m", "venv", "--without-pip", "venv"], check=True)

@@ -68,10 +68,12 @@ class Mirrors(unittest.TestCase):
 
     # What is done
 
-    def mirror(self, kind: type[Mirror], folder=None, prefix="", **wishes):
+    def mirror(self, kind: type[Mirror], folder=None, prefix="", excludes=(), **wishes):
         self.told, self.taken = [], []
         tell = lambda word, name: self.told.append(f"{word} {name}")
-        return kind(folder or self.folder, prefix, self.names, lambda name: turn_of(name, 3), tell, self.told.append, **wishes).run()
+        made = kind(folder or self.folder, prefix, self.names, lambda name: turn_of(name, 3), tell, self.told.append, **wishes)
+        made.excludes = excludes
+        return made.run()
 
     def up(self, prefix="", **wishes):
         return self.mirror(ToGrid, prefix=prefix, **wishes)
@@ -181,6 +183,33 @@ class BothWays(Mirrors):
         with mock.patch("os.setxattr", side_effect=OSError(95, "Operation not supported")):
             self.assertEqual(self.down().wordless, 1)
         self.assertIn("1 files are without the words", self.told[-1])
+
+    def test_what_is_excluded(self):
+        """It is neither moved nor removed, on both sides."""
+        self.write_all()
+        for path in ("b/x.tmp", "cache/one", "cache/deep/two", "c/cache", "b/c/cached", "logs/a.log"):
+            self.write(path, b"no")
+        os.symlink("a", os.path.join(self.folder, "cache", "link"))
+        excludes = ("*.tmp", "cache", "logs/*.log")
+        report = self.up("back/", excludes=excludes)
+        held = {f"back/{path}" for path in (*FILES, "b/c/cached")}
+        self.assertEqual((set(report.moved), report.skipped), (held, {}))
+        self.put({"back/cache/old": b"old", "back/new.tmp": b"old", "back/old": b"old"})
+        self.assertEqual(self.up("back/", excludes=excludes, removes=True).removed, ["back/old"])
+        self.assertLess(held, set(self.held()))
+        self.write("cache/kept", b"kept", self.other)
+        self.write("b/old", b"old", self.other)
+        report = self.down("back/", excludes=excludes, removes=True)
+        self.assertEqual(({name.removeprefix("back/") for name in report.moved}, report.removed), ({*FILES, "b/c/cached"}, ["b/old"]))
+        self.assertEqual(set(self.read_all(self.other)), {*FILES, "b/c/cached", "cache/kept"})
+
+    def test_empty_folders_are_told_once(self):
+        self.write_all()
+        for path in ("empty", "b/none", "b/none at all/none"):
+            os.makedirs(os.path.join(self.folder, path))
+        report = self.up()
+        self.assertEqual((report.empty, report.status), (3, 0))
+        self.assertEqual([line for line in self.told if "empty" in line], ["3 empty folders have no name, and are not kept"])
 
     def test_places(self):
         self.assertEqual([prefix_of(word) for word in ("grid:", "grid:a", "grid:a/", "grid:a/b")], ["", "a/", "a/", "a/b/"])

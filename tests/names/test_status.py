@@ -18,11 +18,13 @@ from test_names import kill_at
 from test_sessions import Home, Played
 
 import gridfs_client
+from gridfs_grid import carrier as grid_carrier
 from gridfs_client import PlanTold, Unanswered
-from gridfs_client.asking import LAST_CALL, SILENCE, ask_all, ask_plan, why_unanswered
+from gridfs_client.answers import parse
+from gridfs_client.asking import LAST_CALL, SILENCE, ask_all, ask_plan, ask_soon, why_unanswered
 from gridfs_client.errors import BadSettings, CarrierFault, SessionTaken
 from gridfs_client.grid import Nodes, Shape, possible_shapes
-from gridfs_client.opening import OpenSessions
+from gridfs_client.opening import OpenSessions, soon_of
 from gridfs_client.settings import Settings
 from gridfs_client.status import nodes_lines, nodes_value, usage_lines, usage_value
 from gridfs_client.usage import usage_of
@@ -192,6 +194,28 @@ class Answering(unittest.TestCase):
         return carrier
 
 
+class Ticks(unittest.TestCase):
+    """When the carrier of `./grid` over pipes gives ticks."""
+
+    def test_a_node_that_is_silent(self):
+        carrier = grid_carrier.Carrier([mock.Mock(), mock.Mock()], None, None, 0.2)
+        carrier.carry_lines_of(2_097_407, 2.2, 0.3)
+        carrier.next_tick, carrier.given_tick = 102.2, 100
+        with mock.patch("time.monotonic", lambda: 101.0):
+            for line in (b"1 0 ann 1 5 1 0 0 copy 7 1 00", b"1 0 speaks 3", b"1 0 joins 0"):
+                carrier.note_asked(line)
+            self.assertEqual(carrier.tick_due(101.0), 102.2)
+            carrier.note_asked(b"1 0 ann 1 5 1 0 0 ask")
+            self.assertAlmostEqual(carrier.tick_due(101.0), 101.3)
+            carrier.nodes[1].child = None  # (it is known to be down)
+            self.assertAlmostEqual(carrier.tick_due(101.0), 100.3)
+            carrier.note_asked(b"1 0 ann seeks 1 1 0")
+            self.assertEqual(carrier.tick_due(101.0), 102.2)
+            self.assertAlmostEqual(carrier.tick_due(112.0), 100.3)
+            carrier.asked.clear()  # (as where it tells something)
+            self.assertEqual(carrier.tick_due(112.0), 102.2)
+
+
 class Waiting(unittest.TestCase):
     """How long a command waits, by the clock of nodes that are played."""
 
@@ -227,6 +251,69 @@ class Waiting(unittest.TestCase):
                 session.write(0, 2, b"")
             self.assertLessEqual(carrier.clock, 30.1)
             sessions.close()
+
+    def test_a_home_that_is_down(self):
+        """It is passed over once others told that they are up, and it did not; and so it is noted."""
+        homes = [Home(node) for node in range(4)]
+
+        def play(node, body):
+            return [] if node == 0 else [(str(node), PLAN)] if body == "plan" else homes[node](node, body)
+
+        carrier = Played(play)
+        with tempfile.TemporaryDirectory() as folder:
+            with contextlib.closing(self.opened(carrier, folder)) as sessions:
+                sessions.numbers.sort()
+                self.assertEqual(sessions.first().number, 2)
+                self.assertLess(carrier.clock, 0.7)
+                self.assertTrue(carrier.is_unheard(0))
+            self.assertEqual(sessions.settings.lately_silent(), {0})
+
+    def test_a_home_whose_connection_is_refused(self):
+        homes, carrier = [Home(node) for node in range(4)], None
+
+        def play(node, body):
+            return [] if node == 0 else [(str(node), PLAN)] if body == "plan" else homes[node](node, body)
+
+        carrier = Played(play)
+        with tempfile.TemporaryDirectory() as folder, contextlib.closing(self.opened(carrier, folder)) as sessions:
+            sessions.numbers.sort()
+            carrier.has_broken = lambda node, since: node == 0
+            carrier.coming.append(("1", PLAN))
+            self.assertEqual(sessions.first().number, 2)
+            self.assertLess(carrier.clock, 0.2)
+
+    def test_homes_that_are_well(self):
+        """One that is up and late is not passed over, as while it goes round a silent node; nor is one noted that was late, and told something in the end."""
+        homes, late, begun = [Home(node) for node in range(4)], 0.0, []
+
+        def play(node, body):
+            if body == "plan":
+                return [(str(node), PLAN)]
+            if node == 0 and body.startswith("read") and carrier.clock < begun[0] + late:
+                return []
+            return homes[node](node, body)
+
+        for late, number, noted in ((0.6, 1, set()), (60, 2, set())):
+            carrier = Played(play)
+            begun[:] = [carrier.clock]
+            with tempfile.TemporaryDirectory() as folder:
+                with contextlib.closing(self.opened(carrier, folder)) as sessions:
+                    sessions.numbers.sort()
+                    self.assertEqual(sessions.first().number, number)
+                    ask_all(carrier, 1, None)
+                self.assertEqual(sessions.settings.lately_silent(), noted)
+
+    def test_how_long_a_home_may_take(self):
+        """By the plan: its longest letter sets the tick of those that go round a silent node."""
+        self.assertEqual([round(soon_of(dataclasses.replace(parse(PLAN), most=most)), 1) for most in (16, 1024, 16_384)], [2, 2.5, 10])
+
+    def test_who_is_silent_is_told_soon(self):
+        for up, least, most in (({0, 1, 2, 3}, 0, 0.1), ({0, 1, 2}, 0.5, 1)):
+            carrier = Played(lambda node, body, up=up: [(str(node), PLAN)] if node in up else [])
+            ask_plan(carrier)
+            begun = carrier.clock
+            self.assertEqual(ask_soon(carrier, None).silent, {0, 1, 2, 3} - up)
+            self.assertTrue(least <= carrier.clock - begun <= most, carrier.clock)
 
     def test_what_was_silent_lately(self):
         """The next commands go to other homes first, for a minute."""

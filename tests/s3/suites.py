@@ -1,7 +1,11 @@
 """Suites of S3 that others wrote, over an endpoint, as they are: minio-go's functional tests, and those of OpenStack Swift's s3api.
 
 What each asks that is not done here stands below with the reason. Any other case of them that fails is wrong, and so is one of these that does not: then the reason
-is no more. Cases that sign by signature 2 are left out, which is not taken here. A suite has the endpoint's tenant for itself: it removes all of its buckets."""
+is no more. Cases that sign by signature 2 are left out, which is not taken here. A suite has the endpoint's tenant for itself: it removes all of its buckets.
+
+A case that fails is named with its reason, so that it is seen which one begins to fail. One that passes has to go from the list, so the list is
+true.
+"""
 
 import json
 import os

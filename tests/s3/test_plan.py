@@ -1,5 +1,6 @@
 """The plan that S3 begins with (deploy/s3/plan), and what docs/S3.md says of room: of names in pages, and of contents in chunks."""
 
+import argparse
 import base64
 import collections
 import os
@@ -9,6 +10,8 @@ import tempfile
 import unittest
 import urllib.request
 from concurrent.futures import ThreadPoolExecutor
+from pathlib import Path
+from unittest import mock
 
 HERE = os.path.dirname(os.path.abspath(__file__))
 sys.path.insert(0, HERE)
@@ -17,12 +20,35 @@ import endpoint
 import stand_in
 from gridfs_client.chunk_lines import CHUNK_CHARGE
 from gridfs_client.layout import Layout, Volume
+from gridfs_s3.front import instances_of
 from gridfs_s3.page import size_of
 
 PLAN = os.path.join(code_of_s3.TOP, "deploy", "s3", "plan")
 KIB = 1 << 10
 PAGE_BLOCKS, COLUMNS = 512, 2
 FULL = 7 / 8  # of a page, that may be lines
+
+
+class WhatGridStarts(unittest.TestCase):
+    """The gateways of `./grid --s3`."""
+
+    def test_locks(self):
+        """Who uses the settings that it writes shares the gateway's locks."""
+        from gridfs_client.settings import Settings
+        from gridfs_grid.one_machine import write_settings
+        from gridfs_grid.s3 import All
+
+        with tempfile.TemporaryDirectory() as folder, mock.patch.dict(os.environ, HOME=folder):
+            os.environ.pop("GRIDFS_LOCKS", None)
+            started, every = {}, All(argparse.Namespace(), Path(folder) / "shop")
+            every.run = lambda name, words, env: started.update(words=words, env=env)
+            every.grid_folder.mkdir(parents=True)
+            path = write_settings(every.grid_folder, "carol", "2x2", {"socket": str(every.grid_folder / "socket")})
+            (gateway,) = instances_of("carol", 8, 1)
+            every.start_gateway(gateway)
+            named = str(started["words"][started["words"].index("--config") + 1])
+            with Settings.gather({"config": named}, started["env"]).lock(3):
+                self.assertIsNone(Settings.gather({"config": path}, os.environ).lock(3))
 
 
 def told(pattern):

@@ -1,4 +1,8 @@
-"""Chunks of one session: contents of at most 1 MiB, each written once at all nodes of a column, and read from any of them (docs/CHUNKS.md)."""
+"""Chunks of one session: contents of at most 1 MiB, each written once at all nodes of a column, and read from any of them (docs/CHUNKS.md).
+
+Numbers of chunks are drawn, and not the clock's alone: a clock that went back could give the number of a chunk that is there. With the
+same bytes a node says `kept`. Then two lines would name one chunk, and the first removal would take it from both.
+"""
 
 import random
 import threading
@@ -15,7 +19,7 @@ from .chunk_lines import CHUNK_CHARGE, ROOM, ChunkTold
 from .errors import Damaged, NoRoom, Unanswered
 from .grid import Shape, listed
 from .runs import MOST_NUMBER, Place, Run, runs_of
-from .sessions import SHARE, Pace
+from .sessions import DOUBT, QUIET, SHARE, Pace
 from .uplinks import LOOK, Sent, Uplink, uplink_of
 
 MOST_AHEAD = 6 << 20  # bytes of chunks under way over a connection, and the first one of each content besides
@@ -113,6 +117,8 @@ class Line:
         self.first: Sent | None = None
         self.sent: Sent | None = None
         self.begun = float("inf")  # when its turn came
+        self.sent_at = float("inf")
+        self.is_doubted = False  # whether the node was asked for something short besides
         self.length = 0.0  # seconds that it takes
         self.pause = self.held = 0.0  # seconds in which nobody took answers, since it was sent last and in all
         self.has_room = self.is_answered = False
@@ -146,7 +152,7 @@ class Line:
                 self.chunks.ahead.look_for_nodes(carrier)
             carrier.send(node, self.body)
             self.sent = Sent(self.way, carrier.now, length, self.patience * self.chunks.draw.uniform(0.8, 1.2) + length)
-            self.first, self.pause, self.length = self.first or self.sent, 0.0, length
+            self.first, self.pause, self.length, self.sent_at = self.first or self.sent, 0.0, length, carrier.now()
             self.patience = min(2 * self.patience, self.chunks.pace.again_at_most)
         return self.has_room
 
@@ -197,7 +203,7 @@ class Getting:
         places = list(chunks.shape.column(column))
         turn = chunks.turn = chunks.turn + 1
         order = [places[(turn + at) % len(places)] for at in range(len(places))]
-        self.places = deque(sorted(order, key=lambda place: place in chunks.silent))
+        self.places = deque(sorted(order, key=chunks.is_silent))
         self.body = b"get %d %d %d %d" % (session, number, wanted.first, wanted.length)
         self.told: dict[int, str] = {}  # of places that told something else
         self.rounds = len(places)  # places that were not asked yet
@@ -230,6 +236,17 @@ class Getting:
         self.line.first, self.line.begun, self.line.held = old.first, old.begun, old.held
         if is_silent:
             self.line.patience = old.patience
+
+    def doubt(self) -> float:
+        """Seconds until it is looked whether the node is up, where others have the chunk and nothing came of it since it was asked; 0: it is silent."""
+        carrier, node, line = self.chunks.carrier, self.chunks.node_at(self.line.place), self.line
+        if not carrier.tells_parts or len(self.places) < 2 or self.chunks.is_silent(line.place) or not line.sent:
+            return LOOK
+        since = carrier.now() - max(line.sent_at + line.pause, carrier.stirs(node))
+        if since >= DOUBT and not line.is_doubted:
+            line.is_doubted = True
+            carrier.send(node, b"plan")
+        return max(0.0, (DOUBT if since < DOUBT else QUIET) - since)
 
     def name(self) -> str:
         column, session, number = self.wanted.place
@@ -330,6 +347,10 @@ class Chunks:
     def node_at(self, place: int) -> int:
         return (self.carrier.told or self.told).node_at(place)
 
+    def is_silent(self, place: int) -> bool:
+        """Whether the node did not answer when it was asked last, whoever asked."""
+        return place in self.silent or self.carrier.is_unheard(self.node_at(place))
+
     def moment(self) -> int:
         """The clock's number."""
         return max(0, int((time.time() - FIRST_MOMENT) * MOMENTS)) * IN_A_MOMENT
@@ -411,9 +432,10 @@ class Chunks:
         return self.ahead.rooms
 
     def is_enough(self, told: Told, seconds: float) -> bool:
-        """Whether others need not be waited for: each had some time, and a column is up or nobody gives room."""
-        rooms = rooms_in(told)
-        return seconds > self.pace.again and bool(told) and (bool(self.usable(rooms)) or not any(room.allowed for room in rooms.values()))
+        """Whether others need not be waited for: each had some time, or is silent, and a column is up or nobody gives room."""
+        rooms, answered = rooms_in(told), {question.place for question in told}
+        is_over = seconds > self.pace.again or all(place in answered or self.is_silent(place) for place in range(self.told.nodes))
+        return is_over and bool(told) and (bool(self.usable(rooms)) or not any(room.allowed for room in rooms.values()))
 
     def usable(self, rooms: Rooms) -> dict[int, int]:
         """The columns all of whose nodes answer and give room, each with the free bytes of the fullest node."""
@@ -453,7 +475,7 @@ class Chunks:
         """Has the nodes forget what is noted as unneeded, as far as they answer soon one after another: what is left stays noted. Whether all did."""
         self.end_forgetting()
         runs, self.unneeded = self.unneeded, []
-        self.unneeded = self.forget(runs, seconds)[:MOST_NOTED]
+        self.unneeded = self.forget(runs, seconds, waits=False)[:MOST_NOTED]
         return not self.unneeded
 
     def begin_to_forget(self) -> None:
@@ -485,11 +507,11 @@ class Chunks:
             for place in self.shape.column(run.column)
         }
 
-    def forget(self, runs: Iterable[Run], seconds: float, floor: int = 0) -> list[Run]:
+    def forget(self, runs: Iterable[Run], seconds: float, floor: int = 0, waits: bool = True) -> list[Run]:
         """Has the nodes of their columns forget these, for good: no number up to the last of a run, or to the floor, is kept any more. Those of which not all nodes
-        told so."""
+        told so; those that are silent may be waited for."""
         asked = self.to_forget(runs, floor)
-        told = self.ask(list(asked), seconds)
+        told = self.ask(list(asked), seconds, lambda told, _: not waits and all(question in told or self.is_silent(question.place) for question in asked))
         return list(dict.fromkeys(run for question, run in asked.items() if question not in told))
 
     def raise_floors(self, session: int, floor: int, places: Iterable[int], seconds: float) -> set[int]:
@@ -560,7 +582,7 @@ class Chunks:
         """Takes an answer, or asks again what is due."""
         waiting = [getting for getting in under_way if not getting.is_told()]
         wait = self.send_due(getting.line for getting in waiting if not getting.line.sent)
-        wait = min([wait, *(getting.line.left() for getting in waiting if getting.line.sent)])
+        wait = min([wait, *(min(getting.line.left(), getting.doubt()) for getting in waiting if getting.line.sent)])
         answer = self.carrier.receive(box, max(wait, LEAST))
         if isinstance(answer, ChunkTold) and answer.key in known:
             known[answer.key].take(answer)
@@ -568,7 +590,7 @@ class Chunks:
             for getting in waiting:
                 if (waited := getting.line.waited()) > self.pace.timeout:
                     raise Unanswered(f"session {self.number}: no node told {getting.name()} in {round(waited, 1):g} s")
-                if getting.line.sent and getting.line.left() <= 0:
+                if getting.line.sent and (getting.line.left() <= 0 or getting.doubt() <= 0):
                     getting.ask_next(True)
 
 

@@ -15,9 +15,9 @@ from typing import IO, Any, TypeVar
 
 from . import __version__
 from .answers import PlanTold
-from .asking import LAST_CALL, SILENCE, ask_all, ask_plan, why_unanswered
-from .carriers import Carrier
-from .errors import BadFile, BadSettings, ClientError, Refused, Silent, Skipped, Unanswered
+from .asking import LAST_CALL, SILENCE, ask_plan, ask_soon, why_unanswered
+from .carriers import INTERRUPTED, Carrier
+from .errors import BadFile, BadSettings, ClientError, NoRoom, NoSuchName, Refused, Silent, Skipped, Unanswered
 from .fleet import MAP_NAME, FleetFiles, expect_no_map
 from .fleet_map import read_map
 from .grid import Nodes, listed, told_shape
@@ -28,6 +28,7 @@ from .mirror import GRID, Removal, ToFolder, ToGrid, prefix_of, shown
 from .names import Entry, Grown, NamedFiles, place_to_cut
 from .open_grids import OpenGrids, of_before, one_by_one
 from .opening import LEAST, OpenSessions, turn_of
+from .pages import check_name
 from .renewing import Renewed
 from .renewing import renew as renewed
 from .sessions import Session
@@ -116,6 +117,7 @@ class Opened:
         layout, sessions = layout_of(self.told), self.sessions
         files = NamedFiles(session or self.session, layout, self.progress, sessions.helpers, others=sessions.others)
         files.may_grow = lambda: not self.of_before(LAST_CALL)
+        files.leftovers = sessions.leftovers(files.session)
         return files
 
     def of_before(self, seconds: float) -> list[int]:
@@ -133,6 +135,7 @@ class Opened:
                 names.close()
                 return result
             except Unanswered as fault:
+                names.let_go()
                 if fault.home is None or names.is_bound or again is None:
                     raise
                 until = fault.until if until is None else until
@@ -141,6 +144,9 @@ class Opened:
                     raise
                 names = self.names(session)
                 again()
+            except BaseException:
+                names.let_go()
+                raise
 
     def prepare(self) -> None:
         """Before names are moved one after another by `names_for`."""
@@ -160,11 +166,13 @@ class Opened:
             session = sessions.first()
             session.may_leave = sessions.can_leave(session)
             names = NamedFiles(session, layout_of(told), self.progress, sessions.helpers, others=sessions.others)
+            names.leftovers = sessions.leftovers(session)
             try:
                 yield names
-            except Unanswered as fault:
-                if fault.home is not None:
+            except BaseException as fault:
+                if isinstance(fault, Unanswered) and fault.home is not None:
                     sessions.leave(fault.home)
+                names.let_go()
                 raise
             names.close()
 
@@ -181,7 +189,11 @@ class OpenedFleet:
     def by_sessions(self, call: Callable[[FleetFiles], Result], _: Callable[[], None] | None = nothing) -> Result:
         """What a call gives."""
         names = self.names()
-        result = call(names)
+        try:
+            result = call(names)
+        except BaseException:
+            names.let_go()
+            raise
         names.close()
         return result
 
@@ -243,7 +255,8 @@ def parser() -> argparse.ArgumentParser:
     word("ls", ls, "tell names with their sizes: each was so at some moment of the call (between which ones: --json)",
          prefix=dict(metavar="PREFIX", nargs="?", default="", help="names that begin so; all if left out"))  # fmt: skip
     word("rm", rm, "take names away, one after another", names=dict(name, nargs="+"),
-         **{"-r": dict(action="store_true", dest="is_whole", help=f"of each NAME all names that begin with NAME/; of {GRID} all names"),
+         **{"-f": dict(action="store_true", dest="is_forced", help="a name that is not there is all the same"),
+            "-r": dict(action="store_true", dest="is_whole", help=f"of each NAME all names that begin with NAME/; of {GRID} all names"),
             "--dry-run": dict(action="store_true", help="with -r: tell what would be taken away, and do nothing")})  # fmt: skip
     word("stat", stat, "tell what is known of a name", name=name)
     place: dict[str, Any] = dict(help=f"a folder here, or {GRID}PREFIX for the names that begin with PREFIX/, or {GRID} for all names")
@@ -251,8 +264,10 @@ def parser() -> argparse.ArgumentParser:
     word("mirror", mirror, "make a folder and the names with a prefix alike, one way",
          source=dict(place, metavar="SOURCE"), target=dict(place, metavar="TARGET"),
          **{"--dry-run": dict(is_given, help="tell what would be done, and do nothing"),
-            "--delete": dict(is_given, help="remove what is in the target and not in the source")})  # fmt: skip
-    word("status", status, "tell which nodes answer, and what the tenant has used of its room")
+            "--delete": dict(is_given, help="remove what is in the target and not in the source"),
+            "--exclude": dict(metavar="PATTERN", action="append", default=[], help="leave alone, on both sides, what has this name, or with / in it this path from the folder on; * ? [] as a shell has them")})  # fmt: skip
+    word("status", status, "tell which nodes answer, and then what the tenant has used of its room",
+         **{"--nodes": dict(is_given, dest="is_of_nodes", help="the nodes alone")})  # fmt: skip
     word("sweep", sweep, "forget names that were taken away, and chunks that dead commands left; of all sessions that nobody uses",
          **{"--catch-up": dict(is_given, help="after damage: first let pages that are older than others ask for catch up")})  # fmt: skip
     word("renew", renew, "move contents that are in slots to chunks, once a plan gives room for these; by one session after another, so that others go on")
@@ -281,7 +296,10 @@ def put(opened: Opened | OpenedFleet, args: argparse.Namespace) -> None:
         expect_no_map(args.name)
     with content_of(args.path) as given:
         content = rewindable(given)
-        entry = opened.by_sessions(lambda names: names.put(args.name, content), partial(go_to, content, content.tell()) if content.seekable() else None)
+        try:
+            entry = opened.by_sessions(lambda names: names.put(args.name, content), partial(go_to, content, content.tell()) if content.seekable() else None)
+        except NoRoom as fault:
+            raise NoRoom(f"{fault}; where clients were killed, gridfs-client sweep gives some back") from None
     tell(args, told_of(entry))
 
 
@@ -299,8 +317,9 @@ def get(opened: Opened | OpenedFleet, args: argparse.Namespace) -> None:
 
 
 def told_of(entry: Entry) -> dict[str, object]:
-    """An entry, with words where there are any."""
-    return {key: value for key, value in asdict(entry).items() if key != "words" or value}
+    """An entry, with words where there are any, and with the digest of the whole content or what is told of its parts."""
+    parts = [{"size": part.size, "list_sha256" if part.is_list else "sha256": part.sha256} for part in entry.parts]
+    return {key: value for key, value in (asdict(entry) | {"parts": parts}).items() if key not in ("words", "sha256", "parts") or value}
 
 
 def line_of(entry: Entry) -> str:
@@ -333,31 +352,46 @@ def rm(opened: Opened | OpenedFleet, args: argparse.Namespace) -> None:
         return
     if args.dry_run:
         raise BadSettings("--dry-run goes with -r")
-    left = list(args.names)
+    for name in args.names:
+        check_name(name)
+    opened.prepare()
+    removal = Removal("", "", opened.names_for, opened.turn_of, lambda *_: None, complain)
+    removal.remove_all(args.names)
+    removed = removal.report.removed
+    tell(args, {"removed": [name for name in args.names if name in removed]})
+    expect_none([NoSuchName(f"{name}: no such name") for name in args.names if name not in removed], args)
 
-    def remove(names: NamedFiles | FleetFiles) -> None:
-        while left:
-            names.remove(left[0])
-            del left[0]
 
-    opened.by_sessions(remove)
-    tell(args, {"removed": args.names})
+def expect_none(missing: list[NoSuchName], args: argparse.Namespace) -> None:
+    """Tells each name that is not there, unless that is all the same."""
+    if missing and not args.is_forced:
+        for fault in missing[:-1]:
+            complain(str(fault))
+        raise missing[-1]
 
 
 def remove_whole(opened: Opened | OpenedFleet, args: argparse.Namespace) -> None:
     """Takes all names with these prefixes away, and tells each, and how many there were."""
     prefixes = [prefix_of(name if name.startswith(GRID) else GRID + name) or "" for name in args.names]
-    removed: list[str] = []
+    removed, missing = list[str](), list[NoSuchName]()
     opened.prepare()
     for prefix in prefixes:
-        removed += Removal("", prefix, opened.names_for, opened.turn_of, line_teller(args), complain, is_dry=args.dry_run).run().removed
+        try:
+            removed += Removal("", prefix, opened.names_for, opened.turn_of, line_teller(args), complain, is_dry=args.dry_run).run().removed
+        except NoSuchName as fault:
+            missing.append(fault)
+    if not removed:
+        expect_none(missing, args)
     value = {"dry_run": args.dry_run, "removed": removed}
     tell(args, value, *([] if args.quiet else [f"{'would remove' if args.dry_run else 'removed'} {len(removed)}"]))
+    expect_none(missing, args)
 
 
 def stat(opened: Opened | OpenedFleet, args: argparse.Namespace) -> None:
-    entry = told_of(opened.by_sessions(lambda names: names.stat(args.name)))
-    tell(args, entry, *(f"{key}: {value}" for key, value in entry.items()))
+    entry = opened.by_sessions(lambda names: names.stat(args.name))
+    value = told_of(entry)
+    parts = {"parts": ", ".join(f"{part.size} {'list ' * part.is_list}{part.sha256}" for part in entry.parts)} if entry.parts else {}
+    tell(args, value, *(f"{key}: {each}" for key, each in (value | parts).items()))
 
 
 def sweep(opened: Opened | OpenedFleet, args: argparse.Namespace) -> None:
@@ -459,6 +493,7 @@ def mirror(opened: Opened | OpenedFleet, args: argparse.Namespace) -> None:
     kind = ToFolder if to_grid is None else ToGrid
     prefix = from_grid if to_grid is None else to_grid
     made = kind(folder, prefix or "", opened.names_for, opened.turn_of, line_teller(args), complain, args.delete, args.dry_run)
+    made.excludes = args.exclude
     report = made.run()
     value = {"dry_run": args.dry_run, made.word: report.moved, "removed": report.removed, "same": report.same, "skipped": report.skipped}
     moved, removed = (f"would {made.word}", "remove") if args.dry_run else (made.done, "removed")
@@ -478,12 +513,19 @@ def status(opened: Opened | OpenedFleet, args: argparse.Namespace) -> None:
     told = told_shape(opened.told)
     if said and told and said != told:
         raise BadSettings(f"grid: it is {told.rows}x{told.columns}, as its nodes tell, and not {said.rows}x{said.columns}")
-    nodes = ask_all(opened.carrier, min(SILENCE, opened.sessions.pace.timeout), said)
+    nodes = ask_soon(opened.carrier, said)
     assert nodes
+    opened.sessions.pass_over(nodes.silent)
+    if not args.json:
+        out_lines(nodes_lines(nodes))
+    if args.is_of_nodes:
+        if args.json:
+            tell(args, {"tenant": opened.settings.tenant} | nodes_value(nodes))
+        return
     usage, fault = (None, Silent(nodes.summary())) if nodes.goes_on() is False else used(opened.names)
     left_out = str(fault) if fault else None
     value = {"tenant": opened.settings.tenant} | nodes_value(nodes) | usage_value(usage, left_out)
-    tell(args, value, *nodes_lines(nodes), *usage_lines(usage, left_out))
+    tell(args, value, *usage_lines(usage, left_out))
     if fault and not isinstance(fault, BadSettings):
         raise fault
 
@@ -550,7 +592,7 @@ def run(words: list[str]) -> None:
 
 def stop_at_signals(carriers: Carrier | OpenGrids) -> None:
     def interrupt(number: int, _: object) -> None:
-        carriers.stop("interrupted")  # so that no thread goes on waiting for an answer
+        carriers.stop(INTERRUPTED)  # so that no thread goes on waiting for an answer
         if number == signal.SIGTERM:
             sys.exit(143)
         raise KeyboardInterrupt

@@ -204,6 +204,24 @@ class Joined:
 Content = Inline | InSlots | InChunks | PartList | Joined
 
 
+@dataclass(frozen=True, slots=True)
+class PartTold:
+    """A part that a content was put in: its bytes, and SHA-256 in hexadecimal; of several that a list names together that of the list's text."""
+
+    size: int
+    sha256: str
+    is_list: bool = False
+
+
+def part_told(part: Part) -> PartTold:
+    return PartTold(part.size, digest_in_hex(part.digest), isinstance(part, PartList))
+
+
+def parts_told(content: Content) -> tuple[PartTold, ...]:
+    """Those of a content that was put in parts; none of one that was put whole."""
+    return tuple(map(part_told, content.parts)) if isinstance(content, PartList | Joined) else ()
+
+
 def parse_part(text: str) -> Part:
     size, digest, *where = text.split(" ")
     if len(where) == 2:

@@ -10,7 +10,7 @@ from typing import IO
 
 from . import core, ways
 from .buckets import OLDER, Bucket, Held, held_of
-from .contents import Content, Inline
+from .contents import Content, Inline, PartTold
 from .core import Line, Version
 from .errors import BadName, BadSettings, ClientError, Damaged, NoRoom, NoSuchName, Replaced
 from .fleet_map import FleetMap
@@ -185,6 +185,11 @@ class FleetFiles:
         check_name(name)
         return entry_of(self.present(name)[2])
 
+    def parts(self, name: str) -> tuple[PartTold, ...]:
+        check_name(name)
+        _, found, held = self.present(name)
+        return self.grid(found.grid).parts_of(held)
+
     def put(self, name: str, content: bytes | IO[bytes], words: Callable[[], str] = no_words) -> Entry:
         check_name(name)
         check_words(words())
@@ -270,6 +275,11 @@ class FleetFiles:
     def close(self) -> None:
         for files in self.grids.values():
             files.close()
+
+    def let_go(self) -> None:
+        """Behind a call that did not end well, as at one grid."""
+        for files in self.grids.values():
+            files.let_go()
 
 
 def spool() -> "tempfile.SpooledTemporaryFile[bytes]":

@@ -1,4 +1,8 @@
-"""How the nodes of a grid are arranged, and whether it goes on without those that are silent."""
+"""How the nodes of a grid are arranged, and whether it goes on without those that are silent.
+
+What a node tells of rows and columns wins over the setting `grid`: four nodes may also be one column, or four. With a wrong setting
+contents would be kept at nodes that are no column, and nobody would notice before a disk is lost.
+"""
 
 import math
 from collections.abc import Iterable, Mapping

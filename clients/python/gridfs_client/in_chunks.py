@@ -1,17 +1,23 @@
-"""Contents of names in chunks, of one session: written, read, and forgotten once no line names them."""
+"""Contents of names in chunks, of one session: written, read, and forgotten once no line names them.
+
+A content's runs name a column each. So where a chunk can't be kept at one column, what is kept stays, and the rest goes elsewhere. What was
+replaced is forgotten later, so that a get that began before ends well: by a command at its end, by a gateway after a minute. Nothing rests on
+a forget, so nobody waits for its sync.
+"""
 
 from collections import deque
 from collections.abc import Callable, Collection, Generator, Iterable, Iterator
 from contextlib import closing, suppress
 from dataclasses import dataclass
 from itertools import islice
-from typing import cast
+from typing import Protocol, cast
 
 from .carriers import Carrier
 from .chunk_lines import CHUNK_CHARGE, MOST_CHUNK
 from .chunks import MORE_ROOM, ROOM_LASTS, Chunks, Rooms, Wanted
 from .contents import InChunks, InSlots, PartList, Part, digest_in_hex, parse_part, to_base64
 from .errors import CarrierFault, Damaged, NoRoom, Unanswered
+from .grid import Shape
 from .runs import Place, Run, runs_of
 from .sessions import Files, Session
 from .streams import Digest, Source
@@ -53,14 +59,115 @@ class SoFar:
         return self.at < part.size or self.digest.digest().hex() == digest_in_hex(part.digest)
 
 
-class ChunkContents:
-    """The contents of a session in chunks."""
+class ChunkSource(Protocol):
+    """Where chunks are read from: nodes, or what nodes have on their disks."""
+
+    @property
+    def shape(self) -> Shape: ...
+
+    def get(self, wanted: Iterable[Wanted]) -> Generator[bytes | None, None, None]:
+        """The bytes that are wanted of these chunks, in their order; None for one that was forgotten. Damaged where there is no sound one."""
+
+
+class ReadContents:
+    """Contents in chunks, to be read."""
 
     most = MOST_CHUNK  # fewer in tests
 
-    def __init__(self, chunks: Chunks):
-        self.chunks = chunks
+    def __init__(self, source: ChunkSource):
+        self.source = source
         self.lists: dict[PartList, tuple[tuple[Part, str], ...]] = {}
+
+    def remember(self, listed: PartList, entries: tuple[tuple[Part, str], ...]) -> PartList:
+        if len(self.lists) >= MOST_LISTS:
+            del self.lists[next(iter(self.lists))]
+        self.lists[listed] = entries
+        return listed
+
+    def wanted(self, part: InChunks, first: int, end: int) -> Iterator[Wanted]:
+        """The chunks that have the bytes from the first to before the end."""
+        places = (place for run in part.runs for place in run.places())
+        for at, place in enumerate(places):
+            begin = at * self.most
+            size = min(self.most, part.size - begin)
+            if begin + size > first and begin < end:
+                from_here = max(0, first - begin)
+                yield Wanted(place, size, from_here, min(size, end - begin) - from_here)
+
+    def read(self, part: InChunks) -> Generator[bytes, None, None]:
+        """All bytes of a content, as `read_cuts` gives them."""
+        return self.read_cuts([Cut(part, 0, part.size, True)])
+
+    def read_cuts(self, cuts: Iterable[Cut], so_far: SoFar | None = None) -> Generator[bytes, None, None]:
+        """What is cut from these contents, one after another; the last bytes of one that is read whole once its digest was found right. Gone where a chunk was
+        forgotten; Damaged."""
+        coming, checked, at = deque[Cut](), so_far or SoFar(), None
+
+        def wanted() -> Iterator[Wanted]:
+            for cut in cuts:
+                if cut.part.pieces != -(-cut.part.size // self.most):
+                    raise Damaged("as many chunks as are named don't hold so many bytes")
+                if any(run.column >= self.source.shape.columns for run in cut.part.runs):
+                    raise Damaged(f"it is in a column that a grid of {self.source.shape.columns} has not: is `grid` right?")
+                coming.append(cut)
+                yield from self.wanted(cut.part, cut.first, cut.end)
+
+        with closing(self.source.get(wanted())) as found:
+            for piece in found:
+                if piece is None:
+                    raise Gone
+                cut = coming[0]
+                at = cut.first if at is None else at
+                if not checked.is_right(cut.part, at, piece, cut.is_whole):
+                    raise Damaged("its chunks don't hold it")
+                at += len(piece)
+                if at == cut.end:
+                    at = None
+                    coming.popleft()
+                yield piece
+
+    def cuts(self, parts: Iterable[Part], first: int, end: int) -> Iterator[Cut]:
+        """What has the bytes from the first to before the end, of contents that are in chunks, one behind the other. Lists are read as they are come to."""
+        begin = 0
+        for part in parts:
+            if begin < end and begin + part.size > first and part.size:
+                if isinstance(part, PartList):
+                    yield from self.cuts((each for each, _ in self.entries(part)), first - begin, end - begin)
+                elif isinstance(part, InChunks):
+                    cut = max(0, first - begin), min(part.size, end - begin)
+                    yield Cut(part, *cut, cut == (0, part.size))
+            begin += part.size
+
+    def without_lists(self, parts: Iterable[Part]) -> Iterator[Part]:
+        """These parts, and in the place of each list what it names. Gone, Damaged."""
+        for part in parts:
+            if isinstance(part, PartList):
+                yield from self.without_lists(each for each, _ in self.entries(part))
+            else:
+                yield part
+
+    def entries(self, listed: PartList) -> tuple[tuple[Part, str], ...]:
+        """What a list names, each with its word. Gone, Damaged."""
+        if listed not in self.lists:
+            if listed.length > MOST_LENGTH:
+                raise Damaged("the list of its parts is too long")
+            try:
+                lines = b"".join(self.read(listed.list)).decode().splitlines()
+                entries = tuple((parse_part(" ".join(words[:3])), " ".join(words[3:])) for words in (line.split(" ") for line in lines))
+            except (ValueError, IndexError):
+                raise Damaged("the list of its parts has no form") from None
+            if sum(part.size for part, _ in entries) != listed.size or any(not isinstance(part, InChunks) for part, _ in entries):
+                raise Damaged("the list of its parts has another length")
+            self.remember(listed, entries)
+        return self.lists[listed]
+
+
+class ChunkContents(ReadContents):
+    """The contents of a session in chunks."""
+
+    def __init__(self, chunks: Chunks):
+        super().__init__(chunks)
+        self.chunks = chunks
 
     def rooms(self) -> Rooms:
         """What nodes have room for; nothing where the tenant may have no chunks."""
@@ -117,83 +224,6 @@ class ChunkContents:
         text = "".join(f"{part.text()}{f' {word}' if word else ''}\n" for part, word in entries).encode()
         at = self.put(Source(text), column, lambda *_: None)
         return self.remember(PartList(sum(part.size for part, _ in entries), at.digest, at.size, at.runs), entries)
-
-    def remember(self, listed: PartList, entries: tuple[tuple[Part, str], ...]) -> PartList:
-        if len(self.lists) >= MOST_LISTS:
-            del self.lists[next(iter(self.lists))]
-        self.lists[listed] = entries
-        return listed
-
-    # Reading
-
-    def wanted(self, part: InChunks, first: int, end: int) -> Iterator[Wanted]:
-        """The chunks that have the bytes from the first to before the end."""
-        places = (place for run in part.runs for place in run.places())
-        for at, place in enumerate(places):
-            begin = at * self.most
-            size = min(self.most, part.size - begin)
-            if begin + size > first and begin < end:
-                from_here = max(0, first - begin)
-                yield Wanted(place, size, from_here, min(size, end - begin) - from_here)
-
-    def read(self, part: InChunks) -> Generator[bytes, None, None]:
-        """All bytes of a content, as `read_cuts` gives them."""
-        return self.read_cuts([Cut(part, 0, part.size, True)])
-
-    def read_cuts(self, cuts: Iterable[Cut], so_far: SoFar | None = None) -> Generator[bytes, None, None]:
-        """What is cut from these contents, one after another; the last bytes of one that is read whole once its digest was found right. Gone where a chunk was
-        forgotten; Damaged."""
-        coming, checked, at = deque[Cut](), so_far or SoFar(), None
-
-        def wanted() -> Iterator[Wanted]:
-            for cut in cuts:
-                if cut.part.pieces != -(-cut.part.size // self.most):
-                    raise Damaged("as many chunks as are named don't hold so many bytes")
-                if any(run.column >= self.chunks.shape.columns for run in cut.part.runs):
-                    raise Damaged(f"it is in a column that a grid of {self.chunks.shape.columns} has not: is `grid` right?")
-                coming.append(cut)
-                yield from self.wanted(cut.part, cut.first, cut.end)
-
-        with closing(self.chunks.get(wanted())) as found:
-            for piece in found:
-                if piece is None:
-                    raise Gone
-                cut = coming[0]
-                at = cut.first if at is None else at
-                if not checked.is_right(cut.part, at, piece, cut.is_whole):
-                    raise Damaged("its chunks don't hold it")
-                at += len(piece)
-                if at == cut.end:
-                    at = None
-                    coming.popleft()
-                yield piece
-
-    def cuts(self, parts: Iterable[Part], first: int, end: int) -> Iterator[Cut]:
-        """What has the bytes from the first to before the end, of contents that are in chunks, one behind the other. Lists are read as they are come to."""
-        begin = 0
-        for part in parts:
-            if begin < end and begin + part.size > first and part.size:
-                if isinstance(part, PartList):
-                    yield from self.cuts((each for each, _ in self.entries(part)), first - begin, end - begin)
-                elif isinstance(part, InChunks):
-                    cut = max(0, first - begin), min(part.size, end - begin)
-                    yield Cut(part, *cut, cut == (0, part.size))
-            begin += part.size
-
-    def entries(self, listed: PartList) -> tuple[tuple[Part, str], ...]:
-        """What a list names, each with its word. Gone, Damaged."""
-        if listed not in self.lists:
-            if listed.length > MOST_LENGTH:
-                raise Damaged("the list of its parts is too long")
-            try:
-                lines = b"".join(self.read(listed.list)).decode().splitlines()
-                entries = tuple((parse_part(" ".join(words[:3])), " ".join(words[3:])) for words in (line.split(" ") for line in lines))
-            except (ValueError, IndexError):
-                raise Damaged("the list of its parts has no form") from None
-            if sum(part.size for part, _ in entries) != listed.size or any(not isinstance(part, InChunks) for part, _ in entries):
-                raise Damaged("the list of its parts has another length")
-            self.remember(listed, entries)
-        return self.lists[listed]
 
     # Forgetting
 

@@ -1,30 +1,37 @@
-"""Journals of nodes, read as files: what tenants have, without their keys, without a session, and while the nodes run.
+"""Journals of nodes with the folders beside them, read as files: what tenants have, without their keys, without a session, and while the nodes run.
 
 A journal is read batch by batch, as far as batches are whole: so one that is being written can be read, or a copy of it. Of each file the newest copy counts
 that any of the journals has. A write that was acknowledged stands in a whole column, so the journals of a whole row have it. Fewer of them may lack what was written
-last. Contents are read where they are wanted, from the file as it was opened: a node that writes its journal anew does not disturb that.
+last. Contents are read where they are wanted, from files as they were opened: a node that writes its journal anew, or removes a segment, does not disturb that.
 
-Only the numbers and lengths of batches are looked at, not their digests: contents of names have a digest of their own.
+Chunks are taken from whichever node of their column has them here. Digests of contents tell what is right: where one is wrong its chunks are read once more, and the sum of each
+copy is looked at.
 """
 
 import os
 import re
-from collections.abc import Collection, Iterator, Sequence
-from contextlib import ExitStack
+from collections.abc import Collection, Generator, Iterable, Iterator, Sequence
+from contextlib import ExitStack, closing
 from dataclasses import dataclass
 from typing import IO, BinaryIO
 
 from .answers import MOST_PLACES, Copy, Row, Tag, content_of
+from .batches import batches
+from .chunks import Wanted
 from .errors import BadFile, BadSettings, Damaged, Refused
+from .grid import Shape, listed
+from .in_chunks import ReadContents
 from .layout import Layout, layout_of
-from .names import NamedFiles
+from .local import cut
+from .names import Entry, NamedFiles, place_to_cut
 from .plans import Plan, plan_of
+from .runs import Place as ChunkPlace
+from .shelves import Extent, NodeFiles
 from .streams import OneByOne
 from .ways import Ground
 
-SEAL = re.compile(rb"sync ([1-9][0-9]*) ([0-9]+) [0-9a-f]{16}\n")
-NODE = re.compile(rb"node ([0-9]+) of ([0-9]+) by ([0-9]+)\n")
-FORM = re.compile(rb"journal ([0-9]+)[ \n]")  # how one of a later form begins
+__all__ = ["Journals", "batches"]
+
 COPIES = (b"kept ", b"had ")
 HEAD = re.compile(rb"(names 2 [0-9]+)[0-9 ]*")  # of a page: its number, and those that others need
 NO_COPY = Tag(0, 0)
@@ -46,30 +53,11 @@ class Place:
         return content_of(self.text().decode("latin1"))
 
 
-def batches(file: BinaryIO, path: str) -> Iterator[list[tuple[int, bytes]]]:
-    """The lines of each whole batch, each with its offset. Damaged where a wrong one is followed by anything, BadFile for a journal of a later form."""
-    lines, start, offset, count = list[tuple[int, bytes]](), 0, 0, 1
-    for line in file:
-        if not line.endswith(b"\n"):
-            return  # (it is being written, or was when the node ended)
-        if offset == 0 and (form := FORM.match(line)):
-            raise BadFile(f"{path}: form {int(form[1])}, of a later program: this one reads form 1")
-        seal = SEAL.fullmatch(line)
-        if seal is None:
-            lines.append((offset, line))
-        elif (int(seal[1]), int(seal[2])) == (count, offset - start):
-            yield lines
-            lines, start, count = [], offset + len(line), count + 1
-        elif file.read(1):
-            raise Damaged(f"{path}: damaged at byte {start}")
-        offset += len(line)
-
-
 class Journals:
-    """What some journals of one grid have together. BadFile where one is none, or of another grid; Damaged as it says."""
+    """What some journals of one grid have together, and the chunks of one tenant. BadFile where one is none, or of another grid; Damaged as it says."""
 
-    def __init__(self, paths: Sequence[str]):
-        self.plan, self.nodes, self.places = Plan(), set[int](), dict[tuple[str, int, int], Place]()
+    def __init__(self, paths: Sequence[str], tenant: str = ""):
+        self.plan, self.nodes, self.places, self.tenant = Plan(), list[NodeFiles](), dict[tuple[str, int, int], Place](), tenant
         self.opened = ExitStack()
         try:
             for path in paths:
@@ -79,25 +67,21 @@ class Journals:
             raise
 
     def add(self, path: str) -> None:
-        file, plan, node = self.opened.enter_context(open(path, "rb")), None, None
+        node = self.opened.enter_context(closing(NodeFiles(path, self.tenant or None, self.take)))
         try:
-            for lines in batches(file, path):
-                if lines and (head := NODE.fullmatch(lines[0][1])):
-                    node, plan = int(head[1]), plan_of([line for _, line in lines[1:]])
-                    plan.text = b"".join(line for _, line in lines)
-                else:
-                    for offset, line in lines:
-                        if line.startswith(COPIES):
-                            self.keep(file, offset, line)
+            plan = plan_of(node.facts.plan[1:])
         except (ValueError, KeyError, IndexError):
             raise BadFile(f"{path}: a line says no fact of a node") from None
-        if plan is None or node is None:
-            raise BadFile(f"{path}: no journal of a node")
-        self.nodes.add(node)
+        plan.text = b"".join(node.facts.plan)
+        self.nodes.append(node)
         older, newer = sorted((self.plan, plan), key=lambda each: [len(each.tenants), *(len(told.volumes) for told in each.tenants.values())])
         if older.tenants and not (older.rows == newer.rows and list(newer.tenants)[: len(older.tenants)] == list(older.tenants)):
             raise BadFile(f"{path}: of another grid than the one before")
         self.plan = newer
+
+    def take(self, file: BinaryIO, offset: int, line: bytes) -> None:
+        if line.startswith(COPIES):
+            self.keep(file, offset, line)
 
     def keep(self, file: BinaryIO, offset: int, line: bytes) -> None:
         _, tenant, volume, number, tag, session, content = line.split(b" ", 6)
@@ -107,9 +91,14 @@ class Journals:
             self.places[key] = Place(tag_told, file, offset + len(line) - len(content), len(content) - 1)
 
     @property
+    def numbers(self) -> list[int]:
+        """The nodes whose journals these are."""
+        return sorted({node.node for node in self.nodes})
+
+    @property
     def has_whole_row(self) -> bool:
         """Whether they have all that was acknowledged before the first one was copied."""
-        places, columns = {node % MOST_PLACES for node in self.nodes}, range(self.plan.columns)
+        places, columns = {node % MOST_PLACES for node in self.numbers}, range(self.plan.columns)
         return any(all(row * len(columns) + column in places for column in columns) for row in range(self.plan.rows))
 
     def write_pages(self, out: IO[bytes]) -> None:
@@ -127,13 +116,15 @@ class Journals:
             if whose == tenant and volume in volumes:
                 yield f"kept {tenant} {volume} {file} {place.tag.number} {place.tag.session} ".encode() + place.text() + b"\n"
 
-    def files(self, tenant: str, as_they_are: bool = False) -> NamedFiles:
+    def files(self, tenant: str, as_they_are: bool = False) -> "JournalNames":
         """The tenant's names, to be read alone. Where pages were copied at other times, one may be older than another one asks for, which is Damaged. With
         `as_they_are` that is let pass: a name that was taken away may be seen then. BadSettings where the volumes are for no names."""
         if tenant not in self.plan.tenants:
             raise BadSettings(f"the journals have no tenant {tenant}")
         layout = layout_of(self.plan.tenants[tenant])
-        return NamedFiles(JournalFiles(self, tenant, layout, as_they_are), layout, team=OneByOne(), ground=Ground("", lambda _: None))
+        files = JournalNames(JournalFiles(self, tenant, layout, as_they_are), layout, team=OneByOne(), ground=Ground("", lambda _: None))
+        files.chunks = JournalChunks(self)
+        return files
 
     def close(self) -> None:
         self.opened.close()
@@ -173,3 +164,60 @@ class JournalFiles:
 
     def write(self, volume: int, file: int, content: bytes) -> Tag:
         raise Refused("a journal is only read")
+
+
+class JournalNames(NamedFiles):
+    """A tenant's names, with contents in chunks."""
+
+    chunks: "JournalChunks"
+
+    def chunk_contents(self, name: str) -> ReadContents:
+        return self.chunks.contents
+
+    def get_to(self, name: str, target: IO[bytes]) -> Entry:
+        """Where the digest is wrong the content is read once more, by copies of chunks whose sums are right. (Sums take longer than digests here.)"""
+        start = place_to_cut(target)
+        self.chunks.is_careful = start is None
+        try:
+            return super().get_to(name, target)
+        except Damaged:
+            if start is None:
+                raise
+        cut(target, start)
+        self.chunks.is_careful = True
+        return super().get_to(name, target)
+
+
+class JournalChunks:
+    """The chunks of the tenant, from whichever node here has them."""
+
+    def __init__(self, journals: Journals):
+        self.nodes, self.shape, self.contents = journals.nodes, Shape(journals.plan.rows, journals.plan.columns), ReadContents(self)
+        self.is_careful = False  # only copies with the right sum will do
+
+    def get(self, wanted: Iterable[Wanted]) -> Generator[bytes | None, None, None]:
+        for each in wanted:
+            yield self.content(each.place, each.size)[each.first : each.first + each.length]
+
+    def content(self, place: ChunkPlace, size: int) -> bytes:
+        """The first sound copy. Damaged where there is none."""
+        column, session, number = place
+        here, why = [node for node in self.nodes if node.node % MOST_PLACES % self.shape.columns == column], list[str]()
+        for node, extent in self.copies(here, session, number):
+            try:
+                content = node.content(extent, self.is_careful)
+            except Damaged as fault:
+                why.append(f"{fault} at node {node.node}")
+                continue
+            if len(content) == size:
+                return content
+            why.append(f"of another length at node {node.node}")
+        absent = [node.node for node in here if node.extent(session, number) is None]
+        if absent or not here:
+            why.append(f"not at node {listed(absent)}" if absent else "no journal here is of that column")
+        raise Damaged(f"no copy of chunk {number} of session {session} at column {column}: {'; '.join(why)}")
+
+    def copies(self, nodes: Iterable[NodeFiles], session: int, number: int) -> list[tuple[NodeFiles, Extent]]:
+        """Those that nodes tell come first: one that a new node kept itself counts where there is no other."""
+        found = [(node, extent) for node in nodes if (extent := node.extent(session, number))]
+        return sorted(found, key=lambda each: not each[1].is_sure)

@@ -9,10 +9,11 @@ from contextlib import closing, contextmanager
 from functools import partial
 
 from . import __version__
+from .copies import copy_node, parse_had, take_stream, write_stream
 from .errors import ClientError, Damaged, NoSuchName, Skipped
 from .journals import Journals
 from .layout import BLOCK
-from .local import OUTPUT, complain, json_of, out, out_lines, standard
+from .local import INPUT, OUTPUT, complain, content_of, json_of, out, out_lines, standard
 from .mirror import ToFolder, shown
 from .names import NamedFiles
 from .shelves import Shelf, shelf_of
@@ -20,17 +21,22 @@ from .status import usage_value
 from .usage import Usage, usage_of
 
 PROGRAM = "gridfs-journals"
+LACKING = 9  # the status where some names have no whole copy
+NOT_TOGETHER = "Where nodes run, or were copied one after another, copy what has changed once more. --as-they-are takes pages as they are: names that were removed may come back"
 EPILOG = """\
 examples, on a node's machine and for copies of the journals of nodes 0 and 1, which are a row of two by two:
   gridfs-journals room /var/lib/gridfs/0/journal               how full each tenant is, as node 0 has it
   gridfs-journals room --metrics /run/gridfs/room.prom 0.pages 1.pages
   gridfs-journals pages /var/lib/gridfs/0/journal > 0.pages    the little that `room` wants, to be brought elsewhere
   gridfs-journals shelf /var/lib/gridfs/0/journal              what node 0 has of chunks, and what is dead or lacked
-  gridfs-journals get ann backup journal.0 journal.1           ann's names, with their contents, into the folder backup
+  gridfs-journals copy /var/lib/gridfs/0/journal /backup/0     a copy of node 0, which may run: /backup/0/journal and /backup/0/journal.shelf
+  ssh root@there gridfs-journals copy /var/lib/gridfs/0/journal - | gridfs-journals copy - /backup/0
+  gridfs-journals get ann backup 0/journal 1/journal           ann's names, with their contents, into the folder backup
 
-A journal may be that of a node that runs, or a copy: it is read as far as its batches are whole. The journals of a whole row of nodes have all that was
-acknowledged before the first one was copied. Of fewer some of the last changes may be missing. The status is 0, 1 where a tenant has no name, 2 for wrong words, 5 where
-a journal is damaged or copies don't go together, 6 for other faults of files, and that of the first name which was skipped."""
+A journal may be that of a node that runs, or a copy: it is read as far as its batches are whole. Contents in chunks are read from the folder beside it, 0/journal.shelf. The
+journals of a whole row of nodes have all that was acknowledged before the first one was copied. Of fewer some of the last changes may be missing. `get` tells each name of
+which there is no whole copy, gets all others, and ends with status 9. Else the status is 0, 1 where a tenant has no name, 2 for wrong words, 5 where a journal is damaged or
+copies don't go together, 6 for other faults of files, and that of the first name which was skipped."""
 METRICS: dict[str, tuple[str, Callable[[Usage], float]]] = {
     "names": ("names that hold a content", lambda usage: usage.names),
     "used_bytes": ("bytes of these contents", lambda usage: usage.bytes_used),
@@ -71,7 +77,13 @@ def parser() -> argparse.ArgumentParser:
     sub = words.add_parser("pages", help="what `room` wants of a journal, to standard output", description="Writes what `room` wants of a journal to standard output: some MB at most, which are read as a journal.")
     sub.add_argument("journals", nargs=1, metavar="JOURNAL")
     sub.set_defaults(call=pages)
+    sub = words.add_parser("copy", help="a copy of a node, which may run", description="Copies a node, which may run, into a folder: its journal, and of the folder beside it all that the journal names. A folder with an earlier copy gets what is new.")
+    sub.add_argument("--had", metavar="FILE", help="with - for FOLDER: what is there already, a line for each segment with its number and its bytes; - for standard input")
+    sub.add_argument("journal", metavar="JOURNAL", help="or - for a stream from standard input")
+    sub.add_argument("folder", metavar="FOLDER", help="or - for a stream to standard output")
+    sub.set_defaults(call=copy)
     sub = words.add_parser("get", help="a tenant's names into a folder", description="Gets a tenant's names, with their contents, into a folder; gridfs-client mirror puts them back.")
+    sub.add_argument("--as-they-are", action="store_true", help="take pages that are older than others ask for: names that were removed may come back")
     sub.add_argument("tenant")
     sub.add_argument("folder")
     sub.add_argument("journals", nargs="+", metavar="JOURNAL")
@@ -91,7 +103,7 @@ def room(args: argparse.Namespace) -> None:
     with closing(Journals(args.journals)) as journals:
         found = {tenant: used(journals, tenant) for tenant in journals.plan.tenants}
         shares = {tenant: told.share * BLOCK for tenant, told in journals.plan.tenants.items()}
-        nodes, is_whole = sorted(journals.nodes), journals.has_whole_row
+        nodes, is_whole = journals.numbers, journals.has_whole_row
     if args.metrics:
         write_whole(args.metrics, "".join(metrics({tenant: usage for tenant, (usage, _) in found.items() if usage}, ",".join(map(str, nodes)))))
         return
@@ -162,23 +174,49 @@ def pages(args: argparse.Namespace) -> None:
         out_file.flush()
 
 
+def copy(args: argparse.Namespace) -> None:
+    if args.journal == "-":
+        out_lines([f"{take_stream(standard(sys.stdin, INPUT), args.folder)} bytes came"])
+        return
+    if args.folder == "-":
+        with content_of(args.had or os.devnull) as had:
+            write_stream(args.journal, standard(sys.stdout, OUTPUT), parse_had(had.read().decode("ascii", "replace")))
+        return
+    made = copy_node(args.journal, args.folder)
+    out_lines([f"copied node {made.node}: {made.journal_bytes} bytes of its journal, {made.named_bytes} of segments; {made.copied_bytes} bytes were copied, the others are shared or were there"])
+    if made.lacking:
+        raise Skipped(f"{made.lacking} segments are missing beside {args.journal}: their chunks are damaged there", LACKING)
+
+
+class FromJournals(ToFolder):
+    """What has no whole copy here is told of each name, and counted."""
+
+    lacking = 0
+
+    def skip(self, what: str, fault: ClientError) -> None:
+        self.lacking += isinstance(fault, Damaged)
+        super().skip(what, fault)
+
+
 def get(args: argparse.Namespace) -> None:
-    with closing(Journals(args.journals)) as journals:
+    with closing(Journals(args.journals, args.tenant)) as journals:
         if not journals.has_whole_row:
             complain("no whole row of nodes: some of what was written last may be missing", PROGRAM)
 
         @contextmanager
         def names_for(_: str) -> Iterator[NamedFiles]:
-            yield journals.files(args.tenant)
+            yield journals.files(args.tenant, args.as_they_are)
 
-        made = ToFolder(args.folder, "", names_for, lambda _: 0, lambda word, name: out_lines([f"{word} {shown(name)}"]), partial(complain, who=PROGRAM))
+        made = FromJournals(args.folder, "", names_for, lambda _: 0, lambda word, name: out_lines([f"{word} {shown(name)}"]), partial(complain, who=PROGRAM))
         try:
             report = made.run()
         except Damaged as fault:
-            raise Damaged(f"{fault}. Where the copies were made one after another, copy what has changed once more") from None
+            raise Damaged(f"{fault}. {NOT_TOGETHER}") from None
         except NoSuchName:
             raise NoSuchName(f"{args.tenant} has no name") from None
         out_lines([f"got {len(report.moved)}; {report.same} the same"])
+        if made.lacking:
+            raise Skipped(f"{len(report.skipped)} skipped; of {made.lacking} of them no journal and folder here has a whole copy", LACKING)
         if report.skipped:
             raise Skipped(f"{len(report.skipped)} skipped", report.status)
 

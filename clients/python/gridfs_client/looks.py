@@ -8,6 +8,8 @@ between two plans a node may be lost.
 
 Looks at several volumes may go at once. Who was silent is asked each time, and not waited for until it answers a look. A node that did not tell which lines it knows
 is asked for its plan: an older program would call a look bad.
+
+A look asks all nodes, where a row and a column settle a file: a bucket has a file of each session, and their homes are in all columns.
 """
 
 import secrets
@@ -131,6 +133,8 @@ class Look:
 
     def is_late(self) -> None:
         """Nobody is waited for any more: who did not answer is silent."""
+        for node in self.waits_for():
+            self.carrier.note_unheard(node)
         self.silence.since.update(dict.fromkeys(self.waits_for(), self.carrier.now()))
 
     def take(self, told: LookTold, begun: float) -> None:

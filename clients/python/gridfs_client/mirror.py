@@ -7,17 +7,19 @@ as long as the file has that content.
 
 import abc
 import errno
+import fnmatch
 import hashlib
 import io
 import os
 import stat
 from collections import deque
-from collections.abc import Callable, Iterable, Iterator
+from collections.abc import Callable, Iterable, Iterator, Sequence
 from contextlib import AbstractContextManager
 from dataclasses import dataclass, field
 from functools import partial
 from typing import TypeVar
 
+from .contents import PartTold
 from .errors import BadFile, BadName, ClientError, Damaged, NoRoom, NoSuchName, Replaced, SourceChanged, Unanswered
 from .fleet import MAP_NAME, FleetFiles, expect_no_map
 from .local import UNFINISHED, to_target
@@ -27,6 +29,7 @@ from .pages import check_name, check_words
 GRID = "grid:"  # what a prefix begins with, so that no folder is taken for one
 LINK, NO_FILE = "a symbolic link is not followed", "it is not a regular file"
 WORDS = "user.gridfs"  # the attribute of a file: SHA-256 of the content whose words they are, and the words
+SOME = 1 << 20  # bytes that are read at a time
 Result = TypeVar("Result")
 AnyFiles = NamedFiles | FleetFiles
 OpenNames = Callable[[str], AbstractContextManager[AnyFiles]]
@@ -60,6 +63,7 @@ class Report:
     skipped: dict[str, str] = field(default_factory=dict)
     status: int = 0
     wordless: int = 0  # files beside which there could be no words
+    empty: int = 0  # folders without a file, of which no name tells
 
 
 # The folder
@@ -77,15 +81,26 @@ def open_regular(path: str) -> io.BufferedReader:
     return file
 
 
-def is_same(path: str, entry: Entry) -> bool:
-    """Whether a file has the size and the digest of a name's content."""
+def is_same(path: str, entry: Entry, parts: Callable[[], Iterable[PartTold]]) -> bool:
+    """Whether a file has the size and the digest of a name's content; of one that was put in parts, these, one behind the other. They are asked for where they count."""
     with open_regular(path) as file:
         if os.fstat(file.fileno()).st_size != entry.size:
             return False
         try:
-            return hashlib.file_digest(file, "sha256").hexdigest() == entry.sha256
+            if not entry.parts:
+                return hashlib.file_digest(file, "sha256").hexdigest() == entry.sha256
+            return all(digest_of_next(file, part.size) == part.sha256 for part in parts())
         except OSError as fault:
             raise BadFile(fault.strerror or str(fault)) from None
+
+
+def digest_of_next(file: io.BufferedReader, size: int) -> str:
+    """SHA-256 of so many bytes more."""
+    digest = hashlib.sha256()
+    while size and (some := file.read(min(SOME, size))):
+        digest.update(some)
+        size -= len(some)
+    return digest.hexdigest()
 
 
 def words_of(file: io.BufferedReader) -> str:
@@ -112,28 +127,47 @@ def keep_words(path: str, words: str) -> bool:
         return False
 
 
-def files_in(folder: str, skip: Callable[[str, ClientError], None]) -> Iterator[str]:
-    """The regular files in a folder and below it, as paths from there. An OSError where the folder can't be read. Symbolic links are not
-    followed, and what a mirror or a get was writing when it was killed is passed over."""
-    folders = [""]
-    while folders:
-        inside = folders.pop()
+class Tree:
+    """What is met in a folder and below it but for what is excluded: its regular files, what can't be read or is none, and how many folders are empty."""
+
+    def __init__(self, folder: str, skip: Callable[[str, ClientError], None], excludes: Iterable[str] = ()):
+        self.folder, self.skip, self.excludes, self.empty = folder, skip, tuple(excludes), 0
+
+    def files(self) -> Iterator[str]:
+        """The files, as paths from the folder on. An OSError where it can't be read. Symbolic links are not followed, and what a mirror or a get was writing when it was
+        killed is passed over."""
+        folders = [""]
+        while folders:
+            inside = folders.pop()
+            entries = self.entries_in(inside)
+            self.empty += bool(inside) and entries == []
+            for entry in entries or ():
+                path = os.path.join(inside, entry.name)
+                if is_excluded(path, self.excludes):
+                    continue
+                if entry.is_dir(follow_symlinks=False):
+                    folders.append(path)
+                elif not entry.is_file(follow_symlinks=False):
+                    self.skip(path, BadFile(LINK if entry.is_symlink() else NO_FILE))
+                elif not entry.name.startswith(UNFINISHED):
+                    yield path
+
+    def entries_in(self, inside: str) -> list[os.DirEntry[str]] | None:
+        """None where a folder below can't be read."""
         try:
-            with os.scandir(os.path.join(folder, inside) if inside else folder) as found:
-                entries = sorted(found, key=lambda entry: entry.name)
+            with os.scandir(os.path.join(self.folder, inside) if inside else self.folder) as found:
+                return sorted(found, key=lambda entry: entry.name)
         except OSError as fault:
             if not inside:
                 raise
-            skip(inside, BadFile(fault.strerror or str(fault)))
-            continue
-        for entry in entries:
-            path = os.path.join(inside, entry.name)
-            if entry.is_dir(follow_symlinks=False):
-                folders.append(path)
-            elif not entry.is_file(follow_symlinks=False):
-                skip(path, BadFile(LINK if entry.is_symlink() else NO_FILE))
-            elif not entry.name.startswith(UNFINISHED):
-                yield path
+            self.skip(inside, BadFile(fault.strerror or str(fault)))
+            return None
+
+
+def is_excluded(path: str, excludes: Iterable[str]) -> bool:
+    """Whether a path, or a folder that it leads through, is excluded: by its name, or by a pattern with a `/` as a path."""
+    paths = [*folders_of(path), path]
+    return any(fnmatch.fnmatchcase(each if "/" in pattern else os.path.basename(each), pattern.strip("/")) for pattern in excludes for each in paths)
 
 
 def name_of(prefix: str, path: str) -> str:
@@ -187,6 +221,7 @@ class Mirror(abc.ABC):
     """
 
     word = done = ""  # what a move is called that is to be made, and one that was made
+    excludes: Sequence[str] = ()  # patterns of what is left alone on both sides
 
     def __init__(
         self,
@@ -211,7 +246,21 @@ class Mirror(abc.ABC):
         with self.names("") as files:
             found = files.names(self.prefix)
             own = MAP_NAME if isinstance(files, FleetFiles) else None  # (it is gridfs-fleet's, and none of the tenant's names)
-            return {entry.name: entry for entry in found if entry.name != own}
+            return {entry.name: entry for entry in found if entry.name != own and not is_excluded(entry.name.removeprefix(self.prefix), self.excludes)}
+
+    def is_same(self, path: str, entry: Entry) -> bool:
+        """Whether a file has what the name holds. (Of parts that lists name the lists are read, by another session's turn.)"""
+
+        def parts() -> Iterable[PartTold]:
+            if not any(part.is_list for part in entry.parts):
+                return entry.parts
+            with self.names(entry.name) as files:
+                return files.parts(entry.name)
+
+        try:
+            return is_same(path, entry, parts)
+        except (NoSuchName, Replaced):
+            return False
 
     def local(self, path: str) -> str:
         return os.path.join(self.folder, path)
@@ -291,10 +340,14 @@ class ToGrid(Mirror):
     def find_files(self) -> dict[str, str]:
         """The path of each name's file."""
         found = {}
-        for path in list(files_in(self.folder, self.skip_path)):
+        tree = Tree(self.folder, self.skip_path, self.excludes)
+        for path in list(tree.files()):
             name = self.tried(self.local(path), partial(name_of, self.prefix, path))
             if name is not None:
                 found[name] = path
+        self.report.empty = tree.empty
+        if tree.empty:
+            self.complain(f"{tree.empty} empty folders have no name, and are not kept")
         return found
 
     def skip_path(self, path: str, fault: ClientError) -> None:
@@ -306,7 +359,7 @@ class ToGrid(Mirror):
         if name not in entries:
             return True
         path = self.local(self.files[name])
-        same = self.tried(path, lambda: is_same(path, entries[name]) and self.has_no_others(path, entries[name].words))
+        same = self.tried(path, lambda: self.is_same(path, entries[name]) and self.has_no_others(path, entries[name].words))
         self.report.same += same is True
         return same is False
 
@@ -338,7 +391,7 @@ class Removal(Mirror):
     def run(self) -> Report:
         entries = self.entries()
         if not entries:
-            raise NoSuchName(f"{GRID}{self.prefix}: no name begins so")
+            raise NoSuchName(f"{shown(self.prefix)}: no name begins so" if self.prefix else "there are no names")
         self.remove_all(entries)
         return self.report
 
@@ -355,7 +408,8 @@ class ToFolder(Mirror):
         self.paths = self.find_paths(entries)
         self.move([name for name in self.paths if self.is_other(entries[name])], self.get)
         if self.removes and kind_of(self.folder) is not None:
-            for path in [path for path in files_in(self.folder, lambda path, fault: self.skip(self.local(path), fault)) if self.is_extra(path, entries)]:
+            tree = Tree(self.folder, lambda path, fault: self.skip(self.local(path), fault), self.excludes)
+            for path in [path for path in tree.files() if self.is_extra(path, entries)]:
                 self.remove(path)
         if self.report.wordless:
             self.complain(f"{self.report.wordless} files are without the words beside their contents, as types and times of S3: this folder keeps none")
@@ -379,7 +433,7 @@ class ToFolder(Mirror):
         path = self.local(self.paths[entry.name])
         if kind_of(path) is None:
             return True
-        same = self.tried(path, lambda: is_same(path, entry))
+        same = self.tried(path, lambda: self.is_same(path, entry))
         self.report.same += same is True
         if same and not self.is_dry:
             self.report.wordless += not keep_words(path, entry.words)

@@ -42,6 +42,7 @@ class OpenGrid:
         sessions = sessions or self.sessions
         files = NamedFiles(sessions.first(), self.layout, progress, sessions.helpers, others=sessions.others, ground=ground)
         files.may_grow = self.may_grow
+        files.leftovers = sessions.leftovers(files.session)
         return files
 
     def may_grow(self) -> bool:
@@ -181,10 +182,11 @@ class OpenGrids:
             files = FleetFiles(self.map, open_files, in_threads)
             try:
                 yield files
-            except Unanswered as fault:
+            except BaseException as fault:
                 for sessions in all_sessions:
-                    if fault.home is not None and fault.home in map(sessions.told.home_of, sessions.locks):
+                    if isinstance(fault, Unanswered) and fault.home is not None and fault.home in map(sessions.told.home_of, sessions.locks):
                         sessions.leave(fault.home)
+                files.let_go()
                 raise
             files.close()
 

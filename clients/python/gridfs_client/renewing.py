@@ -2,6 +2,9 @@
 
 Who has a session changes its pages alone. A line keeps its version, and says of the same bytes where they are now: so no change of another session is undone,
 whatever comes meanwhile. What stood in a slot stays there, and nothing names it once the page was carried.
+
+A put anew would take a version above all that were seen. So it would win over a put of another session that was begun before it and ends later,
+and that put would be lost.
 """
 
 from collections.abc import Iterable

@@ -2,6 +2,7 @@
 
 import configparser
 import fcntl
+import hashlib
 import os
 import re
 import shlex
@@ -47,7 +48,7 @@ SETTINGS: dict[str, Setting] = {
     "session": Setting("all", "N|N-M|all", "the first of these sessions that no other command here uses and whose home answers"),
     "helpers": Setting("3", "N", "how many more of these list many pages, besides"),
     "timeout": Setting("30", "SECONDS", "how long an answer is waited for, from the beginning of the command or from the last one"),
-    "locks": Setting(None, "FOLDER", "where commands tell each other the sessions they use (~/.cache/gridfs): one for all users of a tenant"),
+    "locks": Setting(None, "FOLDER", "where programs tell each other the sessions they use: one for all users of a tenant (~/.cache/gridfs, a folder for each grid)"),
     "grid": Setting(None, "ROWSxCOLUMNS", "how the nodes are arranged, as 2x3: nodes of before do not tell it"),
 }
 OF_GATEWAYS = {
@@ -155,7 +156,8 @@ class Settings:
         """Those of a grid of a fleet: a file beside the map, with the time for an answer, the helpers and the sessions of this command. Commands tell each other the sessions that
         they use in a folder of the grid."""
         values = {key: setting.default for key, setting in SETTINGS.items() if setting.default is not None}
-        values["locks"] = str((Path(self.values["locks"]) if "locks" in self.values else default_locks()) / grid)
+        if "locks" in self.values:
+            values["locks"] = str(Path(self.values["locks"]) / grid)
         try:
             values.update(read_file(Path(map_path).parent / file))
         except FileNotFoundError:
@@ -227,7 +229,7 @@ class Settings:
             return ProcessCarrier(tenant, shlex.split(self.values["via"]))
         if "socket" in self.values:
             return SocketCarrier(tenant, self.values["socket"])
-        if "hosts" in self.values or not {"broker", "password-file"} & self.values.keys():
+        if self.is_over_links:
             from .links import LinkCarrier
 
             hosts, authority = self.values.get("hosts", HOSTS), self.values.get("ca-file", AUTHORITY)
@@ -286,12 +288,31 @@ class Settings:
 
     @cached_property
     def locks(self) -> str:
-        """Its path."""
-        return self.values["locks"] if "locks" in self.values else str(default_locks())
+        """Its path: where none is set, one for each grid, which all programs of this user find by where the grid is."""
+        return self.values.get("locks") or str(default_locks() / hashlib.sha256(self.where().encode(errors="surrogateescape")).hexdigest()[:16])
+
+    def where(self) -> str:
+        """Where the grid is: the same for all that name the same command, socket, file of hosts or broker."""
+        if "via" in self.values:
+            return f"via {self.values['via']}"
+        if "socket" in self.values:
+            return f"socket {os.path.realpath(self.values['socket'])}"
+        if self.is_over_links:
+            return f"hosts {os.path.realpath(self.values.get('hosts', HOSTS))}"
+        return f"broker {self.need('broker').lower()} {self.grid_name}"
+
+    @property
+    def is_over_links(self) -> bool:
+        """Whether links go to the nodes, where it is neither a command nor a socket."""
+        return "hosts" in self.values or not {"broker", "password-file"} & self.values.keys()
 
     def end_path(self, number: int) -> Path:
         """The note of where the session came to its end (ends.py)."""
         return self.notes() / f"{self.tenant}-{number}.end"
+
+    def leftovers_path(self, number: int) -> Path:
+        """The note that chunks of the session may be left which no name needs (leftovers.py)."""
+        return self.notes() / f"{self.tenant}-{number}.begun"
 
     def note_silent(self, node: int) -> None:
         """Has the next commands know that a node was silent, or died of what it was asked. Nothing rests on it: where it can't be noted, it isn't."""

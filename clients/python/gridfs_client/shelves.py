@@ -1,14 +1,47 @@
-"""What a node's journal names on the shelf beside it, and what lies there: how much is dead, and of which tenants chunks are lacked."""
+"""A node's journal and the folder of chunks beside it, which are one thing: what the journal names there, what lies there, and the bytes of chunks.
+
+A node that runs removes segments once their chunks were forgotten or moved. So the segments are opened before the journal is read, and those that came meanwhile behind it: what
+was opened can be read whatever the node does since. Where a segment that the journal names was gone by then, and the journal has changed, all is read once more.
+"""
 
 import os
+import resource
 from collections import Counter
+from collections.abc import Callable, Iterable, Iterator
+from contextlib import ExitStack, suppress
 from dataclasses import dataclass, field
+from typing import BinaryIO, NamedTuple
 
-from .errors import BadFile
-from .journals import NODE, batches
+from .answers import MOST_PLACES, content_of
+from .batches import NODE, Lines, sealed
+from .errors import BadFile, Damaged
 
-FIRST_NEW = 64  # nodes of this number and later ones were begun in place of a lost one
-Chunk = tuple[int, int]  # the segment, 0 for the journal itself, and the bytes
+FIRST_NEW = MOST_PLACES  # nodes of this number and later ones were begun in place of a lost one
+BEGINNINGS = 20  # of a reading, where the node changes more than can be read
+FACTOR, WORD = 11400714819323198485, (1 << 64) - 1  # of the journal's sum
+NUMBER_LETTERS = 10  # of a segment's name
+Taken = Callable[[BinaryIO, int, bytes], None]
+
+
+class Extent(NamedTuple):
+    """Where the bytes of a chunk are: in a segment of the shelf, or as a word of the journal, where the segment is 0. `is_sure`: the node tells it."""
+
+    segment: int
+    at: int
+    length: int
+    sum: int
+    is_sure: bool
+
+
+def sum_of(number: int, content: bytes) -> int:
+    """The journal's sum of a number and bytes (docs/FORMATS.md, Batches)."""
+    told = 0
+    whole = len(content) // 8 * 8
+    words = memoryview(content[:whole]).cast("Q")
+    for word in (number, len(content), *words, int.from_bytes(content[whole:], "little")):
+        product = (told ^ word) * FACTOR & WORD
+        told = product ^ product >> 32
+    return told
 
 
 @dataclass
@@ -39,63 +72,170 @@ class Shelf:
 
 
 class Facts:
-    """The facts of chunks that were read so far."""
+    """What was read so far of a journal: its node, the lines of its last plan, and where the chunks of one tenant are, or of all."""
 
-    def __init__(self) -> None:
+    def __init__(self, tenant: str | None = None) -> None:
+        self.of = b" %b " % tenant.encode("ascii") if tenant else b""
         self.node, self.first, self.rooms, self.filled = -1, dict[str, int](), dict[str, int](), set[str]()
-        self.sessions = dict[tuple[str, int], dict[int, Chunk]]()
+        self.plan, self.end = list[bytes](), 0
+        self.sessions = dict[tuple[str, int], dict[int, Extent]]()
 
-    def plan(self, lines: list[bytes]) -> None:
-        words = [line.decode("ascii").split() for line in lines]
-        self.rooms = {name: int(kib) for name, kib in (row[::2] for row in words if len(row) == 3 and row[1] == "chunks")}
-        self.first = self.first or self.rooms
+    def batch(self, lines: Lines, end: int) -> bool:
+        """Takes a batch; whether it was one of facts, and not of a plan."""
+        self.end = end
+        if lines and (head := NODE.fullmatch(lines[0][1])):
+            self.node, self.plan = int(head[1]), [line for _, line in lines]
+            words = [line.decode("ascii").split() for line in self.plan[1:]]
+            self.rooms = {name: int(kib) for name, kib in (row[::2] for row in words if len(row) == 3 and row[1] == "chunks")}
+            self.first = self.first or self.rooms
+            return False
+        for offset, line in lines:
+            if line.startswith((b"chunk ", b"extent ", b"forgot ")):
+                if not self.of or line.find(self.of, 0, 40) > 0:
+                    self.fact(offset, line)
+            elif line.startswith(b"filled "):
+                self.filled.add(line.split()[1].decode("ascii"))
+        return True
 
-    def fact(self, line: bytes) -> None:
-        if line.startswith((b"chunk ", b"extent ")):
-            verb, tenant, session, number, _, content = line.split(b" ", 5)
-            places = self.sessions.setdefault((tenant.decode("ascii"), int(session)), {})
-            if verb == b"chunk":
-                places[int(number)] = 0, len(content) - 2
-            else:
-                segment, _, length = content.split()[:3]
-                places[int(number)] = int(segment), int(length)
-        elif line.startswith(b"forgot "):
+    def fact(self, offset: int, line: bytes) -> None:
+        if line.startswith(b"forgot "):
             _, tenant, session, _, first, last = line.split()
             had, run = self.sessions.get((tenant.decode("ascii"), int(session)), {}), range(int(first), int(last) + 1)
             for gone in run if len(run) <= len(had) else [each for each in had if each in run]:
                 had.pop(gone, None)
-        elif line.startswith(b"filled "):
-            self.filled.add(line.split()[1].decode("ascii"))
+            return
+        verb, tenant, session, number, sure, content = line.split(b" ", 5)
+        places, is_sure = self.sessions.setdefault((tenant.decode("ascii"), int(session)), {}), sure == b"1"
+        if verb == b"chunk":
+            places[int(number)] = Extent(0, offset + len(line) - len(content), len(content) - 1, 0, is_sure)
+        else:
+            segment, at, length, sum_told = map(int, content.split())
+            places[int(number)] = Extent(segment, at, length, sum_told, is_sure)
+
+    def extents(self) -> Iterator[Extent]:
+        return (extent for places in self.sessions.values() for extent in places.values())
+
+    def lacking(self) -> list[str]:
+        """The tenants of whom the node lacks chunks."""
+        if self.node < FIRST_NEW:
+            return []
+        return [name for name, kib in self.rooms.items() if kib and self.first.get(name) and name not in self.filled]
+
+
+def folder_of(journal: str) -> str:
+    return journal + ".shelf"
+
+
+def segment_name(number: int) -> str:
+    return f"{number:0{NUMBER_LETTERS}}"
+
+
+def segments_in(folder: str) -> dict[int, int]:
+    """The segments that lie there, with their bytes; none where there is no folder."""
+    found = dict[int, int]()
+    with suppress(FileNotFoundError), os.scandir(folder) as entries:
+        for entry in entries:
+            if len(entry.name) == NUMBER_LETTERS and entry.name.isdigit():
+                with suppress(FileNotFoundError):
+                    found[int(entry.name)] = entry.stat().st_size
+    return found
+
+
+def allow_many_files() -> None:
+    """A terabyte has four thousand segments."""
+    _, most = resource.getrlimit(resource.RLIMIT_NOFILE)
+    resource.setrlimit(resource.RLIMIT_NOFILE, (most, most))
+
+
+class NodeFiles:
+    """A node's journal and shelf, opened, as they were at one moment. BadFile where it is no journal, Damaged where it is damaged. `take` is given each other fact: the journal
+    as it was opened, where the line begins, and the line."""
+
+    def __init__(self, path: str, tenant: str | None = None, take: Taken = lambda *_: None):
+        self.path, self.folder, self.tenant, self.take = path, folder_of(path), tenant, take
+        self.opened, self.segments = ExitStack(), dict[int, BinaryIO]()
+        allow_many_files()
+        try:
+            self.read()
+        except BaseException:
+            self.close()
+            raise
+
+    def read(self) -> None:
+        for _ in range(BEGINNINGS):
+            self.open_segments(segments_in(self.folder))
+            self.journal = self.opened.enter_context(open(self.path, "rb"))
+            self.facts = self.read_facts()
+            named = {extent.segment for extent in self.facts.extents() if extent.segment}
+            self.open_segments(sorted(named))
+            if named <= self.segments.keys() or not self.has_changed():
+                break
+        for number in self.segments.keys() - named:
+            self.segments.pop(number).close()
+
+    def read_facts(self) -> Facts:
+        facts = Facts(self.tenant)
+        try:
+            for lines, end in sealed(self.journal, self.path):
+                if facts.batch(lines, end):
+                    for offset, line in lines:
+                        self.take(self.journal, offset, line)
+        except (ValueError, IndexError):
+            raise BadFile(f"{self.path}: a line says no fact of a node") from None
+        if facts.node < 0:
+            raise BadFile(f"{self.path}: no journal of a node")
+        return facts
+
+    def open_segments(self, numbers: Iterable[int]) -> None:
+        for number in numbers:
+            if number not in self.segments:
+                with suppress(FileNotFoundError):
+                    self.segments[number] = self.opened.enter_context(open(os.path.join(self.folder, segment_name(number)), "rb"))
+
+    def has_changed(self) -> bool:
+        """Whether the journal has more by now than was read, or is another one."""
+        try:
+            there = os.stat(self.path)
+        except FileNotFoundError:
+            return False
+        own = os.fstat(self.journal.fileno())
+        return (there.st_dev, there.st_ino) != (own.st_dev, own.st_ino) or there.st_size > self.journal.tell()
+
+    @property
+    def node(self) -> int:
+        return self.facts.node
+
+    def extent(self, session: int, number: int) -> Extent | None:
+        """Where a chunk of the tenant is."""
+        return self.facts.sessions.get((self.tenant or "", session), {}).get(number)
+
+    def content(self, extent: Extent, is_checked: bool) -> bytes:
+        """The bytes there; their sum is looked at where that is wanted. Damaged, with a word that says why, where they can't be read."""
+        try:
+            if not extent.segment:
+                return content_of(os.pread(self.journal.fileno(), extent.length, extent.at).decode("latin1"))
+            content = os.pread(self.segments[extent.segment].fileno(), extent.length, extent.at)
+        except KeyError:
+            raise Damaged(f"without segment {extent.segment}") from None
+        except (OSError, ValueError):
+            raise Damaged("unread") from None
+        if len(content) != extent.length or is_checked and sum_of(extent.at, content) != extent.sum:
+            raise Damaged("damaged")
+        return content
+
+    def close(self) -> None:
+        self.opened.close()
 
 
 def shelf_of(path: str) -> Shelf:
     """Of the node of this journal. BadFile where it is none, Damaged where it is damaged."""
-    facts, seen = Facts(), False
-    with open(path, "rb") as file:
-        try:
-            for lines in batches(file, path):
-                if lines and (head := NODE.fullmatch(lines[0][1])):
-                    facts.node, seen = int(head[1]), True
-                    facts.plan([line for _, line in lines[1:]])
-                else:
-                    for _, line in lines:
-                        facts.fact(line)
-        except (ValueError, IndexError):
-            raise BadFile(f"{path}: a line says no fact of a node") from None
-    if not seen:
-        raise BadFile(f"{path}: no journal of a node")
-    found = Shelf(facts.node)
-    for places in facts.sessions.values():
-        found.chunks += len(places)
-        for segment, length in places.values():
-            if segment:
-                found.named[segment] += length
-            else:
-                found.in_journal += length
-    if facts.node >= FIRST_NEW:
-        found.lacking = [name for name, kib in facts.rooms.items() if kib and facts.first.get(name) and name not in facts.filled]
-    folder = path + ".shelf"
-    if os.path.isdir(folder):
-        with os.scandir(folder) as entries:
-            found.on_disk = {int(entry.name): entry.stat().st_size for entry in entries if len(entry.name) == 10 and entry.name.isdigit()}
+    files = NodeFiles(path)
+    files.close()
+    found = Shelf(files.node, lacking=files.facts.lacking(), on_disk=segments_in(files.folder))
+    for extent in files.facts.extents():
+        found.chunks += 1
+        if extent.segment:
+            found.named[extent.segment] += extent.length
+        else:
+            found.in_journal += extent.length - 1
     return found

@@ -17,6 +17,12 @@ and journals (core.py) is said of these:
 
     work = answering(request, split)      # what the client of the new bucket asks for (core.py)
     which, asked = next(work)             # at the old bucket or the new one; then work.send(answer), until it returns the answer and the split
+
+A signpost is one line for all parts of a page, and changes no number: lines, number and AFTERs stay, so of each part the same counts as before.
+It is put before a look, when nothing of the session is under way. So each run is, step by step, one of the protocol without levels, whose law
+holds (`gq_names::laws::splits_are_one`). A level's rule holds before that of a move between grids: new pages take the signposts of a fleet along
+with the lines. Unlike a move nothing is copied, no session waits for another one, and removals are forgotten as ever, since the session that
+wrote the old page writes the new one too.
 """
 
 from collections.abc import Callable, Generator

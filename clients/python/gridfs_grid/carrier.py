@@ -16,6 +16,9 @@ READ = 65_536  # bytes of one read; a line may take several
 MOST_WAITING = 1 << 22  # bytes that may wait for one node, or some of the longest lines
 GREET_FIRST, GREET = 3, 60  # seconds from a node's first line, when links are up, until it is to tell the others which forms of lines it speaks, and to the next time
 PATIENCE = 5  # seconds that a node has to end by itself
+LETTERS = {b"ask", b"store", b"confirm"}  # between nodes, that are answered at once: TO FROM TENANT SESSION OPERATION ROUND VOLUME FILE ask ..
+SEARCHES = {b"seeks", b"wants"}  # by which a node asks for chunks that it lacks: TO FROM TENANT seeks ..
+LACKS = 10  # seconds from such a line until it has all, or nobody gives them
 # For a node's C library, as deploy/carrier/node.c has it: what a large content took is kept for the next one.
 KEEP_MEMORY = {"GLIBC_TUNABLES": "glibc.malloc.mmap_threshold=8388608:glibc.malloc.trim_threshold=67108864"}
 
@@ -106,13 +109,15 @@ class Carrier:
     def __init__(self, nodes, hear, fall, tick):
         self.nodes, self.hear, self.fall = nodes, hear, fall
         self.most_waiting = MOST_WAITING
-        self.tick, self.next_tick = tick, time.monotonic() + tick
+        self.tick = self.quick = tick
+        self.next_tick, self.given_tick = time.monotonic() + tick, 0
+        self.asked, self.lacks_until = {}, 0  # nodes' places, and when each was first asked since it wrote something
         self.carried = 0  # lines that were given to nodes
         self.callers = None  # clients at a socket (callers.py), where there is one
 
-    def carry_lines_of(self, longest, tick):
-        """Some lines of so many bytes may wait for a node, and ticks come this often."""
-        self.most_waiting, self.tick = max(MOST_WAITING, 16 * longest), tick
+    def carry_lines_of(self, longest, tick, quick=None):
+        """Some lines of so many bytes may wait for a node, and ticks come this often, or the other while a node is silent."""
+        self.most_waiting, self.tick, self.quick = max(MOST_WAITING, 16 * longest), tick, quick or tick
 
     def node(self, number):
         """The node of this number; None where another stands in its place, or there is none."""
@@ -139,18 +144,39 @@ class Carrier:
         if lines is None:
             self.fall(node, node.gone())
             return
+        if lines:
+            self.asked.pop(node.number % PLACES, None)
         for line in lines:
             if line == b" ?":  # a node's first line, to nobody
                 node.is_ready, node.greet_due = True, time.monotonic() + GREET_FIRST
             elif line[:1].isdigit():
+                self.note_asked(line)
                 self.send(line)
             else:
                 self.hear(line)
 
+    def note_asked(self, line):
+        """A node writes to another one."""
+        words = line[:200].split(b" ", 9)
+        if len(words) > 8 and words[8] in LETTERS:
+            self.asked.setdefault(int(words[0]) % PLACES, time.monotonic())
+        elif len(words) > 3 and words[3] in SEARCHES:
+            self.lacks_until = time.monotonic() + LACKS
+
+    def tick_due(self, now):
+        """When the next tick is. Only a tick has a session ask round a node that is silent, so they come quickly then; but not while a node asks for chunks that it lacks, since a tick has it
+        ask again, and those lines are long."""
+        if now < self.lacks_until:
+            return self.next_tick
+        return min([self.next_tick, *(max(since if self.is_up(place) else 0, self.given_tick) + self.quick for place, since in self.asked.items())])
+
+    def is_up(self, place):
+        return place >= len(self.nodes) or self.nodes[place].child is not None
+
     def give_ticks(self):
         now = time.monotonic()
-        if now >= self.next_tick:
-            self.next_tick = now + self.tick
+        if now >= self.tick_due(now):
+            self.next_tick, self.given_tick = now + self.tick, now
             for node in self.nodes:
                 if node.child and node.is_ready and not node.waiting:
                     self.send(b"%d %d tick" % (node.number, node.number))
@@ -171,7 +197,8 @@ class Carrier:
         wanted = {node.child.stdout: node for node in up}
         waited = {node.child.stdin: node for node in up if node.waiting}
         calls, answers = (self.callers.read_from(), self.callers.written_to()) if self.callers else ({}, {})
-        seconds = max(0, min(seconds, self.next_tick - time.monotonic()))
+        now = time.monotonic()
+        seconds = max(0, min(seconds, self.tick_due(now) - now))
         read, written, _ = select.select([*wanted, *calls, *([] if more is None else [more])], [*waited, *answers], [], seconds)
         for pipe in written:
             answers[pipe]() if pipe in answers else waited[pipe].give()

@@ -66,7 +66,7 @@ class Grid:
             raise Fault(f"{self.plan}: {error.strerror}") from error
         told = self.take_plan(text)
         self.longest = told.longest - MORE
-        self.carrier.carry_lines_of(told.longest, self.tick or tick_of(told.longest, TICK))
+        self.carrier.carry_lines_of(told.longest, self.tick or tick_of(told.longest, TICK), self.tick or tick_of(told.longest_letter, TICK))
         for number in told.nodes:
             self.add_node(number)
         if not any(node.child for node in self.carrier.nodes):

@@ -2,6 +2,8 @@
 
 FOLDER/grid has the grid's files (FOLDER itself, where a grid without S3 was there before), FOLDER/s3 the access keys of each tenant and configurations for s3cmd and rclone, FOLDER/log.NAME what each process told. A
 browser finds a page at http://ADDRESS:PORT/-/; it asks for an access key and its secret.
+
+It starts another `./grid` for the nodes: each has its own log, and either can be killed and started alone.
 """
 
 import os
@@ -83,7 +85,7 @@ class All:
 
     def start_gateway(self, it):
         words = ["--config", self.grid_folder / f"{it.tenant}.ini", "--keys", self.s3 / f"{it.tenant}.keys", "--listen", f"unix:{self.s3 / it.name}.socket"]
-        self.run(f"s3.{it.name}", [GATEWAY, *words], env={**os.environ, "GRIDFS_LOCKS": str(self.s3 / "locks"), "GRIDFS_SESSION": it.sessions})
+        self.run(f"s3.{it.name}", [GATEWAY, *words], env={**os.environ, "GRIDFS_SESSION": it.sessions})
 
     def wait_for_gateway(self, it):
         self.wait(f"s3.{it.name}", lambda: f"gridfs-s3: {it.tenant} at" in self.told(f"s3.{it.name}"))
@@ -171,7 +173,7 @@ def show(all_of_it):
     print(f"{name} gets {'the same bytes' if is_same else 'OTHER BYTES'}. The gateway ends, and its sessions are free:", flush=True)
     for it in gateways:
         all_of_it.end_gateway(it)
-    command = [CLIENT, "--config", all_of_it.grid_folder / f"{name}.ini", "--locks", all_of_it.s3 / "locks", "get", "first-bucket/hello"]
+    command = [CLIENT, "--config", all_of_it.grid_folder / f"{name}.ini", "get", "first-bucket/hello"]
     is_file = subprocess.run(list(map(str, command)), stdout=subprocess.PIPE).stdout == content
     print(f"gridfs-client get first-bucket/hello gives {'them too' if is_file else 'OTHER BYTES'}.", flush=True)
     return 0 if is_same and is_file else 1

@@ -6,6 +6,8 @@ operation of a number that is far too high. Then it reads, and believes nothing 
 still be under way with the same number. A home that was started again tells a later last number, behind which the session goes on. Where a home was
 lost, the node that stands in its place knows the session by another number, under which it begins anew. No clock is asked here, and
 nothing is sent: the caller does both.
+
+So `./grid` drives many sessions in one loop, and tests repeat a run by its seed.
 """
 
 import collections
@@ -25,7 +27,7 @@ MOST_LOST = 14  # nodes that may be lost at a place, one after another
 def tick_of(longest, least):
     """Seconds from one tick to the next, which are so many where lines are short: a tick that comes before the longest line was answered has it sent
     again."""
-    return least + (longest - SHORT_LINE) / SLOWEST / 4
+    return least + max(0, longest - SHORT_LINE) / SLOWEST / 4
 
 
 class Request:

@@ -13,6 +13,8 @@ anew. So it is too where the home is silent, or a note would have too many files
 Of pages that split (gridfs_client/splits.py) a listing looks at all old ones first, and then at the new ones of those that have split. So it sees of each session a page that counted at
 some moment of the request. A page from which lines went stands in the index only once the new pages of these are there too: so each name is told once, whichever is read first. A page is
 settled together with those in its place.
+
+A listing may ask nobody, where a get always looks. A get tells what its client rests a change on; a listing of many pages is no snapshot anyway.
 """
 
 import asyncio

@@ -1,4 +1,8 @@
-"""Bodies of requests: read as they come, and looked at on their way. None is kept."""
+"""Bodies of requests: read as they come, and looked at on their way. None is kept.
+
+SHA-256 of a content that the request has signed is taken as it comes, and not again as its file is read. A file that was spoilt meanwhile shows at
+the first get; taken again, the digest would be that of what was spoilt.
+"""
 
 import asyncio
 import base64

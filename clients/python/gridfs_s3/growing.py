@@ -3,6 +3,10 @@
 `gridfs-client grow` locks `TENANT-0.wanted`, as another command locks that of a session for which it waits. As long as it does, a gateway locks `TENANT-N.grows` of each session N that it
 has, and has all pages of these split, one bucket after another: so these are changes of its own, and a listing asks nobody. After each bucket it rests as long as that took of the
 processor, where somebody asks for something. Once all are through it lets go of these locks, and the command has each session in turn, and sees to what is left.
+
+A gateway splits pages wholly that a client would leave half split, since it lasts and has idle sessions, and each look at such names is two. It
+has its own pages split itself, since nobody tells it what a session writes that it lends. It rests by its processor and not by the clock: over
+nodes most of the time is waiting, which costs others nothing.
 """
 
 import asyncio

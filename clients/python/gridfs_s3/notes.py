@@ -3,6 +3,8 @@
 Before an operation's first line the record of its session is written into memory that is the file's: so it waits for no disk, and a process that is killed leaves it as it was then.
 Where a machine ends the file may be older. It is believed only where the session's home tells the same last number, or the one before: then nobody had the session since, and what may be
 under way is that operation alone. Where it writes a page, or a journal, that page is settled anew: of a change that was announced, and not carried, the journal was the last one written.
+
+It is noted beforehand, since a note at the end would say nothing of a process that was killed.
 """
 
 import mmap

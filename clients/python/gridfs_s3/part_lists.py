@@ -2,6 +2,9 @@
 
 The line of an upload names parts by itself, and has their words. Once these are many, those of up to 256 numbers go into a list, with a word for each. A part
 that the line names counts in place of one of its number in a list.
+
+One change of one page has to bring an object with all its parts, so a list is a content that one line names. An upload's name ends in the digest
+of its object's: both are in one page then, so that one session can change both.
 """
 
 from collections.abc import Iterable, Sequence

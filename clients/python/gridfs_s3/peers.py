@@ -18,6 +18,10 @@ By addresses it holds word for word, since each question bears a word of its own
 addresses don't. So all addresses are asked, also those of which no session is wanted any more, and the pages of each answer are looked at. A gateway that was stopped, and replaced by one
 that is asked too, hides nothing of that one. Where its successor is not asked, it may tell for two seconds at most that nothing changed: then it finds at the homes of its sessions that
 they are no more its own, and all volumes are looked at.
+
+A file of the grid could say it, at the price of one more synced write for each put. Settings name the other gateways, since each gateway has a
+file of settings that its unit and the file `several` name already. Gateways over several grids tell one another nothing: there a listing takes
+the indexes of all grids as of one moment, at which no move is under way, and a mover may have a session of another gateway.
 """
 
 import asyncio

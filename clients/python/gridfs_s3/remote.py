@@ -2,6 +2,11 @@
 
 They say what gateways of one machine say (peers.py), through TLS, by which both show the same certificate: the tenant's own. So whoever has another one is told nothing, and asked nothing. Without a
 certificate only addresses of this machine are taken.
+
+One certificate does for both sides, since tenants' certificates are for who connects, and TLS takes none of these from who listens. There is TLS
+although question and answer bear a MAC: a secret of eight letters is allowed, and who sees a question could try all of these by himself. A
+connection lasts for a minute, as to make one takes ten times the processor of a question, and no longer, so that nothing is believed for long by
+a certificate or a key that was replaced.
 """
 
 import asyncio

@@ -3,6 +3,9 @@
 Each is a process of its own, of its own user where the file says so, with its own keys, connections, sessions and bounds. All are forked from one process that
 has loaded the program, and that takes no request and reads no key. So what a gateway is told by a tenant no other tenant's gateway can see, and one that
 falls, or is kept busy, is nobody else's. A gateway that ends is begun again.
+
+In one process a tenant more would take less memory. But there a fault, a busy thread or memory that one tenant's requests take is all tenants',
+and one user can read all their keys.
 """
 
 import ctypes

@@ -1,4 +1,8 @@
-"""Who a request is from: AWS Signature Version 4, as header or in the URL."""
+"""Who a request is from: AWS Signature Version 4, as header or in the URL.
+
+It is reckoned here, and not by botocore, whose signer makes a request anew for each, and the key of the day. In the tests botocore signs, so that
+the two are compared.
+"""
 
 import hashlib
 import hmac

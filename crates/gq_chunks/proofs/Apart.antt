@@ -63,9 +63,11 @@ step_alone last old its facts told new t was is step on at_was at_is X own other
     of_took : (text : ℕ → ChunkAnswer → List ℕ) (k : ℕ) (request : ChunkRequest) → k ≡ t → Took (text k) old k request facts told new → AnswersAlone (text t) last (site_of old) t request was facts told is
     of_took text k request same took = record {
       answered = took.answered;
+      before = old.noted;
       noted = new.noted;
       goes_on = on;
       step = took.answers.own was is (was_there k same) (is_there k same);
+      damaged = took.answers.damaged was (was_there k same);
       facts_are = took.facts_are ∙ ap (λ (z : ℕ). fact_lines old.plan z took.answered.fact) same;
       told_is = took.told_is ∙ ap (λ (z : ℕ). text z took.answered.answer) same;
     }

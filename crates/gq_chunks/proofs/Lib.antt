@@ -9,3 +9,5 @@ pub mod Telling
 pub mod Sayings
 pub mod Searching
 pub mod Cleaned
+pub mod Column
+pub mod Filled

@@ -5,6 +5,7 @@ use Rattle.gq_desk.specs.CheckedPlan.{CheckedPlan}
 use Rattle.gq_journal.specs.Batches.{Line}
 use Rattle.gq_keeper.specs.Runs.{Did, Runs}
 use Rattle.gq_stock.specs.Finding.{LacksSpace}
+use Rattle.gq_depot.specs.Answers.{DamageIs}
 use Rattle.gq_depot.specs.Depots.{LeadsTo}
 use Rattle.gq_depot.specs.Moving.{MoveStep}
 use Rattle.gq_depot.specs.Tenants.{Step, FillStep}
@@ -44,12 +45,15 @@ is_own t (Asked other request) = other == t
 is_own t (Said other from saying) = other == t
 is_own t Ticked = true
 
--- what came of the request, of whom the node had the one depot and has the other, told as this text
+-- What came of the request, of whom the node had the one depot and has the other, told as this text. Beside this tenant's chunks it hangs on the shelf alone, and only so: a content is told
+-- to be damaged where this read found it so, and that there is no space where the shelf had none for it.
 pub record AnswersAlone (text : ChunkAnswer → List ℕ) (last : Noted) (site : Site) (t : ℕ) (request : ChunkRequest) (old : Depot) (facts : List Line) (told : List ℕ) (new : Depot) : Type 0 where
   pub answered : Answered
+  pub before : Noted
   pub noted : Noted
   pub goes_on : GoesOn noted last
   pub step : Step noted site.losses old request answered new
+  pub damaged : DamageIs old before noted answered.answer
   pub facts_are : facts ≡ fact_lines site.plan t answered.fact
   pub told_is : told ≡ text answered.answer
 

@@ -12,3 +12,4 @@ pub mod Machines
 pub mod Lasting
 pub mod Needed
 pub mod Alone
+pub mod Columns

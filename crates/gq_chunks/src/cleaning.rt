@@ -1,5 +1,8 @@
 //! What is done with chunks on the shelf before a line is taken: some are read, to see whether they can be, one that is damaged is mended by what a peer gives, and some are moved out of
 //! segments of which little is named, so that these can go. Nothing that is told changes by it.
+//!
+//! So cleaning keeps up with what is put, and a step moves some MiB at most. All that is moved in a step is synced at once,
+//! before its facts are told. Where the disk has no space for a chunk that is moved, none is moved for 64 parts.
 
 ghost use Rattle.std.specs.Prelude.{◌≡◌, ◌<◌, ◌≤◌, ◌^◌, ℕ, List, true, length, IfOk, IfSome, IfErr, OnOk};
 ghost use Rattle.gq_text.specs.Canonical.{IsPlan};

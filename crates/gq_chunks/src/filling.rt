@@ -1,13 +1,14 @@
 //! A node that lacks chunks is given them by its peers, and gives its own to one that does.
 
-ghost use Rattle.std.specs.Prelude.{◌≡◌, ◌⊎◌, ◌<◌, ◌++◌, [], true, length, IfOk, IfSome, IfErr, OnOk};
+ghost use Rattle.std.specs.Prelude.{◌≡◌, ◌⊎◌, ◌<◌, ◌++◌, [], true, false, length, slice_get, Some, IfOk, IfSome, IfErr, OnOk};
 ghost use Rattle.gq_journal.specs.Batches.{lines_text};
 ghost use Rattle.gq_text.specs.Canonical.{IsPlan};
 ghost use Rattle.gq_keeper.specs.Runs.{Takes};
 ghost use Rattle.gq_depot.specs.Seeking.{Sought, sought_of, AreAsks};
-ghost use Rattle.gq_chunks.specs.PeerLines.{saying_of};
+ghost use Rattle.gq_depot.specs.declared.depot.Depot.{Depot};
+ghost use Rattle.gq_chunks.specs.PeerLines.{saying_of, Found, Gives};
 ghost use Rattle.gq_chunks.specs.Machines.{chunks, may_answer, fact_lines, FactStands, IsShelfRefusal, AnswersPeer, AddsAsks, AsksOfOne, AddsFacts, FillsDone, GivenAs, Fed, Unfed, Waits, SaidBy, Ticks};
-ghost use Rattle.gq_chunks.specs.Search.{IsGiven};
+ghost use Rattle.gq_chunks.specs.Search.{seeks_of, Hears, IsGiven, IsHeard, IsSameSearch, IsSettled, OnlyGivenAreFilled, SearchHears};
 
 use crate::machine::fault_of;
 use crate::peers::peer_in_row;
@@ -34,6 +35,7 @@ impl<S: Shelf + Drop> ChunkMachine<S> {
     // Does this for the tenant.
     fn filled(&mut self, tenant: u8, filling: Filling) -> Result<Option<ChunkFact>, Fault>
         requires { tenant < length self.old.depots.depots.items }
+        ensures search { self.new.search ≡ self.old.search }
         ensures done { IfOk result (λ fact. FillsDone (chunks self.old.plan self.old.node self.old.lost self.old.depots.losses self.old.depots.depots.items (S.noted self.old.depots.shelf)) tenant filling fact (chunks self.new.plan self.new.node self.new.lost self.new.depots.losses self.new.depots.depots.items (S.noted self.new.depots.shelf))) }
         ensures refused { IfErr result (λ fault. IsShelfRefusal fault (S.noted self.old.depots.shelf) (S.noted self.new.depots.shelf)) }
     {
@@ -48,6 +50,7 @@ impl<S: Shelf + Drop> ChunkMachine<S> {
         requires tenant { tenant < length self.old.plan.rows }
         requires there { tenant < length self.old.depots.depots.items }
         requires sound { IsPlan self.old.plan }
+        ensures search { self.new.search ≡ self.old.search }
         ensures done { OnOk result (AddsFacts (chunks self.old.plan self.old.node self.old.lost self.old.depots.losses self.old.depots.depots.items (S.noted self.old.depots.shelf)) tenant filling facts.old.items facts.new.items (chunks self.new.plan self.new.node self.new.lost self.new.depots.losses self.new.depots.depots.items (S.noted self.new.depots.shelf))) }
         ensures refused { IfErr result (λ fault. IsShelfRefusal fault (S.noted self.old.depots.shelf) (S.noted self.new.depots.shelf)) }
     {
@@ -59,6 +62,7 @@ impl<S: Shelf + Drop> ChunkMachine<S> {
     // A peer gives this for the tenant. Where the shelf has no space for it nothing changes.
     fn given(&mut self, tenant: u8, gift: Filling) -> Result<Given, Fault>
         requires { tenant < length self.old.depots.depots.items }
+        ensures search { self.new.search ≡ self.old.search }
         ensures given { IfOk result (λ given. GivenAs (chunks self.old.plan self.old.node self.old.lost self.old.depots.losses self.old.depots.depots.items (S.noted self.old.depots.shelf)) tenant gift given (chunks self.new.plan self.new.node self.new.lost self.new.depots.losses self.new.depots.depots.items (S.noted self.new.depots.shelf))) }
         ensures refused { IfErr result (λ fault. IsShelfRefusal fault (S.noted self.old.depots.shelf) (S.noted self.new.depots.shelf)) }
     {
@@ -114,6 +118,7 @@ impl<S: Shelf + Drop> ChunkMachine<S> {
         requires tenant { tenant < length self.old.plan.rows }
         requires there { tenant < length self.old.depots.depots.items }
         requires sound { IsPlan self.old.plan }
+        ensures search { self.new.search ≡ self.old.search }
         ensures took { OnOk result (Takes (λ old line facts told new. AnswersPeer true old tenant from request facts told new) (chunks self.old.plan self.old.node self.old.lost self.old.depots.losses self.old.depots.depots.items (S.noted self.old.depots.shelf)) [] facts.old.items facts.new.items told.old.items told.new.items (chunks self.new.plan self.new.node self.new.lost self.new.depots.losses self.new.depots.depots.items (S.noted self.new.depots.shelf))) }
         ensures refused { IfErr result (λ fault. IsShelfRefusal fault (S.noted self.old.depots.shelf) (S.noted self.new.depots.shelf)) }
     {
@@ -136,6 +141,7 @@ impl<S: Shelf + Drop> ChunkMachine<S> {
         requires tenant { tenant < length self.old.plan.rows }
         requires there { tenant < length self.old.depots.depots.items }
         requires sound { IsPlan self.old.plan }
+        ensures search { self.new.search ≡ self.old.search }
         ensures took { OnOk result (Takes (λ old line facts told new. AnswersPeer (may_answer old tenant losses) old tenant from request facts told new) (chunks self.old.plan self.old.node self.old.lost self.old.depots.losses self.old.depots.depots.items (S.noted self.old.depots.shelf)) [] facts.old.items facts.new.items told.old.items told.new.items (chunks self.new.plan self.new.node self.new.lost self.new.depots.losses self.new.depots.depots.items (S.noted self.new.depots.shelf))) }
         ensures refused { IfErr result (λ fault. IsShelfRefusal fault (S.noted self.old.depots.shelf) (S.noted self.new.depots.shelf)) }
     {
@@ -148,6 +154,7 @@ impl<S: Shelf + Drop> ChunkMachine<S> {
     // Whether it is the tenant whose chunks are sought.
     fn seeks_of(&self, tenant: u8) -> bool
         requires { tenant < length self.now.depots.depots.items }
+        ensures { result ≡ seeks_of tenant self.now.depots.depots.items self.now.search }
     {
         tenant as usize == self.search.tenant && self.depots.depots[tenant as usize].lacks
     }
@@ -166,6 +173,7 @@ impl<S: Shelf + Drop> ChunkMachine<S> {
         requires there { tenant < length self.old.depots.depots.items }
         ensures same { (chunks self.new.plan self.new.node self.new.lost self.new.depots.losses self.new.depots.depots.items (S.noted self.new.depots.shelf)) ≡ (chunks self.old.plan self.old.node self.old.lost self.old.depots.losses self.old.depots.depots.items (S.noted self.old.depots.shelf)) }
         ensures asks { OnOk result (AddsAsks (chunks self.old.plan self.old.node self.old.lost self.old.depots.losses self.old.depots.depots.items (S.noted self.old.depots.shelf)) tenant told.old.items told.new.items) }
+        ensures hears { (depot : Depot) → slice_get self.new.depots.depots.items tenant ≡ Some depot → OnOk result (Hears tenant self.new.depots.depots.items self.old.search self.new.search (IsHeard depot session after is_all found.now self.old.search self.new.search)) }
     {
         if !self.seeks_of(tenant) {
             return Ok(());
@@ -190,6 +198,7 @@ impl<S: Shelf + Drop> ChunkMachine<S> {
         requires there { tenant < length self.old.depots.depots.items }
         ensures same { (chunks self.new.plan self.new.node self.new.lost self.new.depots.losses self.new.depots.depots.items (S.noted self.new.depots.shelf)) ≡ (chunks self.old.plan self.old.node self.old.lost self.old.depots.losses self.old.depots.depots.items (S.noted self.old.depots.shelf)) }
         ensures asks { OnOk result (AddsAsks (chunks self.old.plan self.old.node self.old.lost self.old.depots.losses self.old.depots.depots.items (S.noted self.old.depots.shelf)) tenant told.old.items told.new.items) }
+        ensures hears { OnOk result (Hears tenant self.new.depots.depots.items self.old.search self.new.search (IsSettled session number is_spoilt self.old.search self.new.search)) }
     {
         if !self.seeks_of(tenant) {
             return Ok(());
@@ -216,6 +225,7 @@ impl<S: Shelf + Drop> ChunkMachine<S> {
         requires tenant { tenant < length self.old.plan.rows }
         requires there { tenant < length self.old.depots.depots.items }
         requires sound { IsPlan self.old.plan }
+        ensures hears { OnOk result (SearchHears (Found session after floor is_all found.now) tenant self.new.depots.depots.items self.old.search self.new.search) }
         ensures took { OnOk result (Takes (λ old line facts told new. Fed old tenant (Filling.Raise session floor) facts told new) (chunks self.old.plan self.old.node self.old.lost self.old.depots.losses self.old.depots.depots.items (S.noted self.old.depots.shelf)) [] facts.old.items facts.new.items told.old.items told.new.items (chunks self.new.plan self.new.node self.new.lost self.new.depots.losses self.new.depots.depots.items (S.noted self.new.depots.shelf))) }
         ensures refused { IfErr result (λ fault. IsShelfRefusal fault (S.noted self.old.depots.shelf) (S.noted self.new.depots.shelf)) }
     {
@@ -240,6 +250,7 @@ impl<S: Shelf + Drop> ChunkMachine<S> {
         ensures same { (chunks self.new.plan self.new.node self.new.lost self.new.depots.losses self.new.depots.depots.items (S.noted self.new.depots.shelf)) ≡ (chunks self.old.plan self.old.node self.old.lost self.old.depots.losses self.old.depots.depots.items (S.noted self.old.depots.shelf)) }
         ensures kept { OnOk result (facts.new.items ≡ facts.old.items ++ lines_text (fact_lines self.old.plan tenant fact.now)) }
         ensures stands { OnOk result (FactStands self.old.plan tenant fact.now) }
+        ensures hears { OnOk result (Hears tenant self.new.depots.depots.items self.old.search self.new.search (IsSettled session number false self.old.search self.new.search)) }
         ensures asks { OnOk result (AddsAsks (chunks self.old.plan self.old.node self.old.lost self.old.depots.losses self.old.depots.depots.items (S.noted self.old.depots.shelf)) tenant told.old.items told.new.items) }
     {
         self.put_fact(tenant, fact, facts)?;
@@ -259,6 +270,7 @@ impl<S: Shelf + Drop> ChunkMachine<S> {
         requires tenant { tenant < length self.old.plan.rows }
         requires there { tenant < length self.old.depots.depots.items }
         requires sound { IsPlan self.old.plan }
+        ensures hears { OnOk result (SearchHears (Gives session number bytes) tenant self.new.depots.depots.items self.old.search self.new.search) }
         ensures took { OnOk result (Takes (λ old line facts told new. Fed old tenant (Filling.Give session number bytes) facts told new ⊎ Unfed old tenant facts told new) (chunks self.old.plan self.old.node self.old.lost self.old.depots.losses self.old.depots.depots.items (S.noted self.old.depots.shelf)) [] facts.old.items facts.new.items told.old.items told.new.items (chunks self.new.plan self.new.node self.new.lost self.new.depots.losses self.new.depots.depots.items (S.noted self.new.depots.shelf))) }
         ensures refused { IfErr result (λ fault. IsShelfRefusal fault (S.noted self.old.depots.shelf) (S.noted self.new.depots.shelf)) }
     {
@@ -291,6 +303,7 @@ impl<S: Shelf + Drop> ChunkMachine<S> {
     ) -> Result<(), OutOfMemory>
         requires tenant { tenant < length self.old.plan.rows }
         requires there { tenant < length self.old.depots.depots.items }
+        ensures hears { OnOk result (Hears tenant self.new.depots.depots.items self.old.search self.new.search (IsSettled session number is_spoilt self.old.search self.new.search)) }
         ensures took { OnOk result (Takes (λ old line facts told new. Waits old tenant facts told new) (chunks self.old.plan self.old.node self.old.lost self.old.depots.losses self.old.depots.depots.items (S.noted self.old.depots.shelf)) [] facts.old.items facts.new.items told.old.items told.new.items (chunks self.new.plan self.new.node self.new.lost self.new.depots.losses self.new.depots.depots.items (S.noted self.new.depots.shelf))) }
     {
         let _facts = facts.len();
@@ -309,6 +322,7 @@ impl<S: Shelf + Drop> ChunkMachine<S> {
         requires tenant { tenant < length self.old.plan.rows }
         requires there { tenant < length self.old.depots.depots.items }
         requires sound { IsPlan self.old.plan }
+        ensures hears { OnOk result (SearchHears (saying_of line) tenant self.new.depots.depots.items self.old.search self.new.search) }
         ensures took { OnOk result (Takes (λ old came facts told new. SaidBy (saying_of line) old tenant from facts told new) (chunks self.old.plan self.old.node self.old.lost self.old.depots.losses self.old.depots.depots.items (S.noted self.old.depots.shelf)) [] facts.old.items facts.new.items told.old.items told.new.items (chunks self.new.plan self.new.node self.new.lost self.new.depots.losses self.new.depots.depots.items (S.noted self.new.depots.shelf))) }
         ensures refused { IfErr result (λ fault. IsShelfRefusal fault (S.noted self.old.depots.shelf) (S.noted self.new.depots.shelf)) }
     {
@@ -384,6 +398,7 @@ impl<S: Shelf + Drop> ChunkMachine<S> {
     fn tenant_at(&self, place: usize) -> Option<u8>
         ensures tenant { IfSome result (λ tenant. tenant < length self.now.plan.rows) }
         ensures there { IfSome result (λ tenant. tenant < length self.now.depots.depots.items) }
+        ensures place { IfSome result (λ tenant. tenant ≡ place) }
     {
         if place < self.depots.depots.len() && place < self.plan.tenants() {
             Some(place as u8)
@@ -410,6 +425,7 @@ impl<S: Shelf + Drop> ChunkMachine<S> {
     /// At a tick it asks once more for what did not come, or is filled. Where nothing is asked so, it asks for chunks that are damaged.
     pub(crate) fn tick(&mut self, facts: &mut Vec<u8>, told: &mut Vec<u8>) -> Result<(), Fault>
         requires { IsPlan self.old.plan }
+        ensures filled { OnOk result (OnlyGivenAreFilled self.old.depots.depots.items self.new.depots.depots.items self.new.search) }
         ensures took { OnOk result (Takes (λ old line facts told new. Ticks old facts told new) (chunks self.old.plan self.old.node self.old.lost self.old.depots.losses self.old.depots.depots.items (S.noted self.old.depots.shelf)) [] facts.old.items facts.new.items told.old.items told.new.items (chunks self.new.plan self.new.node self.new.lost self.new.depots.losses self.new.depots.depots.items (S.noted self.new.depots.shelf))) }
         ensures refused { IfErr result (λ fault. IsShelfRefusal fault (S.noted self.old.depots.shelf) (S.noted self.new.depots.shelf)) }
     {

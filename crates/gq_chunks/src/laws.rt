@@ -1,6 +1,7 @@
 //! What is read of lines that are written, and what lines of several tenants make.
 
 ghost use Rattle.gq_chunks.specs.Alone.{TenantsApart};
+ghost use Rattle.gq_chunks.specs.Columns.{SaysAsColumn};
 ghost use Rattle.gq_chunks.specs.Laws.{ContentsAreShort, ContentsReadBack, FactsReadBack, FactsStandInBatches, RequestsReadBack, SayingsReadBack};
 
 /// The line of a fact is read as that fact, of its tenant.
@@ -36,4 +37,10 @@ pub fn contents_read_back()
 /// A content that is told takes at most two bytes for each of its own, and one more. So no line is longer than what carriers take.
 pub fn contents_are_short()
     ensures { ContentsAreShort }
+{}
+
+/// What a node's lines say of contents is what the law of a column takes its acts to be: who says that there is none has none, `kept` is told of what is kept alone, only who lacks nothing
+/// answers, and only who stands in the same column is heard. A new node lacks what it was not given.
+pub fn says_as_column()
+    ensures { SaysAsColumn }
 {}

@@ -1,5 +1,8 @@
 //! Chunks in lines: what a tenant asks about them and is told, what nodes of a column say to each other so that a new one gets them, what a node must not forget of them, and
 //! the machine that takes such lines.
+//!
+//! `got` tells the place that was asked for, and not the one where the part begins. So an answer fits its request, also where
+//! the place is after the end: lines of chunks have no number that tells them apart.
 #![tactic(auto)]
 
 mod answering;

@@ -170,6 +170,7 @@ impl<S: Shelf + Drop> ChunkMachine<S> {
     /// What comes of the tenant's request.
     pub(crate) fn answer(&mut self, tenant: u8, request: ChunkRequest) -> Result<Answered, Fault>
         requires { tenant < length self.old.depots.depots.items }
+        ensures search { self.new.search ≡ self.old.search }
         ensures answered { IfOk result (λ answered. Answers (chunks self.old.plan self.old.node self.old.lost self.old.depots.losses self.old.depots.depots.items (S.noted self.old.depots.shelf)) tenant request answered (chunks self.new.plan self.new.node self.new.lost self.new.depots.losses self.new.depots.depots.items (S.noted self.new.depots.shelf))) }
         ensures refused { IfErr result (λ fault. IsShelfRefusal fault (S.noted self.old.depots.shelf) (S.noted self.new.depots.shelf)) }
     {

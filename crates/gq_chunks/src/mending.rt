@@ -1,4 +1,7 @@
 //! Chunks that are damaged at a node: its peers are asked for them.
+//!
+//! Without space nothing is mended, and it is asked for again. A content that is found again after it was asked for in vain
+//! counts once more.
 
 ghost use Rattle.std.specs.Prelude.{IfOk, IfSome};
 ghost use Rattle.gq_depot.specs.Seeking.{sought_of, AreAsks};

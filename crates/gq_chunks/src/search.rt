@@ -174,6 +174,7 @@ impl Search {
 
     // Asks for as much more as may be asked for, unless all of so many sessions came.
     fn ask_more(&mut self, alloc: Global, sessions: usize) -> Result<Vec<Ask>, OutOfMemory>
+        ensures tenant { self.new.tenant ≡ self.old.tenant }
         ensures sought { sought_of self.new.seeking ≡ sought_of self.old.seeking }
         ensures spoilt { self.new.is_spoilt ≡ self.old.is_spoilt }
         ensures asks { IfOk result (λ asks. AreAsks (sought_of self.new.seeking) asks.items) }
@@ -194,6 +195,7 @@ impl Search {
         is_all: bool,
         chunks: &[ListedChunk],
     ) -> Result<Vec<Ask>, OutOfMemory>
+        ensures tenant { self.new.tenant ≡ self.old.tenant }
         ensures heard { OnOk result (sought_of self.new.seeking ≡ heard (sought_of self.old.seeking) depot.now session after is_all chunks.now) }
         ensures spoilt { self.new.is_spoilt ≡ self.old.is_spoilt }
         ensures asks { IfOk result (λ asks. AreAsks (sought_of self.new.seeking) asks.items) }
@@ -210,6 +212,7 @@ impl Search {
 
     // The content of the number came, or won't come; whether one was left.
     fn settle_one(&mut self, number: u64) -> bool
+        ensures tenant { self.new.tenant ≡ self.old.tenant }
         ensures sought { sought_of self.new.seeking ≡ settled (sought_of self.old.seeking) number }
         ensures spoilt { self.new.is_spoilt ≡ self.old.is_spoilt }
     {
@@ -227,6 +230,7 @@ impl Search {
         number: u64,
         is_spoilt: bool,
     ) -> Result<Vec<Ask>, OutOfMemory>
+        ensures tenant { self.new.tenant ≡ self.old.tenant }
         ensures settled { OnOk result (sought_of self.new.seeking ≡ (if (sought_of self.old.seeking).session == session then settled (sought_of self.old.seeking) number else sought_of self.old.seeking)) }
         ensures spoilt { OnOk result (self.new.is_spoilt ≡ (self.old.is_spoilt || (is_spoilt && ((sought_of self.old.seeking).session == session)))) }
         ensures asks { IfOk result (λ asks. AreAsks (sought_of self.new.seeking) asks.items) }

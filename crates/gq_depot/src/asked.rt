@@ -1,4 +1,12 @@
 //! What comes of each request.
+//!
+//! A tenant without room for chunks is answered too: what he is told is true, and a case of its own would have to be said in
+//! each definition. Each chunk is charged 512 bytes beside its own, as it takes a node's memory and a line of the journal,
+//! which a start holds too. A start refuses nothing for lack of room.
+//!
+//! Of what is forgotten while chunks are lacked each number is noted, and not only those that are absent: a chunk that is there
+//! may be given once more, by a line that comes late. A forget is refused where too much is noted, since each run that is noted
+//! takes memory until the node is filled.
 
 ghost use Rattle.std.specs.Prelude.{◌≡◌, ◌≢◌, ◌+◌, ◌<◌, ◌≤◌, ℕ, List, Some, None, not, length, IfOk, IfErr, OnOk, IsSome, option_map, slice_get};
 ghost use Rattle.gq_shelf.specs.Notes.{IsClean, GoesOn};

@@ -1,4 +1,8 @@
 //! Segments of the shelf of which little is named: chunks that are to be moved out of them are looked for, a part at a time.
+//!
+//! Chunks are moved before ticks and contents, and not after. A shelf that refuses a move ends the node, and a clause says that
+//! the shelf noted it; after a step that clause would need one more of each step. As many bytes are moved as are kept. A
+//! segment is chosen where less than half is named, so what is moved is less than what goes.
 
 use crate::cursor::{Cursor, Seen};
 use crate::{Depots, Spot};

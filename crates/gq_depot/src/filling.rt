@@ -1,4 +1,6 @@
 //! A server that lacks chunks is given them by a peer.
+//!
+//! What a peer gives is no request: it tells nobody anything, and may change what is there.
 
 ghost use Rattle.std.specs.Prelude.{◌≡◌, ◌≤◌, ◌<◌, ◌+◌, ℕ, true, List, Some, None, length, IfOk, IfErr};
 ghost use Rattle.gq_shelf.specs.Notes.{Noted, IsClean, GoesOn};

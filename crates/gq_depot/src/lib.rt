@@ -1,4 +1,8 @@
-//! A tenant's chunks at a server: what comes of each request, and what a start makes of what was kept of it.
+//! All tenants' chunks at a server: what comes of each request, and what a start makes of what was kept of it.
+//!
+//! At most 4 MiB of a tenant's contents are in memory, whatever room the plan gives. A start may read more: it refuses none of
+//! it, and nothing new comes to memory until there is room. Older contents are not moved to the shelf to make room: each
+//! would be a fact more, in a step that has one.
 #![tactic(auto)]
 
 mod answer;

@@ -1,4 +1,8 @@
 //! All contents on the shelf are read within a set time, to see whether they can be.
+//!
+//! A content that nobody reads is lost once its other copies are, and nobody would know before. It is read by ticks and not by
+//! a clock, since a machine has no clock. One that the disk can't read is damaged, as one with other bytes is: it ends no
+//! node.
 
 ghost use Rattle.std.specs.Prelude.{◌≡◌, ◌<◌, length, IfOk, IfErr};
 ghost use Rattle.gq_shelf.specs.Notes.{GoesOn};

@@ -1,4 +1,9 @@
 //! Segments of the shelf in which no chunk lies are looked for, a part at a time, and removed.
+//!
+//! Nothing rests on that look: before a segment goes all chunks are looked at once more, while all facts are synced. A chunk
+//! that comes later lies after all that is on the shelf, and nothing names what was removed. A crash amid it leaves segments
+//! that the next look finds. A count for each segment would make the last look short, and would have to be proved through each
+//! step.
 
 ghost use Rattle.std.specs.Prelude.{◌≡◌, ◌+◌, ◌≤◌, IfOk, IfSome};
 ghost use Rattle.gq_shelf.specs.Extents.{place_of};

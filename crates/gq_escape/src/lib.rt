@@ -1,4 +1,7 @@
 //! Bytes as one word of a line: three of them are escaped, each other is written as itself.
+//!
+//! So torn lines, batches and carriers need not know of contents. A length before raw bytes would save the escapes, and all of
+//! these would have to know of lengths. Base64 would be a third longer.
 #![tactic(auto)]
 
 ghost use Rattle.std.specs.Prelude.{◌≡◌, ◌<◌, ◌≤◌, ◌==◌, ◌⊎◌, not, slice_index, ◌∷◌, ◌++◌, ℕ, List, [], length, true, Some, None, MatchOption, IfSome, IfOk, OnOk, OnErr};

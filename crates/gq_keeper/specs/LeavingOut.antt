@@ -1,4 +1,7 @@
 -- A start that leaves out lines of facts.
+--
+-- Who left is known by a fact's second word, where each fact names its tenant. So a start leaves lines out before it asks
+-- what they say, and needs no plan in which he still is.
 use Rattle.std.specs.Prelude.{◌≡◌, ℕ, List, Bool, false, ◌||◌, not, filter, MatchBool}
 use Rattle.gq_journal.specs.Batches.{Line}
 use Rattle.gq_keeper.specs.Starting.{facts_read}

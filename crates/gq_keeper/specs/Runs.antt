@@ -1,4 +1,7 @@
 -- Steps of a machine one after another.
+--
+-- A step may end with any fault: what its facts name on a shelf is put and synced within it. Where that fails the machine is
+-- given up, and nothing of the step is kept or shown.
 use Rattle.std.specs.Prelude.{◌≡◌, ◌<◌, List, [], ◌∷◌, ◌++◌, ℕ, length, take, map, true}
 use Rattle.std.specs.List.{flat_map}
 use Rattle.gq_journal.specs.Batches.{Line, lines_text, are_batch_lines}

@@ -1,4 +1,8 @@
 //! Which lines of facts a start leaves out.
+//!
+//! A journal is written anew as somebody leaves, so that he is out of it at a moment that can be told and shown. It costs
+//! what a start with `--anew` costs, once for each who leaves. If his facts were read and dropped at each start, each start
+//! had to know all plans between.
 
 ghost use Rattle.std.specs.Prelude.{◌≡◌, ℕ, List, Bool, OnOk, IfErr};
 ghost use Rattle.gq_keeper.specs.LeavingOut.{RecallsBut, readable_but};

@@ -1,4 +1,13 @@
 //! The loop: lines are taken, their facts are synced, and then what rests on them is shown.
+//!
+//! The lines of one read are not all taken at once: a read can bring thousands that ask for a content of 1 MiB each. No
+//! further line is taken once what is held is as long as the longest line, and at least 1 MiB. Lines that tell little are
+//! synced once for a whole read. One read completes at most four lines of more than 16 KiB; of short contents that no longer
+//! come to memory it may complete some thousands. Whether the journal is long is looked at when lines are read, for the first
+//! time at the first read of a life. It is long where it has more than four times the bytes of the blocks in use, which is one
+//! subtraction; what a start needs exactly could be told only by making its text. So a journal written anew is at most some
+//! two thirds as long as the one before, but for files without contents. These are why it has to have grown fourfold within
+//! one life too.
 
 ghost use Rattle.std.specs.Prelude.{◌≡◌, ◌⊎◌, ◌+◌, ◌++◌, ◌<◌, ◌≤◌, ℕ, List, [], true, false, length, min, replicate, IfOk, IfSome, OnOk};
 ghost use Rattle.std.specs.Io.{ReadsAtMost};

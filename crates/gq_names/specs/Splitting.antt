@@ -12,6 +12,9 @@
 -- it has the signpost he may take for that, if it was never written. And once it was written, the session may take the lines out of the page before: it *clears* it.
 --
 -- Writes may be late, and clients die, as in `specs/Names`, whose pages, journals, clients and readers are used here.
+--
+-- There are any number of levels, and not two: two do not simply compose, since the new page of one split has a signpost of its own at the next. But of each session
+-- only the files of the last level that it went on to still change what counts, so one proof serves each level.
 use Rattle.std.specs.Prelude.{ℕ, zero, suc, ◌+◌, List, [], ◌∷◌, ◌++◌, Bool, true, false, ◌==◌, ◌&&◌, ◌||◌, not, nat_lt, Option, Some, None, slice_get, map, fold, if◌then◌else◌, ◌≡◌}
 use Rattle.std.specs.List.{range_with_len}
 use Rattle.gq_tag.specs.Tag.{first_copy}

@@ -1,4 +1,9 @@
 -- In which column a session stores behind a letter: a read or a listing where one stands who gave it the copy.
+--
+-- What a read or a listing stores came from others, one of which has it. A `confirm` to each server of a column where one
+-- gave the copy does the same without the content. In the session's own column those who lack it would say `want`, a trip
+-- more. But that other column may have a node that is down. So a session that waited stores in its own column for 256
+-- rounds, which it knows from its own letters alone.
 use Rattle.std.specs.Prelude.{◌≡◌, ℕ, ◌*◌, ◌%◌, ◌-◌, ◌<◌, List, Bool, true, false, ◌&&◌, ◌==◌, Option, Some, None, find, unwrap_or, if◌then◌else◌}
 use Rattle.std.specs.List.{list_any}
 use Rattle.gq_grid.specs.Grid.{Grid, Servers, below, server_at}

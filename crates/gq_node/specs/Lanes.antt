@@ -1,4 +1,9 @@
 -- Lanes: files of one lane are asked for one after another, and those of several lanes side by side.
+--
+-- The volume alone tells a file's lane, so nothing is kept of what is under way: who takes a file asks for the next one of
+-- its lane, and each tick asks again. A line that gave many files would be one input with many facts, and each law of a step
+-- says that there is one at most. A tick asks for all that is under way once more, which a slow network has to carry too. So
+-- files of more than 16 blocks have fewer lanes.
 use Rattle.std.specs.Prelude.{ℕ, ◌/◌, ◌%◌, max, min, List, Bool, ◌&&◌, ◌==◌, Option, Some, None, slice_get}
 use Rattle.gq_tag.specs.Tag.{File}
 use Rattle.gq_desk.specs.declared.volumes.VolumeRow.{VolumeRow}

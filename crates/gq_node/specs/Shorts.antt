@@ -1,6 +1,9 @@
 -- Letters in short forms, with a tag in place of a copy: what a short letter stands for, and what a tenant's part does by one.
 --
 -- A short letter does not say the content of its copy. So a step is said for each content: nothing that is told, sent or kept depends on it.
+--
+-- An ask with a tag may go to a node that can't read it: what was heard of forms is in no table, and nothing that is written
+-- for a tenant may hang on it. So each first ask of a round has a tag, and what a tick sends again goes whole.
 use Rattle.std.specs.Prelude.{ℕ, ◌/◌, ◌%◌, List, [], ◌∷◌, Bool, true, false, ◌==◌, ◌&&◌, ◌||◌, not, Option, Some, None, is_some, option_map, if◌then◌else◌}
 use Rattle.gq_grid.specs.Grid.{Grid, Servers, column_servers}
 use Rattle.gq_tag.specs.declared.Tag.{Tag}

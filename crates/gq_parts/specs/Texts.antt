@@ -1,4 +1,9 @@
 -- What a node writes for a tenant, and what it must not forget, by what comes to the tenant's part.
+--
+-- A node is asked to tell its form of lines, and again and again. So it keeps nothing of what others told, and no table and
+-- no law of tenants knows of forms. Lines are lost and nodes are started again: whoever that was hears it within a minute.
+-- Carriers forget what was not told for three minutes, so a node that got an earlier program again is not taken for a later
+-- one.
 use Rattle.std.specs.Prelude.{ℕ, List, [], ◌∷◌, ◌++◌, length, map, Bool, false, ◌*◌, ◌==◌, nat_lt, Option, Some, None, option_map, if◌then◌else◌}
 use Rattle.std.specs.List.{flat_map, range_with_len, list_any}
 use Rattle.std.specs.Option.{option_to_list}

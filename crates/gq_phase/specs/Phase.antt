@@ -1,5 +1,9 @@
 -- One session's operation: its rounds, what it has heard, when a round ends, and what is then said and sent.
 -- (The two phases of Attiya, Bar-Noy and Dolev, with several writers.)
+--
+-- A read collects in round 1, and stores the copy of the greatest tag in round 2. Where those that told this copy hold a full
+-- column already, round 2 is left out: a fast read. On a grid of one row each read is fast. On others one is only where other
+-- servers were heard before a full row was, as after a retry. Where there is a single column none is.
 use Rattle.std.specs.Prelude.{ℕ, ◌+◌, ◌-◌, ◌*◌, ◌/◌, ◌%◌, List, [], ◌∷◌, ◌++◌, Bool, true, false, ◌&&◌, ◌==◌, not, nat_lt, Option, Some, None, filter, filter_map, map, max, length, unwrap_or, if◌then◌else◌}
 use Rattle.std.specs.List.{list_any, last_or}
 use Rattle.std.specs.Str.{bytes_eq}

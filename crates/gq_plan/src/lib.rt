@@ -1,4 +1,7 @@
 //! What a plan says, told in lines of words NAME=VALUE, and whether one plan may follow another.
+//!
+//! Beside an earlier plan it tells what is free again, since a later plan alone does not tell whose place a row took. An
+//! operator sees who is about to be erased before a node is touched.
 #![tactic(auto)]
 
 mod asked;

@@ -30,7 +30,7 @@ use Rattle.gq_pair.specs.Parting.{firsts, before_by, split}
 use Rattle.gq_parts.specs.Recalls.{facts_said}
 use Rattle.gq_service.specs.Both.{Both, BothStep}
 use Rattle.gq_service.specs.Serving.{IsNewFor, first_of_journal, volumes_in}
-use Rattle.gq_service.specs.Writing.{started_part, Parted, StepParts, AreRegisterSteps, AllServedByParts, RegistersServedByParts}
+use Rattle.gq_service.specs.Writing.{started_part, Parted, StepParts, AreRegisterSteps, AllServedByParts, RegistersServedByParts, AllRegistersRun}
 use Rattle.gq_service.specs.Verbs.{register_said}
 
 -- a run of the machine is one of its tables
@@ -118,3 +118,22 @@ registers_by_parts {C} has starts run setup number journal lines base synced sho
     let goes : GoesByParts setup.plan here (started_part setup number journal) own.own (tables_of s.last.first) =
     run setup.plan here first (tables_of s.last.first) (started_part setup number journal) own.own node agree (on_tables s.first.first s.last.first own.own own.runs) in
     record { dids = s.durable.dids; took = s.durable.took; told = s.durable.told; own = own.own; parts = own.parts; tells = goes.told }
+
+pub registers_run : {C : Type 0} (has : C → Chunks) → AllRegistersRun has
+registers_run {C} has setup number journal lines base synced shown s =
+    let facts : List (List ℕ) = firsts tells_chunk (facts_taken setup journal) in
+    let apart : RecallsAll MachineRecalls s.started.new.first facts s.first.first = (split (λ (p : Both C). p.first) (λ (p : Both C). p.second) MachineRecalls (λ (m : C) (line : List ℕ) (n : C). ChunkRecalls (has m) line (has n)) tells_chunk (facts_taken setup journal) s.started.new s.first s.started.reads).0 in
+    let own : Apart s.first.first s.last.first s.durable.dids = run_apart has s.first s.last s.durable.dids s.durable.runs in
+    record {
+      dids = s.durable.dids;
+      took = s.durable.took;
+      told = s.durable.told;
+      own = own.own;
+      parts = own.parts;
+      blank = tables_of s.started.new.first;
+      first = tables_of s.first.first;
+      last = tables_of s.last.first;
+      is_new = s.started.is_new.0;
+      reads = reads facts s.started.new.first s.first.first apart;
+      runs = on_tables s.first.first s.last.first own.own own.runs;
+    }

@@ -1,7 +1,11 @@
 -- What of a node is left where tenants went, tenant by tenant.
-use Rattle.std.specs.Prelude.{◌≡◌, ℕ, List, [], true, false, not, Ok}
-use Rattle.std.specs.List.{list_all}
-use Rattle.gq_journal.specs.Batches.{batches_of, lines_text}
+use Rattle.std.specs.Prelude.{◌≡◌, ℕ, List, [], ◌∷◌, true, false, not, ◌==◌, Ok, Option, Some, None, if◌then◌else◌}
+use Rattle.std.specs.List.{flat_map, list_all}
+use Rattle.gq_chunks.specs.Facts.{chunk_fact_of_line}
+use Rattle.gq_chunks.specs.Machines.{room_read, room_before}
+use Rattle.gq_depot.specs.declared.fact.ChunkFact.{ChunkFact}
+use Rattle.gq_desk.specs.CheckedPlan.{CheckedPlan}
+use Rattle.gq_journal.specs.Batches.{Line, batches_of, lines_text}
 use Rattle.gq_keeper.specs.Plans.{begins_with_plan, first_plan}
 use Rattle.gq_keeper.specs.Starting.{facts_read}
 use Rattle.gq_node.specs.Local.{Local}
@@ -12,7 +16,8 @@ use Rattle.gq_setup.specs.Laws.{here_of}
 use Rattle.gq_setup.specs.Setups.{Setup, CanGo, CanOpen, accounts_of, is_gone_at}
 use Rattle.gq_setup.specs.Texts.{first_of_setup, setup_of_node_text}
 use Rattle.gq_service.specs.Gone.{facts_taken, is_of_gone, somebody_went}
-use Rattle.gq_service.specs.Serving.{first_of_journal, volumes_in}
+use Rattle.gq_service.specs.Both.{setup_read}
+use Rattle.gq_service.specs.Serving.{begun_with, first_of_journal, volumes_in}
 use Rattle.gq_service.specs.Writing.{started_part}
 
 -- the journal begins with the text of this plan
@@ -40,3 +45,27 @@ NoneOfTheGone = (setup : Setup) (journal : List ℕ) → somebody_went setup jou
 abbrev pub NothingIsLacked : Type 0
 NothingIsLacked = (setup : Setup) (journal : List ℕ) (first : Setup) (t : ℕ) → somebody_went setup journal ≡ true → BeginsWith journal first → is_gone_at setup.gone first.plan t ≡ true →
     (first_of_journal setup journal t).volumes ≡ 0
+
+-- ---- chunks
+
+abbrev pub own_fact : (t : ℕ) → Option (ℕ × ChunkFact) → List ChunkFact
+own_fact t None = []
+own_fact t (Some (u, fact)) = if u == t then fact ∷ [] else []
+
+-- the facts of chunks that these lines say of the tenant at place t
+abbrev pub chunk_facts_of : CheckedPlan → (t : ℕ) → List Line → List ChunkFact
+chunk_facts_of plan t lines = flat_map (λ line. own_fact t (chunk_fact_of_line plan line)) lines
+
+-- all facts of his chunks are taken, and of what he lacks at first the start makes as much as if nobody had gone
+pub record HisChunksStay (setup : Setup) (journal : List ℕ) (first : Setup) (t : ℕ) : Type 0 where
+  pub facts : chunk_facts_of setup.plan t (facts_taken setup journal) ≡ chunk_facts_of setup.plan t (facts_read journal)
+  pub room : room_before (setup_read (begun_with setup journal)) t ≡ room_read (Ok first) t
+
+abbrev pub AllChunksStay : Type 0
+AllChunksStay = (setup : Setup) (journal : List ℕ) (first : Setup) (t : ℕ) → CanGo setup.plan [] setup.gone → BeginsWith journal first →
+    is_gone_at setup.gone first.plan t ≡ false → HisChunksStay setup journal first t
+
+-- nor does the place of one who went lack chunks of his, whoever has it now: he had no room in that plan
+abbrev pub NoRoomIsLacked : Type 0
+NoRoomIsLacked = (setup : Setup) (journal : List ℕ) (first : Setup) (t : ℕ) → somebody_went setup journal ≡ true → BeginsWith journal first → is_gone_at setup.gone first.plan t ≡ true →
+    room_before (setup_read (begun_with setup journal)) t ≡ 0

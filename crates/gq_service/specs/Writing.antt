@@ -2,21 +2,25 @@
 -- tenant.
 use Rattle.std.specs.Prelude.{◌≡◌, ℕ, List, [], ◌∷◌, ◌++◌}
 use Rattle.gq_journal.specs.Batches.{Line}
-use Rattle.gq_keeper.specs.Runs.{Did, lines_of, told_of}
+use Rattle.gq_keeper.specs.Runs.{Did, Runs, lines_of, told_of}
+use Rattle.gq_keeper.specs.Starting.{RecallsAll}
 use Rattle.gq_service.specs.Gone.{facts_taken}
 use Rattle.gq_node.specs.Local.{Local}
 use Rattle.gq_node.specs.Resting.{recall_all, those_of, begun_local}
 use Rattle.gq_node.specs.Sites.{Site, site_of}
+use Rattle.gq_node.specs.Tables.{Tables}
 use Rattle.gq_parts.specs.Laws.{TellsEach}
-use Rattle.gq_parts.specs.Recalls.{facts_said}
+use Rattle.gq_parts.specs.Recalls.{RecallsTo, facts_said}
+use Rattle.gq_parts.specs.Steps.{StepsTo}
 use Rattle.gq_setup.specs.Setups.{Setup}
 use Rattle.gq_setup.specs.Laws.{here_of}
 use Rattle.gq_chunks.specs.Machines.{Chunks, ChunkSteps}
-use Rattle.gq_chunks.specs.Takers.{line_taker}
+use Rattle.gq_chunks.specs.Takers.{line_taker, tells_chunk}
+use Rattle.gq_pair.specs.Parting.{firsts}
 use Rattle.gq_pair.specs.declared.pair.Taker.{Taker}
 use Rattle.gq_pair.specs.declared.pair.Taker.TheVariants.{First, Second, Both as OfBoth}
 use Rattle.gq_service.specs.Both.{both}
-use Rattle.gq_service.specs.Serving.{Serves, registers, volumes_in, first_of_journal}
+use Rattle.gq_service.specs.Serving.{IsNewFor, Serves, registers, volumes_in, first_of_journal}
 
 -- the part of the tenant at place t of the node that started from the journal: what this tenant's facts alone make of it
 abbrev pub started_part : Setup → (number : ℕ) → (journal : List ℕ) → ℕ → Local
@@ -72,3 +76,21 @@ pub record TellsRegistersByParts (setup : Setup) (number : ℕ) (journal : List 
 abbrev pub RegistersServedByParts : {C : Type 0} → (has : C → Chunks) → Type 0
 RegistersServedByParts has = (setup : Setup) (number : ℕ) (journal : List ℕ) (lines : List Line) (base synced shown : List ℕ) →
     Serves (both has) setup number journal lines base synced shown → TellsRegistersByParts setup number journal lines base shown
+
+-- So they start and step as nodes of the law of all nodes do (`gq_parts::laws::all_nodes`): a node that was never started read the facts of registers in the journal, and then took these steps.
+pub record RegistersRun (setup : Setup) (number : ℕ) (journal : List ℕ) (lines : List Line) (base shown : List ℕ) : Type 0 where
+  pub dids : List Did
+  pub took : lines_of dids ≡ lines
+  pub told : shown ≡ base ++ told_of dids
+  pub own : List Did
+  pub parts : AreRegisterSteps dids own
+  pub blank : Tables
+  pub first : Tables
+  pub last : Tables
+  pub is_new : IsNewFor setup number (first_of_journal setup journal) blank
+  pub reads : RecallsAll RecallsTo blank (firsts tells_chunk (facts_taken setup journal)) first
+  pub runs : Runs StepsTo first own last
+
+abbrev pub AllRegistersRun : {C : Type 0} → (has : C → Chunks) → Type 0
+AllRegistersRun has = (setup : Setup) (number : ℕ) (journal : List ℕ) (lines : List Line) (base synced shown : List ℕ) →
+    Serves (both has) setup number journal lines base synced shown → RegistersRun setup number journal lines base shown

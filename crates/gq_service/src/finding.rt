@@ -1,4 +1,9 @@
 //! The plan's file, and the journal's.
+//!
+//! A journal is written anew at a start only where the word `--anew` says so: it is as long as all contents, and is synced
+//! before the node answers. It is a word of the start and no line, so no tenant and no carrier can have it done. Damage comes
+//! before what a journal says, since what a damaged journal says of itself can't be believed. Where two journals of one grid
+//! were mixed up, the node is named; where they are of two grids, what their plans differ in.
 
 use crate::fault::NodeFault;
 use crate::place::place_of;

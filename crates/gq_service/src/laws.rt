@@ -1,8 +1,8 @@
 //! What a node's process writes.
 
 ghost use Rattle.gq_service.specs.Both.{chunks_of};
-ghost use Rattle.gq_service.specs.Leaving.{NoneOfTheGone, NothingIsLacked, WhoStaysIsWhole};
-ghost use Rattle.gq_service.specs.Writing.{AllServedByParts, RegistersServedByParts};
+ghost use Rattle.gq_service.specs.Leaving.{AllChunksStay, NoneOfTheGone, NoRoomIsLacked, NothingIsLacked, WhoStaysIsWhole};
+ghost use Rattle.gq_service.specs.Writing.{AllRegistersRun, AllServedByParts, RegistersServedByParts};
 
 use gq_parts::laws::{starts_apart, tenants_apart};
 use gq_setup::laws::{gone_stay, what_is_left};
@@ -27,12 +27,19 @@ pub fn registers_by_parts<S: Shelf>()
     tenants_apart();
 }
 
+/// And they start and step as nodes of the law of all nodes do (`gq_parts::laws::all_nodes`), by the facts of registers in the journal and by these steps.
+pub fn registers_run<S: Shelf>()
+    ensures { AllRegistersRun (chunks_of S.noted) }
+{}
+
 /// Where tenants went since the journal's last plan, each other tenant starts with what all its facts make of it, as if nobody had gone: so by
 /// [`served_by_parts`] what is written for it is the same. Of who went no fact is taken, and who has such a place now lacks none of its files.
 pub fn who_stays()
     ensures whole { WhoStaysIsWhole }
     ensures none { NoneOfTheGone }
     ensures nothing { NothingIsLacked }
+    ensures chunks { AllChunksStay }
+    ensures no_room { NoRoomIsLacked }
 {
     gone_stay();
     what_is_left();

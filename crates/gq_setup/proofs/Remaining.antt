@@ -105,14 +105,6 @@ none_yet [] t = refl
 none_yet (row ∷ rows) zero = refl
 none_yet (row ∷ rows) (suc t) = none_yet rows t
 
-pub what_is_left : WhatIsLeft
-what_is_left setup gone t can = record {
-  stays = λ stays. sym ((after_alike (λ u. not (is_gone_at gone setup.plan u)) (accounts_of setup.plan) (accounts_of setup.plan) setup.openings (record { count = refl; same = λ u there. refl }) can).same t (ap not stays));
-  goes = λ is.
-      ap (λ (a : Account). a.volumes) (untouched (λ u. not (is_gone_at gone setup.plan u)) t (accounts_of setup.plan) setup.openings (ap not is) ∙ unwrap_or-slice_get (accounts_of setup.plan) t no_account)
-      ∙ none_yet setup.plan.rows t;
-}
-
 -- of volumes that can be opened one behind another the first so many are open
 pub record OpensRest (start : List Account) (openings : List Opening) (done : ℕ) (desk : List Account) : Type 0 where
   pub can : CanOpen desk (drop done openings)
@@ -162,6 +154,19 @@ kib_left stays (room ∷ rooms) t there = by (stays room.tenant) refl (room.tena
     by false gone true is rest = absurd (differ stays room.tenant t gone there (eqb-true room.tenant t is))
     by false gone false is rest = rest
 
+-- and who went has none
+kib_gone : (stays : ℕ → Bool) (rooms : List ChunkRoom) (t : ℕ) → stays t ≡ false → kib_of (of_those stays rooms) t ≡ 0
+kib_gone stays [] t went = refl
+kib_gone stays (room ∷ rooms) t went = by (stays room.tenant) refl (room.tenant == t) refl (kib_gone stays rooms t went)
+  where
+    more : List ChunkRoom
+    more = of_those stays rooms
+
+    by : (k : Bool) → stays room.tenant ≡ k → (its : Bool) → (room.tenant == t) ≡ its → kib_of more t ≡ 0 → kib_of (cond k (room ∷ more) more) t ≡ 0
+    by true keeps true is rest = absurd (differ stays t room.tenant went keeps (sym (eqb-true room.tenant t is)))
+    by true keeps false is rest = ap (λ b. cond b room.kib (kib_of more t)) is ∙ rest
+    by false left its is rest = rest
+
 one_kept : (stays : ℕ → Bool) (before : List ChunkRoom) (room : ChunkRoom) → of_those stays (before ++ room ∷ []) ≡ of_those stays before ++ of_those stays (room ∷ [])
 one_kept stays [] room = refl
 one_kept stays (x ∷ before) room = by (stays x.tenant) (one_kept stays before room)
@@ -187,3 +192,15 @@ had_of_those stays plan before (room ∷ rooms) can = by (stays room.tenant) ref
 
 pub had_left : (gone : List Word) (plan : CheckedPlan) (rooms : List ChunkRoom) → CanHave plan [] rooms → CanHave plan [] (filter (λ (room : ChunkRoom). not (is_gone_at gone plan room.tenant)) rooms)
 had_left gone plan rooms can = had_of_those (λ t. not (is_gone_at gone plan t)) plan [] rooms can
+
+-- ---- the law
+
+pub what_is_left : WhatIsLeft
+what_is_left setup gone t can = record {
+  stays = λ stays. sym ((after_alike (λ u. not (is_gone_at gone setup.plan u)) (accounts_of setup.plan) (accounts_of setup.plan) setup.openings (record { count = refl; same = λ u there. refl }) can).same t (ap not stays));
+  goes = λ is.
+      ap (λ (a : Account). a.volumes) (untouched (λ u. not (is_gone_at gone setup.plan u)) t (accounts_of setup.plan) setup.openings (ap not is) ∙ unwrap_or-slice_get (accounts_of setup.plan) t no_account)
+      ∙ none_yet setup.plan.rows t;
+  room_stays = λ stays. kib_left (λ u. not (is_gone_at gone setup.plan u)) setup.rooms t (ap not stays);
+  room_goes = λ is. kib_gone (λ u. not (is_gone_at gone setup.plan u)) setup.rooms t (ap not is);
+}

@@ -44,10 +44,12 @@ GoneAreNoTenants = (setup : Setup) (name : Word) → CanGo setup.plan [] setup.g
 abbrev pub GoneNeverBack : Type 0
 GoneNeverBack = (old new : Setup) (name : Word) → CanGo new.plan [] new.gone → goes_on old new ≡ true → is_gone old.gone name ≡ true → place_named new.plan name ≡ None
 
--- without those who are gone each other tenant has what it had, and they have no volume
+-- without those who are gone each other tenant has what it had, and they have no volume and no room for chunks
 pub record IsLeft (setup : Setup) (gone : List Word) (t : ℕ) : Type 0 where
   pub stays : is_gone_at gone setup.plan t ≡ false → account_at (holdings (without gone setup)) t ≡ account_at (holdings setup) t
   pub goes : is_gone_at gone setup.plan t ≡ true → (account_at (holdings (without gone setup)) t).volumes ≡ []
+  pub room_stays : is_gone_at gone setup.plan t ≡ false → kib_of (without gone setup).rooms t ≡ kib_of setup.rooms t
+  pub room_goes : is_gone_at gone setup.plan t ≡ true → kib_of (without gone setup).rooms t ≡ 0
 
 abbrev pub WhatIsLeft : Type 0
 WhatIsLeft = (setup : Setup) (gone : List Word) (t : ℕ) → CanOpen (accounts_of setup.plan) setup.openings → IsLeft setup gone t

@@ -1,5 +1,8 @@
 -- What a node starts with: a plan, the volumes that are opened at each start, what tenants may have of chunks, which nodes were lost, and which
 -- tenants are gone.
+--
+-- A new node lacks chunks by the plan with which its journal begins: a tenant who got room later never had a chunk at the lost
+-- node. Else each node of a column that was once replaced would lack his chunks, and none could fill the others.
 use Rattle.std.specs.Prelude.{◌≡◌, ℕ, ◌+◌, ◌*◌, ◌<◌, ◌^◌, List, [], ◌∷◌, ◌++◌, length, map, slice_set, Option, Some, None, Result, Ok, Err, Bool, true, ◌&&◌, ◌==◌, not, is_none, nat_lt, codes, zero, suc, if◌then◌else◌}
 use Rattle.std.specs.List.{list_any}
 use Rattle.std.specs.Str.{bytes_eq}

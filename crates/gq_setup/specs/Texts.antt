@@ -1,4 +1,6 @@
 -- The text of a setup, as a file has it and as a node's journal has it.
+--
+-- The canonical text has a line for each volume, so that what goes on from what is said of volumes alone.
 use Rattle.std.specs.Prelude.{◌≡◌, ℕ, List, [], ◌∷◌, ◌++◌, ◌==◌, map, length, codes, decimal, Ok, Err, if◌then◌else◌}
 use Rattle.std.specs.List.{flat_map}
 use Rattle.gq_desk.specs.CheckedPlan.{CheckedPlan, row_at}

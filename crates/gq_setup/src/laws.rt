@@ -29,7 +29,7 @@ pub fn gone_stay()
     ensures never_back { GoneNeverBack }
 {}
 
-/// Without those who are gone each other tenant has what it had, and they have no volume.
+/// Without those who are gone each other tenant has what it had, and they have no volume and no room for chunks.
 pub fn what_is_left()
     ensures { WhatIsLeft }
 {}

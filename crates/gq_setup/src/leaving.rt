@@ -1,4 +1,7 @@
 //! What of a setup is left once tenants are gone.
+//!
+//! The place of who went has another tenant at once, if only a vacant one. So a plan with lines `gone` is a plan as any
+//! other, and no law has a case for it. A share is 1 block at least.
 
 ghost use Rattle.std.specs.Prelude.{◌≡◌, ◌<◌, length, None, IfOk, OnOk};
 ghost use Rattle.std.specs.List.{All};

@@ -1,4 +1,7 @@
 //! A plan, the volumes that are opened at each start, the nodes that were lost, and the tenants that are gone.
+//!
+//! A tenant has one line `chunks`, and never with 0. Two lines could be meant as a sum, or as one in place of the other; a
+//! line with 0 would say what no line says.
 
 ghost use Rattle.std.specs.Prelude.{◌≡◌, ◌++◌, ◌∷◌, ◌+◌, ◌<◌, ◌≤◌, ◌^◌, true, length, map, is_none, is_some, Ok, Some, [], IfOk, IfErr, IfSome, OnOk, OnErr, ◌*◌, false};
 ghost use Rattle.std.specs.List.{All, flat_map};

@@ -337,6 +337,16 @@ impl<R: Files<File = File> + Drop> FileShelf<R> {
         Ok(())
     }
 
+    // Cuts the growing segment off at the shelf's end, behind all that was put.
+    fn cut_file(&self, at: u64) -> bool
+        requires { at ≡ self.now.at }
+    {
+        match &self.growing {
+            Some(file) => file.set_len(at).is_ok(),
+            None => false,
+        }
+    }
+
     // What was written of a content for which there was no space is cut off, and takes no space then. Where that fails, or the segment is long or can't be longer, the
     // next content begins another one.
     fn cut(&mut self, error: &io::Error)
@@ -347,10 +357,7 @@ impl<R: Files<File = File> + Drop> FileShelf<R> {
         ensures bytes { self.new.written ≡ self.old.written }
     {
         let at = self.at;
-        let is_cut = match &self.growing {
-            Some(file) => file.set_len(at).is_ok(),
-            None => false,
-        };
+        let is_cut = self.cut_file(at);
         if !is_cut || at >= LEFT_BYTES || error.kind() == io::ErrorKind::FileTooLarge {
             self.at = u64::MAX;
         }

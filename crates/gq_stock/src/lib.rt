@@ -1,4 +1,8 @@
-//! The chunks of one session at a server: what is kept, found, forgotten and given, and what is told of it.
+//! A tenant's chunks at a server, session by session: what is kept, found, forgotten and given, and what is told of it.
+//!
+//! The shelf is read again where damage was found before: what a read finds now is all that can be told. So `Damaged` means
+//! that this read found it, and is in the shelf's notes; who mends keeps a list of its own. Steps speak of what was noted of
+//! the shelf, so no shelf has to be named in a promise. Who knows at the end that no read was wrong knows it of each step.
 #![tactic(auto)]
 
 mod chunk;

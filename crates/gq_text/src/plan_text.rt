@@ -1,4 +1,7 @@
 //! The plan at the head of an input.
+//!
+//! A plan has two forms, with blocks and with room, the second one for large contents. Its value does not know its form, so
+//! journals and laws need not tell them apart.
 
 ghost use Rattle.std.specs.Prelude.{◌≡◌, ℕ, ◌∷◌, ◌<◌, ◌≤◌, ◌^◌, length, IfOk, IfErr, Ok, drop};
 ghost use Rattle.gq_text.specs.Words.{words_of, words_after};

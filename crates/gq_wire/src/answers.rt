@@ -1,4 +1,7 @@
 //! The lines by which a node tells a tenant.
+//!
+//! Volumes are told by runs only where there are more than 64, so that older clients read each answer `plan` that they could
+//! read.
 
 ghost use Rattle.std.specs.Prelude.{◌≡◌, [], ◌∷◌, ◌++◌, ◌<◌, length, map, codes, decimal, OnOk, OnErr};
 ghost use Rattle.std.specs.List.{flat_map};

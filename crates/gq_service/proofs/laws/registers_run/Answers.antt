@@ -1,0 +1,6 @@
+use Rattle.gq_service.specs.Both.{chunks_of}
+use Rattle.gq_service.proofs.ByParts.{registers_run}
+use Rattle.gq_service.proofs.laws.registers_run.Goals as goal
+
+pub returns : goal.returns
+returns g c = registers_run (chunks_of g.S.Shelf.noted)
