@@ -323,6 +323,8 @@ class Malformed(unittest.TestCase):
             wanted = 501, "NotImplemented"
             if any(OF_ENCRYPTION in name for name in headers):
                 wanted = 400, "InvalidEncryptionAlgorithmError"
+            elif path.endswith("Owner=dave"):
+                wanted = 403, "AccessDenied"
             elif path.endswith("?acl"):
                 wanted = 400, "AccessControlListNotSupported"
             self.assertEqual(told, wanted, (method, path, headers))
