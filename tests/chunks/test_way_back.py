@@ -1,4 +1,6 @@
-"""The last way back: contents of each form, read from journals of nodes and the folders beside them, as far as a copy of them is left."""
+"""The last way back: contents of each form, read from journals of nodes and the folders beside them, as far as a copy
+of them is left.
+"""
 
 import contextlib
 import hashlib
@@ -108,7 +110,9 @@ class Cases(unittest.TestCase):
                 server.is_up = True
 
     def put_all_forms(self):
-        """A content of each form: in the page, in slots, in one chunk, in several, in the journal's, in parts, and in parts that a list names; one put over, and a removal."""
+        """A content of each form: in the page, in slots, in one chunk, in several, in the journal's, in parts, and in
+        parts that a list names; one put over, and a removal.
+        """
         for name, content in {"a/none": b"", "a/page": b"short", "one chunk": b"x" * SHORT, "in the journal": b"\\ and\n" * 6, "several": LONG}.items():
             self.put(1, name, content)
             self.put(2, f"{name} of another", content[::-1])
@@ -362,7 +366,9 @@ class Copies(Cases):
         return copies.take_stream(stream, target)
 
     def test_streams(self):
-        """A stream makes the same copy, a later one brings what is new, and one that ends early leaves a copy that can be gone on with."""
+        """A stream makes the same copy, a later one brings what is new, and one that ends early leaves a copy that
+        can be gone on with.
+        """
         self.put_all_forms()
         disks = self.disks()
         first = [self.by_stream(disk.number) for disk in disks]

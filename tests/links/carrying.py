@@ -430,6 +430,49 @@ def nodes_are_linked(program, folder):
             node.end()
 
 
+def a_number_that_is_held_twice(program, folder):
+    """Of two who hold a node's number the one with the later certificate is it, whoever came last, also while it is
+    away. It is told and counted.
+    """
+    path = os.path.join(folder, "metrics")
+    carry = fresh(program, folder, PLAN, NODE, "--metrics", path)
+    named = lambda context, address="127.0.0.1": context.wrap_socket(
+        socket.create_connection(("127.0.0.1", carry.for_nodes), 5, (address, 0)), server_hostname="node0"
+    )
+    counted = lambda told: told.of("carrier_second_holders_total", 'peer="1"')
+    try:
+        early = context_of(carry.links, "1")
+        time.sleep(1.1)  # (certificates begin at a whole second)
+        for ending in ("crt", "key"):
+            os.unlink(os.path.join(carry.links, "secret", f"1.{ending}"))
+        set_up(folder)
+        late = context_of(carry.links, "1")
+        first = named(early)
+        wait_for(lambda: "node 0 is linked to node 1" in carry.told(), carry.told())
+        first.settimeout(5)
+        second = named(late)
+        check(has_ended(first), "who has the earlier certificate stays")
+        check("held twice" not in carry.told(), f"a renewed certificate is told: {carry.told()}")
+        check(is_refused(lambda: named(early)), "who has the earlier certificate takes over")
+        wait_for(lambda: "node 1 is held twice: one with an earlier certificate is refused, at " in carry.told(), carry.told())
+        second.sendall(b"still here\n")
+        carry.gets(b"0 1 still here")
+        carry.tells(path, lambda told: counted(told) == 1, "it is not counted")
+        second.close()
+        wait_for(lambda: "is not linked to node 1 any more" in carry.told(), carry.told())
+        check(is_refused(lambda: named(early)), "who has the earlier certificate comes once the other one is away")
+        third = named(late)
+        third.sendall(b"once more\n")
+        carry.gets(b"0 1 once more")
+        other = named(late, "127.0.0.2")
+        other.sendall(b"from another address\n")
+        carry.gets(b"0 1 from another address")
+        carry.tells(path, lambda told: counted(told) == 3, "one from another address is not counted")
+        other.close(), third.close()
+    finally:
+        carry.end()
+
+
 def a_still_node(program, folder):
     """It reads nothing, and writes: the carrier's memory stays, and ticks don't heap up."""
     carry = fresh(program, folder, PLAN, STILL)
@@ -1050,5 +1093,5 @@ def metrics_as_prometheus_reads(program, folder):
         carry.end()
 
 
-CHECKS = [odd_files, hosts_amid_a_write, its_own_ports, another_authority, costly_ones, who_may_come, a_denied_one_stays_out, who_is_gone_is_told, who_is_dialed, lines_are_whole, answers_go_home, chunks_go_home, a_tenant_who_takes_his_time, nodes_are_linked, a_still_node, ticks, ticks_while_a_node_is_silent, a_burst, long_answers, a_slow_reader, too_many, long_lines, what_a_tenant_of_many_volumes_has, its_end, its_words, ends_soon, a_first_line_behind_a_handshake, a_slow_name, a_name_of_two_addresses, a_node_that_does_not_end, what_a_denied_one_said, metrics_are_true, forms_are_told, metrics_are_whole]
+CHECKS = [odd_files, hosts_amid_a_write, its_own_ports, another_authority, costly_ones, who_may_come, a_denied_one_stays_out, who_is_gone_is_told, who_is_dialed, lines_are_whole, answers_go_home, chunks_go_home, a_tenant_who_takes_his_time, nodes_are_linked, a_number_that_is_held_twice, a_still_node, ticks, ticks_while_a_node_is_silent, a_burst, long_answers, a_slow_reader, too_many, long_lines, what_a_tenant_of_many_volumes_has, its_end, its_words, ends_soon, a_first_line_behind_a_handshake, a_slow_name, a_name_of_two_addresses, a_node_that_does_not_end, what_a_denied_one_said, metrics_are_true, forms_are_told, metrics_are_whole]
 LONG_CHECKS = [metrics_as_prometheus_reads, forms_are_told_again]

@@ -50,6 +50,8 @@ FAULTS = {
     "an authority that is gone is believed of those who are here": ("another_authority", "links.c", "is_new ? disbelief(shown, &link->stream)", "is_new ? NULL"),
     "strangers choose the group": ("costly_ones", "links.c", "!SSL_CTX_set1_groups_list(made, \"X25519:P-256:P-384\")", "false"),
     "new keys have no bound": ("costly_ones", "stream.c", "    if (it->odd_until > time + ODD) SSL_set_shutdown(ssl, SSL_RECEIVED_SHUTDOWN);\n", "    (void)ssl;\n", "stream.c", "if (it->odd_until > now() + ODD)", "if (false)"),
+    "who came last holds a number": ("a_number_that_is_held_twice", "links.c", "if (began < host->latest) return", "if (false) return"),
+    "who holds a number twice is not told": ("a_number_that_is_held_twice", "links.c", "    host->seconds++;\n", ""),
     "a name has one address": ("a_name_of_two_addresses", "links.c", "if (!was_node) host->failures++;", ""),
     "a node that does not end is waited for": ("a_node_that_does_not_end", "node.c", "if (now() > until) say(", "if (false) say("),
     "lines of one who is denied are given": ("what_a_denied_one_said", "links.c", "    forget(peer->queue, held(peer->queue));\n", ""),

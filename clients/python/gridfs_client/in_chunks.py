@@ -66,7 +66,9 @@ class ChunkSource(Protocol):
     def shape(self) -> Shape: ...
 
     def get(self, wanted: Iterable[Wanted]) -> Generator[bytes | None, None, None]:
-        """The bytes that are wanted of these chunks, in their order; None for one that was forgotten. Damaged where there is no sound one."""
+        """The bytes that are wanted of these chunks, in their order; None for one that was forgotten. Damaged where
+        there is no sound one.
+        """
 
 
 class ReadContents:
@@ -108,7 +110,8 @@ class ReadContents:
                 if cut.part.pieces != -(-cut.part.size // self.most):
                     raise Damaged("as many chunks as are named don't hold so many bytes")
                 if any(run.column >= self.source.shape.columns for run in cut.part.runs):
-                    raise Damaged(f"it is in a column that a grid of {self.source.shape.columns} has not: is `grid` right?")
+                    columns = self.source.shape.columns
+                    raise Damaged(f"it is in a column that a grid of {columns} has not: is `grid` right?")
                 coming.append(cut)
                 yield from self.wanted(cut.part, cut.first, cut.end)
 
@@ -176,8 +179,9 @@ class ChunkContents(ReadContents):
     # Writing
 
     def expect_room(self, name: str, size: int | None) -> int:
-        """The column for a content of so many bytes. NoRoom where the tenant has no room for chunks, or all columns together have too little; Unanswered where none
-        is wholly up."""
+        """The column for a content of so many bytes. NoRoom where the tenant has no room for chunks, or all columns
+        together have too little; Unanswered where none is wholly up.
+        """
         wanted, least = self.room_for(size or 1), self.room_for(min(size or 1, self.most))
         for lasts in (ROOM_LASTS, 0):  # (as it was told last, and then as it is)
             rooms = self.chunks.rooms(lasts)
