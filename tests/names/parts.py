@@ -41,7 +41,7 @@ LISTED = ("LISTING", "MIXED", "UNSURE", "SPLITTING")  # with listings that skim 
 
 def steps():
     loader, told = unittest.TestLoader(), io.StringIO()
-    suite = loader.loadTestsFromNames(["test_core", "test_parts", "test_sessions", "test_names", "test_skimming", "test_side_by_side", "test_door", "test_splits", "test_looks", "test_status", "test_mirror", "test_journals"])
+    suite = loader.loadTestsFromNames(["test_core", "test_parts", "test_sessions", "test_names", "test_skimming", "test_side_by_side", "test_door", "test_splits", "test_looks", "test_status", "test_mirror", "test_journals", "test_grid"])
     result = unittest.TextTestRunner(told, verbosity=0).run(suite)
     return f"{result.testsRun} tests", [f"{test}: {text.splitlines()[-1]}" for test, text in result.failures + result.errors]
 

@@ -95,6 +95,10 @@ class CarriedGrid:
     def carrier_words(self, number):
         return self.words_for(number)
 
+    def ports(self):
+        """Those at which its processes listen."""
+        raise NotImplementedError
+
     def is_connected(self, number, told):
         """Whether the node's carrier is connected, by what it told since its start."""
         raise NotImplementedError

@@ -9,6 +9,7 @@ import time
 
 from gridfs_grid.carrier import journal_of
 from gridfs_grid.one_machine import STAY_DOWN, NotStarted, end, how_ended, how_many_are_up, is_ready, keep_way, look_at, tell, way_out
+from gridfs_grid.options import OF_GRID, expect_free, keep_options
 from gridfs_grid.places import CARRIERS, CLIENT, PLAN, folder_to_start
 
 TRIES = 3  # starts of a node that ends with status 1 before it is ready: its journal may be in use by a process that is about to end
@@ -68,12 +69,12 @@ class CarriedCommand:
         for command in self.WANTS:
             if not shutil.which(command):
                 raise NotStarted(f"there is no {command}; what is wanted are the packages {self.PACKAGES}")
-        if asked.metrics is not None and not os.path.isdir(asked.metrics):
+        if asked.metrics and not os.path.isdir(asked.metrics):
             raise NotStarted(f"{asked.metrics}: no folder")
         look_at(asked.program)
         try:
             grid = self.new_grid(asked, os.path.abspath(folder), self.built(), port)
-            grid.metrics, grid.name = asked.metrics and os.path.abspath(asked.metrics), asked.grid
+            grid.metrics, grid.name = asked.metrics and os.path.abspath(asked.metrics), asked.grid or ""
             os.makedirs(grid.folder, exist_ok=True)
             grid.take()
             before = text_of(grid.plan)
@@ -89,6 +90,7 @@ class CarriedCommand:
             put_back(grid, before)
             raise
         keep_way(grid.folder, self.WAY)
+        keep_options(grid.folder, asked, OF_GRID)
         return grid
 
     def start(self, grid, asked):
@@ -98,6 +100,7 @@ class CarriedCommand:
             raise NotStarted(f"there are the nodes {', '.join(map(str, grid.nodes))}")
         if asked.replace is not None and grid.is_whole(asked.replace):
             raise NotStarted(f"node {asked.replace} is whole; to give it up all the same, move {journal_of(grid.folder, asked.replace)} away first")
+        expect_free("127.0.0.1", grid.ports(), "port")
         new = None if asked.replace is None else grid.note_loss(asked.replace)
         for name in self.tenants(grid):
             grid.write_settings(name)

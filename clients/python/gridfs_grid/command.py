@@ -3,7 +3,7 @@
     ./grid [OPTION..] FOLDER    starts the grid whose files are in the folder; where the folder is not there, a new grid
     ./grid [OPTION..] try       shows in some seconds that a node that is killed keeps what it acknowledged
 
-    --over WAY        how lines go between nodes and clients; a later start without it takes what the folder had last
+    --over WAY        how lines go between nodes and clients
                         pipes   through this program alone (a first start without --over; nothing more is wanted)
                         links   TLS from node to node, as on many machines (Debian: libssl-dev openssl gcc make)
                         mqtt    a broker, mosquitto, with nginx before it (docs/MACHINES.md has its packages)
@@ -22,6 +22,8 @@
     over mqtt         --tls WHERE it ends: front (nginx), broker or none; --rate BYTES that a connection may send a second (2m)
     with --s3         --listen ADDRESS:PORT of the endpoint (127.0.0.1:9000); --gateways N for each tenant (1)
 
+FOLDER remembers these options, but for --plan, --replace, --program and --lines: a later start without one takes what the last one had.
+
 FOLDER gets NAME.ini for each tenant: the settings of clients/python/gridfs-client. With --s3 these are in FOLDER/grid, unless the grid was there
 before, and FOLDER/s3 has the access keys, and settings of s3cmd and rclone. One grid at a time runs in a folder. Over links and mqtt, and with S3,
 what ends is started again, but for a node whose status asks for a person; certificates are made anew before they end. Status 0: it was interrupted,
@@ -35,6 +37,7 @@ import sys
 
 from gridfs_grid import links, mqtt, pipes
 from gridfs_grid.one_machine import NotStarted, begin, kept_way, tell
+from gridfs_grid.options import OF_GRID, OF_S3, expect_own_folder, take_kept
 from gridfs_grid.places import PROGRAM, folder_of_grid
 
 WAYS = {"pipes": pipes.Command, "links": links.Command, "mqtt": mqtt.Command}
@@ -59,7 +62,7 @@ def parser():
     it.add_argument("--tick", type=float)
     it.add_argument("--port", type=int)
     it.add_argument("--metrics")
-    it.add_argument("--grid", default="")
+    it.add_argument("--grid")
     it.add_argument("--tls", choices=("front", "broker", "none"))
     it.add_argument("--rate")
     it.add_argument("--listen")
@@ -81,10 +84,14 @@ def words_of(words):
     if asked.s3 is None:
         asked.s3 = not asked.is_try and os.path.isdir(os.path.join(asked.folder, "s3"))
     try:
+        if not asked.is_try:
+            expect_own_folder(asked.folder, asked.plan)
         kept = None if asked.is_try else kept_way(folder_of_grid(asked.folder, asked.s3))
     except OSError as error:
         raise NotStarted(f"{error.filename}: {error.strerror}") from error
     asked.over = asked.over or kept or "pipes"
+    if not asked.is_try:
+        take_all_kept(asked)
     # (examples/grid says --lines, also where --links or --mqtt follows)
     asked.lines = asked.lines and asked.over == "pipes" and not asked.s3
     for option, ways in ONLY.items():
@@ -99,6 +106,13 @@ def words_of(words):
     if asked.s3 and not 1 <= (asked.gateways or 1) <= 16 or asked.gateways == 0:
         it.error("--gateways is from 1 to 16")
     return asked
+
+
+def take_all_kept(asked):
+    """What the folder remembers, as far as the way has it."""
+    take_kept(asked, folder_of_grid(asked.folder, asked.s3), {name: kind for name, kind in OF_GRID.items() if asked.over in ONLY[name]})
+    if asked.s3:
+        take_kept(asked, os.path.join(asked.folder, "s3"), OF_S3)
 
 
 def run(words):

@@ -8,6 +8,7 @@ from gridfs_grid.carried import CarriedGrid, free_ports, words_of
 from gridfs_grid.carried_command import CarriedCommand
 from gridfs_grid.one_machine import NotStarted
 from gridfs_grid.places import setup_of
+from gridfs_grid.tenant import PLACES
 
 
 class Grid(CarriedGrid):
@@ -24,6 +25,9 @@ class Grid(CarriedGrid):
         done = subprocess.run([setup_of("links"), "--local", str(self.port), *words, self.links, self.plan], stderr=subprocess.PIPE, text=True, env={**os.environ, "GRIDFS": self.program})
         if done.returncode:
             raise NotStarted(done.stderr.strip())
+
+    def ports(self):
+        return [self.port + 2 * (number % PLACES) + which for number in self.nodes for which in (0, 1)]
 
     def note_loss(self, number):
         new = super().note_loss(number)

@@ -41,6 +41,9 @@ class Grid(CarriedGrid):
         if done.returncode:
             raise NotStarted(done.stderr.strip())
 
+    def ports(self):
+        return [self.port, self.port + 1]
+
     def certificates(self):
         """The test authority, and its certificate for the broker."""
         return [] if self.tls == "none" else [os.path.join(self.broker_folder, name) for name in ("ca.crt", "broker.crt")]

@@ -10,6 +10,7 @@ import time
 from gridfs_grid.callers import Callers
 from gridfs_grid.carrier import Carrier, Node, journal_of
 from gridfs_grid.one_machine import DAMAGED, STAY_DOWN, NotStarted, end, how_ended, how_many_are_up, keep, keep_way, lock, look_at, remove_journal, seconds_to_start, tell, way_out, with_loss, write_settings
+from gridfs_grid.options import OF_GRID, keep_options
 from gridfs_grid.places import PLAN, folder_to_start
 from gridfs_grid.planned import planned
 from gridfs_grid.talk import Talk
@@ -333,6 +334,7 @@ class Command:
                     grid.replace_lost(asked.replace)
                 grid.open_door()
                 keep_way(folder, "pipes")
+                keep_options(folder, asked, OF_GRID)
                 if not asked.lines:
                     return serve(grid)
                 talk = Talk(grid)

@@ -18,6 +18,7 @@ from pathlib import Path
 
 from gridfs_grid.carried import free_ports
 from gridfs_grid.one_machine import NotStarted, end, how_ended, lock, look_at, tell
+from gridfs_grid.options import OF_S3, expect_free, keep_options
 from gridfs_grid.places import CLIENT, COMMAND, GATEWAY, S3_PLAN, folder_of_grid
 from gridfs_s3 import config
 from gridfs_s3.front import instances_of, nginx_conf, tenants_of, write_for
@@ -57,6 +58,10 @@ class All:
         self.s3.mkdir(parents=True, exist_ok=True)
         # (the grid locks its own folder)
         lock(self.s3 if self.grid_folder == self.folder else self.folder)
+        address, _, port = self.asked.listen.rpartition(":")
+        if not address or not port.isdecimal():
+            raise NotStarted(f"--listen {self.asked.listen}: no ADDRESS:PORT")
+        expect_free(address.strip("[]"), [int(port)], "listen")
         self.start_grid()
         self.gateways = {name: instances_of(name, sessions, self.asked.gateways or 1) for name, sessions in self.tenants.items()}
         every = [each for found in self.gateways.values() for each in found]
@@ -85,6 +90,7 @@ class All:
 
     def start_gateway(self, it):
         words = ["--config", self.grid_folder / f"{it.tenant}.ini", "--keys", self.s3 / f"{it.tenant}.keys", "--listen", f"unix:{self.s3 / it.name}.socket"]
+        words += ["--index", self.s3 / f"{it.name}.index"]
         self.run(f"s3.{it.name}", [GATEWAY, *words], env={**os.environ, "GRIDFS_SESSION": it.sessions})
 
     def wait_for_gateway(self, it):
@@ -186,6 +192,7 @@ def run(asked):
         all_of_it = All(asked, Path(room if asked.is_try else asked.folder))
         try:
             all_of_it.start()
+            keep_options(all_of_it.s3, asked, OF_S3)
             if asked.is_try:
                 return show(all_of_it)
             tell(f"S3 at http://{asked.listen} for {', '.join(all_of_it.tenants)}; a page for a browser at http://{asked.listen}/-/. Now for instance:")

@@ -2,7 +2,7 @@
 
 import asyncio
 import re
-from collections.abc import AsyncIterator, Callable, Iterator
+from collections.abc import AsyncIterator, Awaitable, Callable, Iterator
 from contextlib import asynccontextmanager, closing, nullcontext
 
 from aiohttp import web
@@ -11,8 +11,9 @@ from gridfs_client.buckets import Held
 from gridfs_client.contents import Inline
 
 from . import bodies, metrics, tags
+from .aims import Aim
 from .bodies import Spooled, Whole, body_of
-from .bounds import GIVEN, IDLE, IN_HAND, IN_MEMORY, LONG, MOST_IN_MEMORY, OF_A_FILE, Spool, is_too_slow
+from .bounds import GIVEN, IDLE, IN_HAND, IN_MEMORY, LONG, MOST_IN_MEMORY, Spool, ahead_of, is_too_slow
 from .buckets import Buckets
 from .checksums import HEADER, algorithm_of
 from .errors import S3Error, error_of, tell
@@ -20,10 +21,11 @@ from .gateway import Gateway, Operations, let_body_come
 from .looker import Looked
 from .markup import document, element, many
 from .places import MOST_KEPT, MOST_METADATA, Object, Values
+from .reading import Stretch
 from .requests import SERVER, Asked, answer, http_date, judge, range_wanted
 from .store import Body, Condition, Store
 from .trips import Elsewhere
-from .versions import HEADER as VERSION, MARKER, Place, Target, target_of
+from .versions import HEADER as VERSION, MARKER, Place
 
 LONGEST_PUT = 5 << 30
 ATTRIBUTES = {"Checksum", "ETag", "ObjectParts", "ObjectSize", "StorageClass"}
@@ -122,10 +124,53 @@ class IsLong(Exception):
     """An answer wants a place first. Nothing was read yet."""
 
 
+class Piece:
+    """Some bytes of an answer, in a file: a session writes them, and they are given as they are taken."""
+
+    def __init__(self, before: asyncio.Task[None] | None, give: Callable[[bytes], Awaitable[None]]):
+        self.spool, self.before, self.give = Spool(), before, give
+        self.given, self.is_whole = 0, False
+        self.came, self.is_half_taken = asyncio.Event(), asyncio.Event()
+        self.giving = asyncio.get_running_loop().create_task(self.give_on())
+        self.giving.add_done_callback(lambda giving: giving.cancelled() or giving.exception())  # (whoever waits for it is told)
+
+    async def give_on(self) -> None:
+        """Gives what comes into the file until it is whole, once all before was given."""
+        try:
+            if self.before:
+                await self.before
+            while True:
+                self.came.clear()
+                is_whole = self.is_whole
+                while data := self.spool.read(self.given, GIVEN):
+                    await self.give(data)
+                    self.given += len(data)
+                    self.judge_half()
+                if is_whole:
+                    return
+                await self.came.wait()
+        finally:
+            self.is_half_taken.set()
+
+    def judge_half(self) -> None:
+        if self.is_whole and 2 * self.given >= self.spool.size:
+            self.is_half_taken.set()
+
+    def end(self) -> None:
+        """All of it has come."""
+        self.is_whole = True
+        self.judge_half()
+        self.came.set()
+
+    def close(self) -> None:
+        self.giving.cancel()
+        self.spool.close()
+
+
 class Get:
     """One get: what is chosen of the object, and its answer, which begins once the first bytes are there. A session puts what is longer than a little into a
-    file, from which it is given as it is taken: so no session waits for who takes it. What is very long comes into one file after another, each once the one
-    before was taken: so whoever is slow does not fill the disk either."""
+    file, from which it is given as it is taken: so no session waits for who takes it. What is long comes by several files, each once half of the one before was
+    taken: so whoever is slow does not fill the disk either."""
 
     def __init__(self, gateway: Gateway, asked: Asked, place: Place):
         self.gateway, self.asked, self.place = gateway, asked, place
@@ -133,20 +178,19 @@ class Get:
         self.response: web.StreamResponse | None = None
         self.loop = asyncio.get_running_loop()
         self.has_place, self.most_in_memory = False, IN_MEMORY  # bytes that may be in memory until they are taken
-        self.spool: Spool | None = None
         self.held: Held | None = None
         self.looked: Looked | None = None  # at its volume, since it was asked for
         self.next, self.end = 0, 0  # of the object: the byte to read next, and that behind the last one that is wanted
-        self.came, self.is_whole = asyncio.Event(), False
-        self.giving: asyncio.Task[None] | None = None
-        self.begun, self.given, self.of_file, self.counted = 0.0, 0, 0, metrics.given.labels(gateway.tenant)
+        self.stretch, self.pieces = Stretch(), list[Piece]()  # what is read at a time, and the files that are there
+        self.begun, self.given, self.counted = 0.0, 0, metrics.given.labels(gateway.tenant)
 
     def choose(self, held: Held | None) -> tuple[int, int]:
         found = self.place.expect(held)
         judge(self.asked.headers, found)
         self.part = range_wanted(self.asked.headers, found)
         first, end = self.part or (0, found.size)
-        if end - first > LONG and not self.has_place:
+        if end - first > (IN_MEMORY if self.asked.is_anybodys else LONG) and not self.has_place:
+            self.next, self.end = first, end
             raise IsLong
         return first, end
 
@@ -158,12 +202,11 @@ class Get:
     async def begin_to_give(self, held: Held) -> None:
         self.leave_memory()
         await self.begin(held)
-        self.begin_file()
+        self.begin_piece()
 
-    def begin_file(self) -> None:
-        self.of_file, self.is_whole = 0, False
-        self.giving = self.loop.create_task(self.give_on())
-        self.giving.add_done_callback(lambda giving: giving.cancelled() or giving.exception())  # (whoever waits for it is told)
+    def begin_piece(self) -> None:
+        before = self.pieces[-1].giving if self.pieces else None
+        self.pieces.append(Piece(before, self.give))
 
     async def give(self, data: bytes | memoryview) -> None:
         """A TimeoutError where it is not taken in time, or all is taken too slowly."""
@@ -171,33 +214,21 @@ class Get:
         async with asyncio.timeout(IDLE):
             await self.response.write(data)
         self.given += len(data)
-        self.of_file += len(data)
         if is_too_slow(self.loop.time() - self.begun, self.given):
             raise asyncio.TimeoutError("it is taken too slowly")
         self.counted.inc(len(data))
 
-    async def give_on(self) -> None:
-        """Gives what comes into the file until it is whole."""
-        assert self.spool is not None
-        while True:
-            self.came.clear()
-            is_whole = self.is_whole
-            while data := self.spool.read(self.of_file, GIVEN):
-                await self.give(data)
-            if is_whole:
-                return
-            await self.came.wait()
-
     def send(self, store: Store) -> tuple[Held, bytes] | None:
         """(A thread's.) Has what is read given; or tells it, where it is little."""
-        held, parts, data = store.read(self.place.name, self.choose, self.place.is_latest, OF_A_FILE, self.looked)
+        self.stretch = Stretch(ahead_of(self.asked.is_anybodys))
+        held, parts, data = store.read(self.place.name, self.choose, self.place.is_latest, self.looked, self.stretch)
         first, end = self.part or (0, held.content.size)
         with closing(parts):  # (what it reads ahead ends before the session has other work)
             if len(data) == end - first <= self.most_in_memory:
                 for _ in parts:
                     pass
                 return held, data
-            self.held, self.next, self.end, self.spool = held, first, end, self.spool or Spool()
+            self.held, self.next, self.end = held, first, end
             asyncio.run_coroutine_threadsafe(self.begin_to_give(held), self.loop).result()
             self.fill(parts, data)
         return None
@@ -219,31 +250,35 @@ class Get:
         assert self.held
         if self.held.version.grid != store.grid:
             raise Elsewhere(self.held.version.grid)
-        with closing(store.content(self.held, self.next, self.end, OF_A_FILE)) as parts:
+        self.stretch.most = ahead_of(self.asked.is_anybodys)
+        with closing(store.content(self.held, self.next, self.end, self.stretch)) as parts:
             self.fill(parts, next(parts))
 
     def fill(self, parts: Iterator[bytes], data: bytes) -> None:
-        assert self.spool
+        piece = self.pieces[-1]
         while data:
-            self.spool.add(data)
+            piece.spool.add(data)
             self.next += len(data)
-            self.loop.call_soon_threadsafe(self.came.set)
-            if self.giving and self.giving.done():
+            self.loop.call_soon_threadsafe(piece.came.set)
+            if piece.giving.done():
                 raise ConnectionResetError("the client has gone")
             data = next(parts, b"")
 
     async def give_all(self) -> None:
-        """Gives the rest of the file, and then what is left of the object, file by file."""
-        while self.giving:
-            self.is_whole = True
-            self.came.set()
-            await self.giving
+        """Gives the rest, file by file: of those that are there all but the last one were given."""
+        while True:
+            piece = self.pieces[-1]
+            piece.end()
             if self.next == self.end:
+                await piece.giving
                 return
-            if self.spool:
-                self.spool.close()
-            self.spool, begin = Spool(), self.next
-            self.begin_file()
+            await piece.is_half_taken.wait()
+            if piece.giving.done():
+                piece.giving.result()
+            for given in self.pieces[:-1]:
+                given.close()
+            self.pieces, begin = [piece], self.next
+            self.begin_piece()
             await self.gateway.look(self.place.name, self.send_on, lambda begin=begin: self.next > begin)  # type: ignore[misc]
 
     async def run(self) -> web.StreamResponse:
@@ -251,7 +286,8 @@ class Get:
             return await self.answered()
         except IsLong:
             self.has_place = True
-            async with self.gateway.places.one(self.asked):
+            places, is_long = self.gateway.places, self.end - self.next > LONG
+            async with places.one(self.asked) if is_long else places.some_of_anybody():
                 return await self.answered()
 
     def take_memory(self) -> None:
@@ -279,16 +315,15 @@ class Get:
             if self.response is None:
                 raise
             # The rest of the answer can't come. The connection ends, so that nobody takes what came for the whole.
-            tell(f"{self.asked.path}: cut: {fault or type(fault).__name__}")
+            if not self.asked.is_anybodys:  # (strangers may leave as often as they like)
+                tell(f"{self.asked.path}: cut: {fault or type(fault).__name__}")
             metrics.faults.labels(self.gateway.tenant, "Cut").inc()
             if self.asked.request.transport:
                 self.asked.request.transport.abort()
             raise ConnectionResetError from None
         finally:
-            if self.giving:
-                self.giving.cancel()
-            if self.spool:
-                self.spool.close()
+            for piece in self.pieces:
+                piece.close()
             self.leave_memory()
         assert self.response is not None
         await self.response.write_eof()
@@ -309,9 +344,9 @@ class Objects(Operations):
         held = self.gateway.look(place.name, lambda store: store.latest(place.name)) if place.is_latest else self.gateway.held(place.name)
         return place.expect(await held)
 
-    async def target_of(self, asked: Asked, version: str = "") -> Target:
+    async def aim_of(self, asked: Asked, version: str = "") -> Aim:
         """Where a new version of the object that is asked for is to stand. 404 NoSuchBucket."""
-        return target_of(asked.bucket, asked.key, await self.gateway.need_bucket(asked.bucket), version)
+        return Aim(self.gateway, asked.bucket, asked.key, await self.gateway.need_bucket(asked.bucket), version)
 
     async def get_object(self, asked: Asked) -> web.StreamResponse:
         """200; 206 with Range. 304 NotModified; 404 NoSuchBucket, NoSuchKey, NoSuchVersion; 405 MethodNotAllowed for a marker; 412 PreconditionFailed; 416
@@ -373,23 +408,24 @@ class Objects(Operations):
         InsufficientStorage; 400 BadDigest, EntityTooLarge, IncompleteBody, InvalidDigest, InvalidTag, KeyTooLongError, MetadataTooLarge,
         RequestTimeout, XAmzContentSHA256Mismatch; 403 SignatureDoesNotMatch (of a chunk); 501 NotImplemented (metadata of another object). After these nothing
         was changed."""
-        target, body = await self.target_of(asked), body_of(asked)
+        aim, body = await self.aim_of(asked), body_of(asked)
         if body.told_size > LONGEST_PUT:
             raise S3Error("EntityTooLarge")
         values, algorithm = brought_by(asked), algorithm_wanted(asked)
-        condition = await self.gateway.condition_of(asked, target.name)
+        condition = await self.gateway.condition_of(asked, aim.name)
         async with self.source_of(asked, body) as source:
-            found = await self.put(asked, target, source, values, algorithm, condition)
-        return answer(headers={"ETag": f'"{found.etag}"', **(found.checksum.headers() if found.checksum else {}), **target.told})
+            found = await self.put(aim, source, values, algorithm, condition)
+        return answer(headers={"ETag": f'"{found.etag}"', **(found.checksum.headers() if found.checksum else {}), **aim.target.told})
 
-    async def put(self, asked: Asked, target: Target, source: Whole | Spooled, values: Values, algorithm: str, condition: Condition | None = None) -> Object:
+    async def put(self, aim: Aim, source: Whole | Spooled, values: Values, algorithm: str, condition: Condition | None = None) -> Object:
         """Puts a content that is here, with what is kept beside it. The errors of a change."""
 
         def work(store: Store) -> Held:
-            return store.put_object(target.name, source, lambda: {**values, **values_by(source, algorithm), **target.values}, condition, target.about)
+            target = aim.at(store)
+            return store.put_object(target.name, source, lambda: {**values, **values_by(source, algorithm), **aim.values(store)}, condition, target.about)
 
-        await self.gateway.need_bucket(asked.bucket)  # (it may have been removed while the content came)
-        return Object(asked.key, await self.gateway.change(target.name, work, condition=condition))
+        await self.gateway.need_bucket(aim.bucket)  # (it may have been removed while the content came)
+        return Object(aim.key, await self.gateway.change(aim.name, work, condition=condition))
 
     async def delete_object(self, asked: Asked) -> web.Response:
         """204, also where there is no such key. In a bucket with versions a marker is put, or that version goes which is named. With If-Match: 412
@@ -402,10 +438,10 @@ class Objects(Operations):
 
     async def delete(self, place: Place, condition: Condition | None = None) -> dict[str, str]:
         """Has an object go, or one version; the headers that tell of which version."""
-        if place.is_latest:
-            target = target_of(place.bucket, place.key, place.state)
-            await self.gateway.change(target.name, lambda store: store.mark(target, condition), condition=condition)
-            return {MARKER: "true", **target.told}
+        if place.version is None:
+            aim = Aim(self.gateway, place.bucket, place.key, place.state)
+            await self.gateway.change(aim.name, lambda store: store.take_away(aim.at(store), condition), condition=condition)
+            return {MARKER: "true", **aim.target.told} if aim.state else {}
         seen = list[Held]()
 
         def remove(store: Store) -> None:
@@ -433,6 +469,8 @@ class Objects(Operations):
             try:
                 async with at_once:
                     headers = await self.delete(await self.gateway.place_of(asked.bucket, key, version))
+            except ConnectionResetError:
+                raise  # (who asked has gone: no more is done)
             except Exception as fault:
                 told = error_of(fault)
                 return many("Error", *named, element("Code", told.code), element("Message", told.message))

@@ -1,0 +1,92 @@
+"""`./grid` before it starts anything: what it remembers of a folder, which folders and ports it refuses, and what it says."""
+
+import argparse
+import contextlib
+import io
+import os
+import socket
+import sys
+import tempfile
+import unittest
+
+sys.path.insert(0, os.path.dirname(os.path.abspath(__file__)))
+import histories  # (which finds the packages)  # noqa: F401
+
+from gridfs_grid import command
+from gridfs_grid.one_machine import NotStarted, keep_way
+from gridfs_grid.options import OF_GRID, OF_S3, expect_free, keep_options
+
+
+def asked_for(*words):
+    with contextlib.redirect_stderr(io.StringIO()):
+        return command.words_of(list(words))
+
+
+class Options(unittest.TestCase):
+    def setUp(self):
+        self.folder = self.enterContext(tempfile.TemporaryDirectory())
+        self.grid = os.path.join(self.folder, "store")
+        os.mkdir(self.grid)
+
+    def started(self, *words, way="links"):
+        """What a start with these words leaves."""
+        asked = asked_for("--over", way, *words, self.grid)
+        with open(os.path.join(self.grid, "plan"), "w"):
+            pass
+        keep_way(self.grid, way)
+        keep_options(self.grid, asked, OF_GRID)
+
+    def test_what_the_last_start_had(self):
+        self.started("--port", "21000", "--metrics", self.folder, "--grid", "east")
+        for words in ((), ("--replace", "3"), ("--plan", "next")):
+            asked = asked_for(*words, self.grid)
+            self.assertEqual((asked.over, asked.port, asked.metrics, asked.grid, asked.tick), ("links", 21000, self.folder, "east", None))
+        self.assertEqual(asked_for("--port", "22000", self.grid).port, 22000)
+        self.started("--port", "22000", "--metrics", "")
+        self.assertEqual((asked_for(self.grid).port, asked_for(self.grid).metrics), (22000, None))
+        self.assertEqual(asked_for("--over", "pipes", self.grid).port, None)  # (which has no ports)
+        self.assertEqual(asked_for("--over", "links", "try").port, None)
+
+    def test_those_of_s3(self):
+        self.started("--tick", "0.5", way="pipes")
+        s3 = os.path.join(self.grid, "s3")
+        os.mkdir(s3)
+        keep_options(s3, argparse.Namespace(listen="127.0.0.1:9001", gateways=2), OF_S3)
+        asked = asked_for(self.grid)
+        self.assertEqual((asked.s3, asked.listen, asked.gateways, asked.tick), (True, "127.0.0.1:9001", 2, 0.5))
+        self.assertIsNone(asked_for("--no-s3", self.grid).listen)
+
+    def test_a_file_that_has_no_form(self):
+        self.started()
+        with open(os.path.join(self.grid, "options"), "w") as out:
+            out.write("port many\n")
+        with self.assertRaisesRegex(NotStarted, "options: a line is no option and its value"):
+            asked_for(self.grid)
+
+    def test_a_folder_that_is_for_something_else(self):
+        plan = os.path.join(self.grid, "wishes.plan")
+        for name in ("lost+found", "links", "log.0", "node0.journal"):  # (as of a start that failed)
+            os.mkdir(os.path.join(self.grid, name))
+        asked_for(self.grid)
+        with open(plan, "w"):
+            pass
+        asked_for("--plan", plan, self.grid)
+        with self.assertRaisesRegex(NotStarted, r"^.*/store has no grid, and other things in it \(wishes.plan\): name a folder that is empty, or not there$"):
+            asked_for(self.grid)
+        with self.assertRaisesRegex(NotStarted, "has no grid"):
+            asked_for("--s3", self.grid)
+        os.mkdir(os.path.join(self.grid, "grid"))
+        with open(os.path.join(self.grid, "grid", "plan"), "w"):
+            pass
+        asked_for(self.grid)
+
+    def test_ports(self):
+        with socket.create_server(("127.0.0.1", 0)) as other:
+            port = other.getsockname()[1]
+            with self.assertRaisesRegex(NotStarted, rf"^port {port} of 127.0.0.1 is taken: another program listens there \(--port names another\)$"):
+                expect_free("127.0.0.1", [port], "port")
+        expect_free("127.0.0.1", [port], "port")
+
+
+if __name__ == "__main__":
+    unittest.main()
