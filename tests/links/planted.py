@@ -14,6 +14,8 @@ FAULTS = {
     "one may have the node's own number": ("who_may_come", "links.c", "!strcmp(name, me)) return \"it has", "false) return \"it has"),
     "one who is denied stays": ("who_may_come", "links.c", "if (shown && is_new && is_denied(shown)) deny(link);", "if (false) deny(link);"),
     "one who is denied comes again": ("a_denied_one_stays_out", "links.c", "bool wrong = shown && is_denied(shown);", "bool wrong = false;"),
+    "one who is gone is told so again and again": ("who_is_gone_is_told", "links.c", "if (!link->was_told && put(", "if (put("),
+    "what one who is gone brings is not charged": ("who_is_gone_is_told", "links.c", "    charge(link->peer->queue, length + PRICE_OF_GONE", "    if (0) charge(link->peer->queue, length + PRICE_OF_GONE"),
     "lines of one who is gone are given": ("who_is_gone_is_told", "node.c", "is_tenant(name) && is_gone(name, length);", "false && is_gone(name, length);"),
     "anybody of the grid may stand at a node's address": ("who_is_dialed", "links.c", "if (link->host && strcmp(name, link->host->name))", "if (false)", "stream.c", "&& SSL_set1_host(it->ssl, host)", ""),
     "a part of a line is given": ("lines_are_whole", "links.c", "    if (stream->paused) paused--;", "    if (link->held && link->peer) lines(link, link->part, link->held);\n    if (stream->paused) paused--;", "links.c", "/* The end of a link */", "static void lines(struct link *link, const char *text, size_t length);"),
