@@ -412,8 +412,8 @@ class Objects(Operations):
         inner = [many("Part", element("PartNumber", number), element("Size", size)) for number, size in shown]
         is_cut = "true" if shown and shown[-1] != numbered[-1] else "false"
         last = shown[-1][0] if shown else after
-        told = (("PartsCount", count), ("PartNumberMarker", after), ("NextPartNumberMarker", last), ("MaxParts", most), ("IsTruncated", is_cut))
-        return many("ObjectParts", *(element(*each) for each in told), *inner)
+        told: dict[str, str | int] = {"PartsCount": count, "PartNumberMarker": after, "NextPartNumberMarker": last, "MaxParts": most, "IsTruncated": is_cut}
+        return many("ObjectParts", *(element(name, value) for name, value in told.items()), *inner)
 
     async def get_object_acl(self, asked: Asked) -> web.Response:
         """200: all is the tenant's. 404 NoSuchBucket, NoSuchKey, NoSuchVersion."""
