@@ -37,7 +37,8 @@ enum {
     SHOW = 5,                   /* seconds in which a certificate has to be shown */
     SLOW = 10,                  /* seconds in which a reader has to take something */
     FILES = 200,                /* descriptors that are kept from tenants */
-    PRICE_OF_READ = 400         /* bytes that each read from a tenant adds in his rate */
+    PRICE_OF_READ = 400,        /* bytes that each read from a tenant adds in his rate */
+    PRICE_OF_GONE = 800         /* and each line of one who is gone */
 };
 
 struct link {
@@ -49,7 +50,7 @@ struct link {
     char *part;                 /* the beginning of a line */
     size_t held, room;          /* bytes of this beginning, and its room */
     double began;               /* when the certificate was shown */
-    bool skipping, is_later, is_writer, is_dead;
+    bool skipping, is_later, is_writer, is_dead, was_told;  /* was_told: that he is gone */
 };
 struct peer {                   /* a node or a tenant that is connected, or was */
     char name[NAME + 1];
@@ -368,8 +369,21 @@ static bool only_asks(const char *line, size_t length) {
     return number >= FAR;
 }
 
+static bool put(struct link *link, const char *body, size_t length);
+
+/* Who is gone by the plan is told so once, and what he brings is charged as a tenant's lines are: so it costs others no more than these do. */
+static void turn_away(struct link *link, const char *text, size_t length) {
+    charge(link->peer->queue, length + PRICE_OF_GONE * (1 + count_lines(text, length)), now());
+    if (!link->was_told && put(link, "gone", 4)) count.out++;
+    link->was_told = true;
+}
+
 static void lines(struct link *link, const char *text, size_t length) {
     struct peer *peer = link->peer;
+    if (peer->queue->gone) {
+        turn_away(link, text, length);
+        return;
+    }
     if (is_tenant(peer->name)) {
         const char *end = text + length;
         for (const char *line = text, *stop; line < end; line = stop + 1) {

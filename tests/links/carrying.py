@@ -251,19 +251,47 @@ def a_denied_one_stays_out(program, folder):
         carry.end()
 
 
+MOST_UNREAD = 16 << 20  # bytes that the buffers of a connection hold at most
+
+
 def who_is_gone_is_told(program, folder):
+    """Once on each connection; and what he brings is charged, so that he is not read as fast as he sends."""
     fresh(program, folder).end()
     with open(os.path.join(folder, "plan"), "w", encoding="ascii") as out:
         out.write(LATER)
     carry = Carry(program, folder).ready()
     try:
-        with come(carry, "ann") as ann, come(carry, "bob") as bob:
+        with come(carry, "ann") as ann, come(carry, "bob") as bob, come(carry, "bob") as again:
             bob.sendall(b"plan\nread 1 1 0 0\n"), ann.sendall(b"plan\n")
             carry.gets(b"0 ann plan")
-            check(hear(bob, 2) == [b"gone", b"gone"], "who is gone is told something else")
+            check(hear(bob) == [b"gone"], "who is gone is told something else")
+            again.sendall(b"plan\n")
+            check(hear(again) == [b"gone"], "he is not told so on another connection")
             check(not any(line.startswith(b"0 bob ") for line in carry.lines()), "the node is given lines of who is gone")
+            check(taken_of(bob, b"plan\n" * 20_000, 4) < MOST_UNREAD, "what he brings is not charged")
+            ann.sendall(b"plan\n")
+            carry.gets(b"0 ann plan")
+            again.settimeout(1)
+            check(not is_told_more(again), "he is told so again")
     finally:
         check(carry.end() == 0, carry.told())
+
+
+def taken_of(made, data, seconds):
+    """How many bytes are taken of this, again and again, in so many seconds, or until they are more than buffers hold."""
+    count, until = 0, time.monotonic() + seconds
+    made.settimeout(0.2)
+    while time.monotonic() < until and count < MOST_UNREAD:
+        with contextlib.suppress(TimeoutError):
+            count += made.send(data)
+    return count
+
+
+def is_told_more(made):
+    try:
+        return bool(made.recv(100))
+    except TimeoutError:
+        return False
 
 
 def who_is_dialed(program, folder):

@@ -564,6 +564,12 @@ class Sessions(Case):
                 pool.release(pool.workers[1])
                 self.assertEqual([each.future.done() for each in wanted].index(True), place)
                 wanted[place].future = pool.loop.create_future()
+            by = {1: ("bob", "one URL"), 2: ("bob", "another"), 3: ("zed", "")}
+            pool.workers = {number: types.SimpleNamespace(number=number, is_busy=True, is_silent=False, who=who) for number, who in by.items()}
+            pool.waiting.clear()
+            pool.waiting.extend(wanted := [Wanted(None, pool.loop.create_future(), who) for who in (("bob", "a third"), ANN)])
+            pool.release(pool.workers[3])
+            self.assertEqual([each.future.done() for each in wanted], [False, True])
 
         asyncio.run(scenario())
 

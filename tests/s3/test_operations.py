@@ -512,6 +512,21 @@ class Checksums(Case):
         self.assertEqual((told["ETag"], told["Checksum"], told["ObjectSize"], told["StorageClass"]), (hashlib.md5(b"hello").hexdigest(), {"ChecksumSHA1": sha}, 5, "STANDARD"))
         told = self.s3.get_object_attributes(Bucket=self.bucket, Key="known", ObjectAttributes=["ObjectSize"])
         self.assertEqual((told["ObjectSize"], "ETag" in told, "Checksum" in told), (5, False, False))
+        words, told = Uploads.upload(self, "in parts", {1: b"a" * 70_000, 2: b"b" * 5, 3: b"c" * 300})
+        Uploads.complete(self, words, told)
+        parts = self.s3.get_object_attributes(Bucket=self.bucket, Key="in parts", ObjectAttributes=["ObjectParts"], MaxParts=2)["ObjectParts"]
+        self.assertEqual((parts["TotalPartsCount"], parts["IsTruncated"], parts["NextPartNumberMarker"]), (3, True, 2))
+        self.assertEqual([(each["PartNumber"], each["Size"]) for each in parts["Parts"]], [(1, 70_000), (2, 5)])
+        parts = self.s3.get_object_attributes(Bucket=self.bucket, Key="in parts", ObjectAttributes=["ObjectParts"], PartNumberMarker=2)["ObjectParts"]
+        self.assertEqual(([each["PartNumber"] for each in parts["Parts"]], parts["IsTruncated"]), ([3], False))
+        for number, content in ((1, b"a" * 70_000), (2, b"b" * 5), (3, b"c" * 300)):
+            found = self.s3.get_object(Bucket=self.bucket, Key="in parts", PartNumber=number)
+            self.assertEqual((found["Body"].read(), found["PartsCount"], found["ResponseMetadata"]["HTTPStatusCode"]), (content, 3, 206))
+            found = self.s3.head_object(Bucket=self.bucket, Key="in parts", PartNumber=number)
+            self.assertEqual((found["ContentLength"], found["PartsCount"]), (len(content), 3))
+        self.assertEqual(self.s3.get_object(Bucket=self.bucket, Key="known", PartNumber=1)["Body"].read(), b"hello")
+        self.fails("InvalidPartNumber", self.s3.get_object, Bucket=self.bucket, Key="in parts", PartNumber=4)
+        self.fails("InvalidRequest", self.s3.get_object, Bucket=self.bucket, Key="in parts", PartNumber=1, Range="bytes=0-1")
         self.fails("NoSuchKey", self.s3.get_object_attributes, Bucket=self.bucket, Key="none", ObjectAttributes=["ETag"])
         self.fails("InvalidArgument", self.s3.get_object_attributes, Bucket=self.bucket, Key="known", ObjectAttributes=["Anything"])
 

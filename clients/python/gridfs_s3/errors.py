@@ -30,6 +30,7 @@ ERRORS = {
     "InvalidDigest": (400, "Content-MD5 is malformed."),
     "InvalidEncryptionAlgorithmError": (400, "Nothing is encrypted here at the wish of a request."),
     "InvalidLocationConstraint": (400, "There is no such region here."),
+    "InvalidPartNumber": (416, "The requested partnumber is not satisfiable"),
     "InvalidPart": (400, "A part is not there, or has another ETag."),
     "InvalidPartOrder": (400, "The parts are not in ascending order."),
     "InvalidPolicyDocument": (400, "The policy of a form is JSON in base64, with an expiration and conditions."),

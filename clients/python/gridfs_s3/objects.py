@@ -2,7 +2,7 @@
 
 import asyncio
 import re
-from collections.abc import AsyncIterator, Awaitable, Callable, Iterator
+from collections.abc import AsyncIterator, Awaitable, Callable, Iterator, Sequence
 from contextlib import asynccontextmanager, closing, nullcontext
 
 from aiohttp import web
@@ -27,7 +27,7 @@ from .store import Body, Condition, Store
 from .trips import Elsewhere
 from .versions import HEADER as VERSION, MARKER, Place
 
-LONGEST_PUT = 5 << 30
+LONGEST_PUT, MOST_PARTS = 5 << 30, 10_000
 ATTRIBUTES = {"Checksum", "ETag", "ObjectParts", "ObjectSize", "StorageClass"}
 DIRECTIVE = "x-amz-metadata-directive"  # whose metadata an object gets: its source's (COPY), or those of this request (REPLACE)
 BREAKS = re.compile(r"[\r\n\x00]")
@@ -64,6 +64,15 @@ def brought_by(asked: Asked) -> Values:
     if asked.headers.get(DIRECTIVE, "REPLACE") != "REPLACE":  # (s3fs says so of each put)
         raise S3Error("NotImplemented", "What is no copy has the metadata that it brings.")
     return values_of(asked) | tags.in_headers(asked.headers)
+
+
+def number_in(text: str | None, default: int) -> int:
+    """The number of a header, of at most a thousand parts or so. 400 InvalidArgument."""
+    if text is None:
+        return default
+    if not re.fullmatch(r"[0-9]{1,5}", text):
+        raise S3Error("InvalidArgument")
+    return min(int(text), MOST_PARTS)
 
 
 def algorithm_wanted(asked: Asked) -> str:
@@ -106,6 +115,8 @@ def begun(asked: Asked, place: Place, found: Object, part: tuple[int, int] | Non
     headers = {**headers_of(found, asked), **place.told(found), **asked.cors, **asked.ids, "Server": SERVER, "Content-Security-Policy": "sandbox"}
     if found.checksum and not part and asked.headers.get(f"{HEADER}mode", "").upper() == "ENABLED":
         headers |= found.checksum.headers()
+    if "partNumber" in asked.query and "n" in found.values:
+        headers["x-amz-mp-parts-count"] = found.values["n"]
     if count := len(tags.among(found.values)):
         headers["x-amz-tagging-count"] = str(count)
     if part:
@@ -115,9 +126,26 @@ def begun(asked: Asked, place: Place, found: Object, part: tuple[int, int] | Non
     return response
 
 
-def expect_whole(asked: Asked) -> None:
-    if "partNumber" in asked.query:
-        raise S3Error("NotImplemented", "The parts of an object are not told apart once it is complete.")
+def part_wanted(asked: Asked) -> int:
+    """The number of the part that is asked for; 0 for the whole. 400 InvalidArgument, InvalidRequest."""
+    if "partNumber" not in asked.query:
+        return 0
+    number = asked.number("partNumber", 0, 99_999)
+    if not 1 <= number <= MOST_PARTS:
+        raise S3Error("InvalidArgument", f"partNumber is a number from 1 to {MOST_PARTS}.")
+    if "range" in asked.headers:
+        raise S3Error("InvalidRequest", "Cannot specify both Range header and partNumber query parameter")
+    return number
+
+
+def range_of_part(sizes: Sequence[int], number: int) -> tuple[int, int] | None:
+    """The bytes of a part, of parts of these sizes; None of an object that is empty. 416 InvalidPartNumber; 501 NotImplemented where they are not told apart."""
+    if not sizes:
+        raise S3Error("NotImplemented", "The parts of this object are not told apart.")
+    if number > len(sizes):
+        raise S3Error("InvalidPartNumber")
+    first = sum(sizes[: number - 1])
+    return (first, first + sizes[number - 1]) if sizes[number - 1] else None
 
 
 class IsLong(Exception):
@@ -175,6 +203,7 @@ class Get:
     def __init__(self, gateway: Gateway, asked: Asked, place: Place):
         self.gateway, self.asked, self.place = gateway, asked, place
         self.part: tuple[int, int] | None = None
+        self.number = part_wanted(asked)
         self.response: web.StreamResponse | None = None
         self.loop = asyncio.get_running_loop()
         self.has_place, self.most_in_memory = False, IN_MEMORY  # bytes that may be in memory until they are taken
@@ -184,10 +213,12 @@ class Get:
         self.stretch, self.pieces = Stretch(), list[Piece]()  # what is read at a time, and the files that are there
         self.begun, self.given, self.counted = 0.0, 0, metrics.given.labels(gateway.tenant)
 
-    def choose(self, held: Held | None) -> tuple[int, int]:
+    def choose(self, held: Held | None, store: Store | None = None) -> tuple[int, int]:
         found = self.place.expect(held)
         judge(self.asked.headers, found)
         self.part = range_wanted(self.asked.headers, found)
+        if self.number and store:
+            self.part = range_of_part(store.sizes_of_parts(found.held), self.number)
         first, end = self.part or (0, found.size)
         if end - first > (IN_MEMORY if self.asked.is_anybodys else LONG) and not self.has_place:
             self.next, self.end = first, end
@@ -221,7 +252,7 @@ class Get:
     def send(self, store: Store) -> tuple[Held, bytes] | None:
         """(A thread's.) Has what is read given; or tells it, where it is little."""
         self.stretch = Stretch(ahead_of(self.asked.is_anybodys))
-        held, parts, data = store.read(self.place.name, self.choose, self.place.is_latest, self.looked, self.stretch)
+        held, parts, data = store.read(self.place.name, lambda held: self.choose(held, store), self.place.is_latest, self.looked, self.stretch)
         first, end = self.part or (0, held.content.size)
         with closing(parts):  # (what it reads ahead ends before the session has other work)
             if len(data) == end - first <= self.most_in_memory:
@@ -235,7 +266,7 @@ class Get:
 
     async def told_by_its_line(self) -> tuple[Held, bytes] | None:
         """The object and what is wanted of it, where that stands in the line of its name, and is known of its pages as they are: no session is wanted then."""
-        if self.place.is_latest:
+        if self.place.is_latest or self.number:
             return None
         seen = await self.gateway.glance(self.place.name)
         self.looked = seen.looked
@@ -352,19 +383,37 @@ class Objects(Operations):
         """200; 206 with Range. 304 NotModified; 404 NoSuchBucket, NoSuchKey, NoSuchVersion; 405 MethodNotAllowed for a marker; 412 PreconditionFailed; 416
         InvalidRange. Where it is replaced again and again 503, or a connection that ends early."""
         place = await self.place_of(asked)
-        expect_whole(asked)
         return await Get(self.gateway, asked, place).run()
 
     async def head_object(self, asked: Asked) -> web.StreamResponse:
         """The same with no body."""
-        place = await self.place_of(asked)
-        expect_whole(asked)
+        place, number = await self.place_of(asked), part_wanted(asked)
         found = await self.found(place)
         judge(asked.headers, found)
-        response = begun(asked, place, found, range_wanted(asked.headers, found))
+        part = range_wanted(asked.headers, found)
+        if number:
+            part = range_of_part(await self.sizes_of_parts(place, found), number)
+        response = begun(asked, place, found, part)
         await response.prepare(asked.request)
         await response.write_eof()
         return response
+
+    async def sizes_of_parts(self, place: Place, found: Object) -> list[int]:
+        return await self.gateway.look(place.name, lambda store: store.sizes_of_parts(found.held))
+
+    async def object_parts(self, asked: Asked, place: Place, found: Object) -> str | None:
+        """The parts in which an object was uploaded, so many at a time; None of one that was put whole."""
+        if not (count := found.values.get("n")):
+            return None
+        headers = asked.headers
+        most, after = (number_in(headers.get(f"x-amz-{name}"), default) for name, default in (("max-parts", 1_000), ("part-number-marker", 0)))
+        numbered = list(enumerate(await self.sizes_of_parts(place, found), 1))
+        shown = numbered[after : after + most]
+        inner = [many("Part", element("PartNumber", number), element("Size", size)) for number, size in shown]
+        is_cut = "true" if shown and shown[-1] != numbered[-1] else "false"
+        last = shown[-1][0] if shown else after
+        told: dict[str, str | int] = {"PartsCount": count, "PartNumberMarker": after, "NextPartNumberMarker": last, "MaxParts": most, "IsTruncated": is_cut}
+        return many("ObjectParts", *(element(name, value) for name, value in told.items()), *inner)
 
     async def get_object_acl(self, asked: Asked) -> web.Response:
         """200: all is the tenant's. 404 NoSuchBucket, NoSuchKey, NoSuchVersion."""
@@ -378,11 +427,10 @@ class Objects(Operations):
             raise S3Error("InvalidArgument", f"x-amz-object-attributes names some of {', '.join(sorted(ATTRIBUTES))}.")
         place = await self.place_of(asked)
         found = await self.found(place)
-        count = found.values.get("n")
         told = {
             "ETag": element("ETag", found.etag),
             "Checksum": many("Checksum", *found.checksum.elements()) if found.checksum else None,
-            "ObjectParts": many("ObjectParts", element("PartsCount", count)) if count else None,
+            "ObjectParts": await self.object_parts(asked, place, found) if "ObjectParts" in wanted else None,
             "StorageClass": element("StorageClass", "STANDARD"),
             "ObjectSize": element("ObjectSize", found.size),
         }

@@ -8,7 +8,7 @@ from itertools import groupby
 
 from gridfs_client.answers import Row
 from gridfs_client.buckets import Bucket, Held, held_of
-from gridfs_client.contents import Inline, InSlots, Part
+from gridfs_client.contents import Inline, InSlots, Part, PartList
 from gridfs_client.errors import Damaged, Replaced
 from gridfs_client.in_chunks import Cut, Gone, SoFar
 from gridfs_client.layout import Layout, Slot
@@ -18,7 +18,7 @@ from gridfs_client.sessions import Files
 from gridfs_client.ways import Ground
 
 from .looker import Looked
-from .places import VERSIONS, beside, bucket_in, version_in
+from .places import VERSIONS, beside, bucket_in, number_of, of_words, version_in
 from .shared import Shared, SharedWriter
 from .trips import Elsewhere, Trip
 
@@ -140,6 +140,15 @@ class Reader(NamedFiles):
                 yield from first_pieces(pieces, stretch.most)
         else:
             yield from self.in_chunks(held, held.content.parts, first, end, stretch)
+
+    def sizes_of_parts(self, held: Held) -> list[int]:
+        """The sizes of the parts in which an object was uploaded, or its own; nothing where they are not told apart, as where one of them is empty."""
+        count, parts = number_of(of_words(held.words), "n"), held.content.parts
+        if not count:
+            return [held.content.size]
+        if any(isinstance(part, PartList) for part in parts):
+            parts = tuple(self.chunk_contents(held.name).without_lists(parts))
+        return [part.size for part in parts] if len(parts) == count else []
 
     def content_in_order(self, held: Held, first: int, end: int, so_far: SoFar) -> Generator[bytes, None, None]:
         """The same of a content of which some parts are in slots: parts in chunks, and between them those that are in slots together."""

@@ -16,14 +16,13 @@ from .copying import Copies, range_to_copy
 from .errors import S3Error, tell
 from .gateway import Operations
 from .markup import Element, document, element, many
-from .objects import LONGEST_PUT, Objects, algorithm_wanted, brought_by
+from .objects import LONGEST_PUT, MOST_PARTS, Objects, algorithm_wanted, brought_by
 from .places import Object, Part, name_of, named_in, of_words, upload_name
 from .requests import Asked, answer, iso
 from .sessions import now_ms
 from .store import Body, Store
 from .workers import who_asks
 
-MOST_PARTS = 10_000
 UPLOAD = re.compile(r"(\d{1,2})\.[0-9a-f]{24}", re.ASCII)
 
 
