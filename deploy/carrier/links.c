@@ -30,13 +30,15 @@ enum {
     STRANGERS = 32,             /* most connections of a listener that have not shown a certificate yet */
     NEWCOMERS = 100,            /* connections that a listener takes in a second; twice as many at once */
     CHAIN = 16384,              /* bytes of certificates that the other end may show */
+    AGAIN = 60,                 /* seconds until it is told once more that a number is held twice */
     ENDED = 60,                 /* seconds between two looks for certificates that have ended */
     SOON = 30,                  /* days before its end from which on a certificate is reported */
     READ = 16384,               /* bytes of a read: a TLS record */
     SHOW = 5,                   /* seconds in which a certificate has to be shown */
     SLOW = 10,                  /* seconds in which a reader has to take something */
     FILES = 200,                /* descriptors that are kept from tenants */
-    PRICE_OF_READ = 400         /* bytes that each read from a tenant adds in his rate */
+    PRICE_OF_READ = 400,        /* bytes that each read from a tenant adds in his rate */
+    PRICE_OF_GONE = 800         /* and each line of one who is gone */
 };
 
 struct link {
@@ -48,7 +50,7 @@ struct link {
     char *part;                 /* the beginning of a line */
     size_t held, room;          /* bytes of this beginning, and its room */
     double began;               /* when the certificate was shown */
-    bool skipping, is_later, is_writer, is_dead;
+    bool skipping, is_later, is_writer, is_dead, was_told;  /* was_told: that he is gone */
 };
 struct peer {                   /* a node or a tenant that is connected, or was */
     char name[NAME + 1];
@@ -64,6 +66,9 @@ struct host {                   /* another node, as the file of hosts has it */
     socklen_t length;
     struct link *link;
     double next_try, wait;
+    double latest;              /* when the latest certificate begins that it showed, in seconds since 1970 */
+    double told_second;         /* when it was told that somebody else holds its number */
+    long seconds;               /* how often somebody else held it */
     char told[120];
     bool is_there;              /* its line is in the file */
     bool is_looked_up;          /* by a thread, now */
@@ -138,6 +143,52 @@ static bool is_denied(X509 *shown) {
     return found || !digits;
 }
 
+/* Two who hold a node's number: one of them has an old journal, and what it tells may undo what was acknowledged */
+
+static struct host *known_host(const char *name) {
+    for (struct host *it = hosts; it < hosts + hosts_many; it++)
+        if (!strcmp(it->name, name)) return it;
+    return NULL;
+}
+
+static double beginning_of(X509 *shown) {
+    struct tm begin;
+    return ASN1_TIME_to_tm(X509_get0_notBefore(shown), &begin) ? (double)timegm(&begin) : 0;
+}
+
+/* The address of the other end; without the port, which each connection has its own of. */
+static void other_end(struct link *link, char text[INET6_ADDRSTRLEN]) {
+    struct sockaddr_storage at = {.ss_family = AF_UNSPEC};
+    socklen_t length = sizeof at;
+    bool known = !getpeername(link->stream.watch.fd, (struct sockaddr *)&at, &length);
+    const void *four = &((struct sockaddr_in *)&at)->sin_addr, *six = &((struct sockaddr_in6 *)&at)->sin6_addr;
+    if (!known || !inet_ntop(at.ss_family, at.ss_family == AF_INET ? four : six, text, INET6_ADDRSTRLEN)) snprintf(text, INET6_ADDRSTRLEN, "an unknown address");
+}
+
+static void tell_second(struct host *host, struct link *link, const char *what) {
+    char address[INET6_ADDRSTRLEN];
+    host->seconds++;
+    if (host->told_second && now() < host->told_second + AGAIN) return;
+    host->told_second = now();
+    other_end(link, address);
+    say("node %s is held twice: %s, at %s", host->name, what, address);
+}
+
+/* Whether a node may have its number; false where it is known by a later certificate. */
+static bool is_latest(struct link *link, struct host *host, double began) {
+    if (began < host->latest) return tell_second(host, link, "one with an earlier certificate is refused"), false;
+    host->latest = began;
+    return true;
+}
+
+/* A node comes while one of its number is linked. The other one may be itself, before its network went away. */
+static void mind_second(struct link *link, struct peer *peer) {
+    struct host *host = known_host(peer->name);
+    char here[INET6_ADDRSTRLEN], there[INET6_ADDRSTRLEN];
+    other_end(link, here), other_end(peer->of[0], there);
+    if (host && strcmp(here, there)) tell_second(host, peer->of[0], "one is left for another one, with a certificate that is no earlier");
+}
+
 /* Finds the name in the certificate of the other end; returns what is wrong with it, or NULL. */
 static const char *name_of(struct link *link, char *name, size_t room) {
     X509 *shown = SSL_get1_peer_certificate(link->stream.ssl);
@@ -145,12 +196,15 @@ static const char *name_of(struct link *link, char *name, size_t room) {
     int length = names ? X509_NAME_get_text_by_NID(names, NID_commonName, name, (int)room) : -1;
     if (names && X509_NAME_get_index_by_NID(names, NID_commonName, X509_NAME_get_index_by_NID(names, NID_commonName, -1)) >= 0) length = -1;  /* (two names are none) */
     bool wrong = shown && is_denied(shown);
+    double began = shown ? beginning_of(shown) : 0;
     X509_free(shown);
     if (length <= 0 || strlen(name) != (size_t)length || !is_name(name, (size_t)length)) return "no name";
     if (wrong) return "its certificate is denied";
     if (!strcmp(name, me)) return "it has my number";
     if (link->host && strcmp(name, link->host->name)) return "another node is there";
     if (link->listener && link->listener->for_nodes == is_tenant(name)) return "at the wrong port";
+    struct host *host = is_tenant(name) ? NULL : known_host(name);
+    if (host && !is_latest(link, host, began)) return "its number has another one with a later certificate";
     return NULL;
 }
 
@@ -170,6 +224,7 @@ static void unlink_peer(struct link *link) {
 static void welcome(struct link *link, const char *name) {
     struct peer *peer = peer_of(name, strlen(name), true);
     if (link->listener) link->listener->strangers--, link->listener = NULL;
+    if (peer && peer->many && !is_tenant(name)) mind_second(link, peer);
     if (peer && !is_tenant(name))
         while (peer->many) close_stream(&peer->of[0]->stream, "made again");
     if (!peer || peer->many >= OF_A_TENANT || (is_tenant(name) && of_tenants >= most_of_tenants)) {
@@ -314,8 +369,21 @@ static bool only_asks(const char *line, size_t length) {
     return number >= FAR;
 }
 
+static bool put(struct link *link, const char *body, size_t length);
+
+/* Who is gone by the plan is told so once, and what he brings is charged as a tenant's lines are: so it costs others no more than these do. */
+static void turn_away(struct link *link, const char *text, size_t length) {
+    charge(link->peer->queue, length + PRICE_OF_GONE * (1 + count_lines(text, length)), now());
+    if (!link->was_told && put(link, "gone", 4)) count.out++;
+    link->was_told = true;
+}
+
 static void lines(struct link *link, const char *text, size_t length) {
     struct peer *peer = link->peer;
+    if (peer->queue->gone) {
+        turn_away(link, text, length);
+        return;
+    }
     if (is_tenant(peer->name)) {
         const char *end = text + length;
         for (const char *line = text, *stop; line < end; line = stop + 1) {
@@ -844,6 +912,12 @@ const char *engine_counts(void) {
     return text;
 }
 
+static void tell_seconds(void) {
+    metric("carrier_second_holders_total", "counter", "Connections of a node whose number somebody else held.");
+    for (struct host *it = hosts; it < hosts + hosts_many; it++)
+        if (it->is_there) sample("peer", it->name, (double)it->seconds);
+}
+
 static void tell_links(void) {
     metric("carrier_link_up", "gauge", "1 where this node is linked to that node of the file of hosts.");
     for (struct host *it = hosts; it < hosts + hosts_many; it++) {
@@ -855,6 +929,7 @@ static void tell_links(void) {
 void engine_metrics(void) {
     struct tm end;
     tell_links();
+    tell_seconds();
     single("carrier_tenant_connections", "gauge", "Connections of tenants.", (double)links_of(true));
     single("carrier_refused_total", "counter", "Newcomers that were refused.", (double)refused);
     single("carrier_cut_off_total", "counter", "Connections that were ended since the other end took nothing.", (double)slow_links);

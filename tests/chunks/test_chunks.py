@@ -6,6 +6,7 @@ import subprocess
 import sys
 import unittest
 from collections import Counter
+from unittest import mock
 
 from servers import MOST, Net, Server, Servers
 
@@ -167,6 +168,22 @@ class Kept(unittest.TestCase):
         self.assertTrue(self.chunks.unneeded)
         self.assertTrue(self.chunks.forget_unneeded())
         self.assertEqual([len(self.servers.at[place].chunks) for place in (0, 2)], [2, 2])
+
+    def test_no_numbers_are_left(self):
+        """It is told at once why, and others go on."""
+        for server in self.servers.at.values():
+            server.floors[1] = (1 << 64) - 1
+        begun = self.net.now()
+        for _ in range(2):
+            with self.assertRaisesRegex(Unanswered, "session 1: nodes keep no more chunks of it"):
+                self.chunks.keep(iter([b"one"]), 0)
+        self.assertLess(self.net.now() - begun, PACE.timeout / 2)
+        self.expect_kept(client(self.net, 2).keep(iter([b"two"]), 0), [b"two"])
+
+    def test_a_line_that_is_refused_as_bad(self):
+        """Whoever waits is told so."""
+        with mock.patch.object(Server, "take", lambda *_: b"refused bad"), self.assertRaisesRegex(Unanswered, "and told `refused bad`"):
+            self.chunks.keep(iter([b"one"]), 0)
 
     def test_what_is_under_way_is_bounded(self):
         most, now = 0, {}

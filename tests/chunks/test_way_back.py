@@ -1,6 +1,9 @@
-"""The last way back: contents of each form, read from journals of nodes and the folders beside them, as far as a copy of them is left."""
+"""The last way back: contents of each form, read from journals of nodes and the folders beside them, as far as a copy
+of them is left.
+"""
 
 import contextlib
+import filecmp
 import hashlib
 import io
 import os
@@ -24,6 +27,7 @@ from gridfs_client.streams import Source
 from in_slots import OldClient
 
 IN_JOURNAL, IN_SEGMENT = 40, 3  # bytes of a chunk that is no longer than that, and chunks of a segment
+FORMS = {"a/none": b"", "a/page": b"short", "one chunk": b"x" * SHORT, "in the journal": b"\\ and\n" * 6}
 LONG, PARTS = os.urandom(350), [os.urandom(130), os.urandom(SHORT), b"\\ \n" * 9]
 
 
@@ -50,7 +54,8 @@ class Disk:
         return os.path.join(self.path + ".shelf", f"{number:010}")
 
     def keep_file(self, place, copy):
-        self.append(b"kept ann %d %d %d %d " % (*place, copy.tag.number, copy.tag.session) + in_bytes(copy.content) + b"\n")
+        head = b"kept ann %d %d %d %d " % (*place, copy.tag.number, copy.tag.session)
+        self.append(head + in_bytes(copy.content) + b"\n")
 
     def keep(self, key, content, sure=1):
         if len(content) <= IN_JOURNAL:
@@ -62,7 +67,8 @@ class Disk:
             at = out.tell()
             out.write(content)
         self.at[key] = self.segment, at, content
-        self.append(b"extent ann %d %d %d %d %d %d %d\n" % (*key, sure, self.segment, at, len(content), sum_of(at, content)))
+        numbers = *key, sure, self.segment, at, len(content), sum_of(at, content)
+        self.append(b"extent ann %d %d %d %d %d %d %d\n" % numbers)
 
     def move(self):
         """All chunks go to other segments, and the old ones go."""
@@ -108,10 +114,13 @@ class Cases(unittest.TestCase):
                 server.is_up = True
 
     def put_all_forms(self):
-        """A content of each form: in the page, in slots, in one chunk, in several, in the journal's, in parts, and in parts that a list names; one put over, and a removal."""
-        for name, content in {"a/none": b"", "a/page": b"short", "one chunk": b"x" * SHORT, "in the journal": b"\\ and\n" * 6, "several": LONG}.items():
+        """A content of each form: in the page, in slots, in one chunk, in several, in the journal's, in parts, and in
+        parts that a list names; one put over, and a removal.
+        """
+        for name, content in FORMS.items():
             self.put(1, name, content)
             self.put(2, f"{name} of another", content[::-1])
+        self.put(1, "several", LONG)
         self.put(1, "over", LONG)
         self.put(1, "over", LONG[::-1])
         self.put(2, "gone", LONG)
@@ -127,14 +136,16 @@ class Cases(unittest.TestCase):
         contents = files.writer.contents
         parts = [contents.put(Source(each), at % 2, lambda *_: None) for at, each in enumerate(PARTS)]
         listed = [contents.put_list([(part, f"{{{at}}}") for at, part in enumerate(parts)], 0)] if in_lists else []
+        behind = contents.put(Source(PARTS[0]), 1, lambda *_: None)
         bucket = files.bucket(name)
         bucket.look()
-        files.commit(bucket, name, joined([*listed, *parts[:1]] if in_lists else parts))
+        files.commit(bucket, name, joined([*listed, behind] if in_lists else parts))
         self.held[name] = b"".join([*PARTS, *(PARTS[:1] if in_lists else [])])
 
     def plan(self):
         opened = "".join(f"ann open {volume.files} {volume.blocks}\n" for volume in self.world.layout.volumes)
-        return f"grid 2 2\nroom 9000\ntenant bob 10 1 9 16\ntenant ann 900 {self.world.layout.sessions} 9 64\ngo\nbob open 1 1\n{opened}ann chunks 100\n"
+        tenants = f"tenant bob 10 1 9 16\ntenant ann 900 {self.world.layout.sessions} 9 64\n"
+        return f"grid 2 2\nroom 9000\n{tenants}go\nbob open 1 1\n{opened}ann chunks 100\n"
 
     def disks(self, sure=1):
         """The disks of four nodes: pages stand at all nodes of column 0."""
@@ -152,18 +163,27 @@ class Cases(unittest.TestCase):
     def get(self, *numbers, more=()):
         out = os.path.join(self.folder, "out")
         shutil.rmtree(out, ignore_errors=True)
-        with contextlib.redirect_stderr(io.StringIO()) as why, contextlib.redirect_stdout(io.TextIOWrapper(io.BytesIO())) as told:
-            status = journals_command.main(["get", *more, "ann", out, *(os.path.join(self.folder, str(number)) for number in numbers)])
-            told.flush()
+        status, _, why = self.command("get", *more, "ann", out, *(self.at(number) for number in numbers))
         found = {}
         for inside, _, names in os.walk(out):
             for name in names:
                 with open(os.path.join(inside, name), "rb") as file:
                     found[os.path.relpath(os.path.join(inside, name), out)] = file.read()
-        return status, found, why.getvalue()
+        return status, found, why
+
+    def at(self, name):
+        return os.path.join(self.folder, str(name))
+
+    def command(self, *words):
+        told = io.TextIOWrapper(io.BytesIO())
+        with contextlib.redirect_stderr(io.StringIO()) as why, contextlib.redirect_stdout(told):
+            status = journals_command.main(words)
+            told.flush()
+        return status, told.buffer.getvalue(), why.getvalue()
 
     def chunks_of(self, name):
-        return [place for run in self.world.client(1).writer.contents.runs_in(self.content_of(name).parts) for place in run.places()]
+        runs = self.world.client(1).writer.contents.runs_in(self.content_of(name).parts)
+        return [place for run in runs for place in run.places()]
 
     def content_of(self, name):
         bucket = self.world.client(1).bucket(name)
@@ -199,7 +219,8 @@ class Reading(Cases):
         for column in (0, 1):
             self.put_to(column, f"at {column}", LONG)
         self.disks()
-        whole = {name for name in self.held if name == "slots" or all(column == 0 for column, _, _ in self.chunks_of(name))}
+        is_here = lambda name: all(column == 0 for column, _, _ in self.chunks_of(name))
+        whole = {name for name in self.held if name == "slots" or is_here(name)}
         lost = sorted(self.held.keys() - whole)
         self.assertTrue({"at 1", "parts", "listed"} <= set(lost) and "at 0" in whole)
         status, found, told = self.get(0, 2)
@@ -207,7 +228,8 @@ class Reading(Cases):
         for name in lost:
             self.assertIn(f"/out/{name}: {name}: no copy of chunk ", told)
         self.assertIn("no journal here is of that column", told)
-        self.assertIn(f"gridfs-journals: {len(lost)} skipped; of {len(lost)} of them no journal and folder here has a whole copy\n", told)
+        counted = f": {len(lost)} skipped; of {len(lost)} of them no journal and folder here has a whole copy\n"
+        self.assertIn(counted, told)
 
     def test_copies_without_folders(self):
         self.put_all_forms()
@@ -230,7 +252,8 @@ class Reading(Cases):
         second.turn_bytes(tuple(key))
         status, found, told = self.get(0, 1, 2, 3)
         self.assertEqual((status, found), (9, {"other": LONG}))
-        self.assertIn(f": name: no copy of chunk {key[1]} of session 1 at column {column}: damaged at node {column}; damaged at node {2 + column}\n", told)
+        both = f"damaged at node {column}; damaged at node {2 + column}"
+        self.assertIn(f": name: no copy of chunk {key[1]} of session 1 at column {column}: {both}\n", told)
 
     def test_copies_that_are_alone(self):
         """Each node of a column has lost other segments: what is whole together is got."""
@@ -293,7 +316,8 @@ class Reading(Cases):
             disk.append(b"extent bob 1 7 1 9 0 50 98\nchunk bob 1 8 1 =x\n")
         self.assertEqual(self.get(0, 1), (0, self.held, ""))
         for disk in (0, 1):
-            Disk(os.path.join(self.folder, f"later {disk}"), disk, self.plan().replace("tenant ann", "tenant eve").replace("\nann ", "\neve ") + "gone ann\n")
+            later = self.plan().replace("tenant ann", "tenant eve").replace("\nann ", "\neve ") + "gone ann\n"
+            Disk(self.at(f"later {disk}"), disk, later)
         status, found, told = self.get("later 0", "later 1")
         self.assertEqual((status, found), (2, {}))
         self.assertIn("the journals have no tenant ann", told)
@@ -317,7 +341,8 @@ class Mirrors(Cases):
             yield files
             files.close()
 
-        return kind(os.path.join(self.folder, "mirror"), "", names, lambda _: 0, lambda *_: None, self.fail, **wishes).run()
+        tell = lambda *_: None
+        return kind(self.at("mirror"), "", names, lambda _: 0, tell, self.fail, **wishes).run()
 
     def test_what_was_put_in_parts_is_not_moved_again(self):
         self.put_all_forms()
@@ -344,11 +369,13 @@ class Mirrors(Cases):
             self.assertEqual(told_of(entries[name]).get("sha256", whole), whole)
             told, begin = self.world.client(2).parts(name), 0
             for part in told:
-                self.assertEqual((part.is_list, part.sha256), (False, hashlib.sha256(content[begin : begin + part.size]).hexdigest()))
+                own = hashlib.sha256(content[begin : begin + part.size]).hexdigest()
+                self.assertEqual((part.is_list, part.sha256), (False, own))
                 begin += part.size
             self.assertEqual((begin, len(told)), (len(content), 3 if name == "parts" else 4 if name == "listed" else 1))
         self.assertEqual([part["size"] for part in told_of(entries["parts"])["parts"]], list(map(len, PARTS)))
-        self.assertEqual([sorted(part) for part in told_of(entries["listed"])["parts"]], [["list_sha256", "size"], ["sha256", "size"]])
+        words = [sorted(part) for part in told_of(entries["listed"])["parts"]]
+        self.assertEqual(words, [["list_sha256", "size"], ["sha256", "size"]])
 
 
 class Copies(Cases):
@@ -356,13 +383,15 @@ class Copies(Cases):
 
     def by_stream(self, number, had=True):
         """The bytes that went to a copy; what is told where it is refused."""
-        source, target, stream = os.path.join(self.folder, str(number)), os.path.join(self.folder, "copies", str(number)), io.BytesIO()
-        copies.write_stream(source, stream, segments_in(os.path.join(target, "journal.shelf")) if had else {})
+        target, stream = self.at(f"copies/{number}"), io.BytesIO()
+        copies.write_stream(self.at(number), stream, segments_in(f"{target}/journal.shelf") if had else {})
         stream.seek(0)
         return copies.take_stream(stream, target)
 
     def test_streams(self):
-        """A stream makes the same copy, a later one brings what is new, and one that ends early leaves a copy that can be gone on with."""
+        """A stream makes the same copy, a later one brings what is new, and one that ends early leaves a copy that
+        can be gone on with.
+        """
         self.put_all_forms()
         disks = self.disks()
         first = [self.by_stream(disk.number) for disk in disks]
@@ -372,7 +401,7 @@ class Copies(Cases):
             disk.keep((2, 90), b"z" * SHORT)
         self.assertLess(self.by_stream(0), 2 * first[0])
         stream = io.BytesIO()
-        copies.write_stream(os.path.join(self.folder, "1"), stream, segments_in(os.path.join(self.folder, "copies", "1", "journal.shelf")))
+        copies.write_stream(self.at(1), stream, segments_in(self.at("copies/1/journal.shelf")))
         whole = stream.getvalue()
         before = self.get(*[f"copies/{number}/journal" for number in (2, 3)])
         self.assertEqual(before, (0, self.held, ""))
@@ -405,11 +434,9 @@ class Copies(Cases):
         self.assertEqual(copies.parse_had("0000000001 70\n0000000012 5\n"), {1: 70, 12: 5})
 
     def copy(self, number, status=0):
-        with contextlib.redirect_stderr(io.StringIO()) as why, contextlib.redirect_stdout(io.TextIOWrapper(io.BytesIO())) as told:
-            seen = journals_command.main(["copy", os.path.join(self.folder, str(number)), os.path.join(self.folder, "copies", str(number))])
-            told.flush()
-        self.assertEqual(seen, status, why.getvalue())
-        return int(told.buffer.getvalue().split(b"segments; ")[1].split()[0]) if status == 0 else why.getvalue()
+        seen, told, why = self.command("copy", self.at(number), self.at(f"copies/{number}"))
+        self.assertEqual(seen, status, why)
+        return int(told.split(b"segments; ")[1].split()[0]) if status == 0 else why
 
     def from_copies(self, *numbers):
         return self.get(*(f"copies/{number}/journal" for number in numbers))
@@ -421,9 +448,9 @@ class Copies(Cases):
         self.put_all_forms()
         for disk in self.disks():
             self.copy(disk.number)
-            found = {name: os.stat(os.path.join(disk.path + ".shelf", name)).st_ino for name in self.in_copy(disk.number)}
-            shared = [name for name, inode in found.items() if os.stat(os.path.join(self.folder, "copies", str(disk.number), "journal.shelf", name)).st_ino == inode]
-            self.assertEqual(sorted(found), sorted(os.listdir(disk.path + ".shelf")))
+            found, copied = self.in_copy(disk.number), self.at(f"copies/{disk.number}/journal.shelf")
+            shared = [name for name in found if os.path.samefile(f"{disk.path}.shelf/{name}", f"{copied}/{name}")]
+            self.assertEqual(found, sorted(os.listdir(disk.path + ".shelf")))
             self.assertNotIn(max(found), shared)  # (it grows)
         for row in ((0, 1), (2, 3)):
             self.assertEqual(self.from_copies(*row), (0, self.held, ""))
@@ -451,8 +478,8 @@ class Copies(Cases):
                 disk.keep((2, 90 + number), b"z" * SHORT)
             self.copy(disk.number)
             for name in self.in_copy(disk.number):
-                with open(os.path.join(disk.path + ".shelf", name), "rb") as own, open(os.path.join(self.folder, "copies", str(disk.number), "journal.shelf", name), "rb") as copied:
-                    self.assertEqual(copied.read(), own.read())
+                copied = self.at(f"copies/{disk.number}/journal.shelf/{name}")
+                self.assertTrue(filecmp.cmp(f"{disk.path}.shelf/{name}", copied, shallow=False))
 
     def test_where_nothing_can_be_shared(self):
         self.put_all_forms()
@@ -495,8 +522,7 @@ class Copies(Cases):
                     raise KeyboardInterrupt
 
             with mock.patch("gridfs_client.copies.like", then_killed):
-                with contextlib.redirect_stdout(io.TextIOWrapper(io.BytesIO())):
-                    status = journals_command.main(["copy", os.path.join(self.folder, "0"), os.path.join(self.folder, "copies", "0")])
+                status = self.command("copy", self.at(0), self.at("copies/0"))[0]
             self.copy(0)
             self.copy(1)
             self.assertEqual(self.from_copies(0, 1), (0, self.held, ""))

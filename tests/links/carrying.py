@@ -251,19 +251,47 @@ def a_denied_one_stays_out(program, folder):
         carry.end()
 
 
+MOST_UNREAD = 16 << 20  # bytes that the buffers of a connection hold at most
+
+
 def who_is_gone_is_told(program, folder):
+    """Once on each connection; and what he brings is charged, so that he is not read as fast as he sends."""
     fresh(program, folder).end()
     with open(os.path.join(folder, "plan"), "w", encoding="ascii") as out:
         out.write(LATER)
     carry = Carry(program, folder).ready()
     try:
-        with come(carry, "ann") as ann, come(carry, "bob") as bob:
+        with come(carry, "ann") as ann, come(carry, "bob") as bob, come(carry, "bob") as again:
             bob.sendall(b"plan\nread 1 1 0 0\n"), ann.sendall(b"plan\n")
             carry.gets(b"0 ann plan")
-            check(hear(bob, 2) == [b"gone", b"gone"], "who is gone is told something else")
+            check(hear(bob) == [b"gone"], "who is gone is told something else")
+            again.sendall(b"plan\n")
+            check(hear(again) == [b"gone"], "he is not told so on another connection")
             check(not any(line.startswith(b"0 bob ") for line in carry.lines()), "the node is given lines of who is gone")
+            check(taken_of(bob, b"plan\n" * 20_000, 4) < MOST_UNREAD, "what he brings is not charged")
+            ann.sendall(b"plan\n")
+            carry.gets(b"0 ann plan")
+            again.settimeout(1)
+            check(not is_told_more(again), "he is told so again")
     finally:
         check(carry.end() == 0, carry.told())
+
+
+def taken_of(made, data, seconds):
+    """How many bytes are taken of this, again and again, in so many seconds, or until they are more than buffers hold."""
+    count, until = 0, time.monotonic() + seconds
+    made.settimeout(0.2)
+    while time.monotonic() < until and count < MOST_UNREAD:
+        with contextlib.suppress(TimeoutError):
+            count += made.send(data)
+    return count
+
+
+def is_told_more(made):
+    try:
+        return bool(made.recv(100))
+    except TimeoutError:
+        return False
 
 
 def who_is_dialed(program, folder):
@@ -428,6 +456,49 @@ def nodes_are_linked(program, folder):
     finally:
         for node in nodes:
             node.end()
+
+
+def a_number_that_is_held_twice(program, folder):
+    """Of two who hold a node's number the one with the later certificate is it, whoever came last, also while it is
+    away. It is told and counted.
+    """
+    path = os.path.join(folder, "metrics")
+    carry = fresh(program, folder, PLAN, NODE, "--metrics", path)
+    named = lambda context, address="127.0.0.1": context.wrap_socket(
+        socket.create_connection(("127.0.0.1", carry.for_nodes), 5, (address, 0)), server_hostname="node0"
+    )
+    counted = lambda told: told.of("carrier_second_holders_total", 'peer="1"')
+    try:
+        early = context_of(carry.links, "1")
+        time.sleep(1.1)  # (certificates begin at a whole second)
+        for ending in ("crt", "key"):
+            os.unlink(os.path.join(carry.links, "secret", f"1.{ending}"))
+        set_up(folder)
+        late = context_of(carry.links, "1")
+        first = named(early)
+        wait_for(lambda: "node 0 is linked to node 1" in carry.told(), carry.told())
+        first.settimeout(5)
+        second = named(late)
+        check(has_ended(first), "who has the earlier certificate stays")
+        check("held twice" not in carry.told(), f"a renewed certificate is told: {carry.told()}")
+        check(is_refused(lambda: named(early)), "who has the earlier certificate takes over")
+        wait_for(lambda: "node 1 is held twice: one with an earlier certificate is refused, at " in carry.told(), carry.told())
+        second.sendall(b"still here\n")
+        carry.gets(b"0 1 still here")
+        carry.tells(path, lambda told: counted(told) == 1, "it is not counted")
+        second.close()
+        wait_for(lambda: "is not linked to node 1 any more" in carry.told(), carry.told())
+        check(is_refused(lambda: named(early)), "who has the earlier certificate comes once the other one is away")
+        third = named(late)
+        third.sendall(b"once more\n")
+        carry.gets(b"0 1 once more")
+        other = named(late, "127.0.0.2")
+        other.sendall(b"from another address\n")
+        carry.gets(b"0 1 from another address")
+        carry.tells(path, lambda told: counted(told) == 3, "one from another address is not counted")
+        other.close(), third.close()
+    finally:
+        carry.end()
 
 
 def a_still_node(program, folder):
@@ -1050,5 +1121,5 @@ def metrics_as_prometheus_reads(program, folder):
         carry.end()
 
 
-CHECKS = [odd_files, hosts_amid_a_write, its_own_ports, another_authority, costly_ones, who_may_come, a_denied_one_stays_out, who_is_gone_is_told, who_is_dialed, lines_are_whole, answers_go_home, chunks_go_home, a_tenant_who_takes_his_time, nodes_are_linked, a_still_node, ticks, ticks_while_a_node_is_silent, a_burst, long_answers, a_slow_reader, too_many, long_lines, what_a_tenant_of_many_volumes_has, its_end, its_words, ends_soon, a_first_line_behind_a_handshake, a_slow_name, a_name_of_two_addresses, a_node_that_does_not_end, what_a_denied_one_said, metrics_are_true, forms_are_told, metrics_are_whole]
+CHECKS = [odd_files, hosts_amid_a_write, its_own_ports, another_authority, costly_ones, who_may_come, a_denied_one_stays_out, who_is_gone_is_told, who_is_dialed, lines_are_whole, answers_go_home, chunks_go_home, a_tenant_who_takes_his_time, nodes_are_linked, a_number_that_is_held_twice, a_still_node, ticks, ticks_while_a_node_is_silent, a_burst, long_answers, a_slow_reader, too_many, long_lines, what_a_tenant_of_many_volumes_has, its_end, its_words, ends_soon, a_first_line_behind_a_handshake, a_slow_name, a_name_of_two_addresses, a_node_that_does_not_end, what_a_denied_one_said, metrics_are_true, forms_are_told, metrics_are_whole]
 LONG_CHECKS = [metrics_as_prometheus_reads, forms_are_told_again]

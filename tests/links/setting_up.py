@@ -91,6 +91,13 @@ def what_it_denies(_, folder):
     set_up(folder, LOST)
     set_up(folder, LOST, "--deny", "1")
     check({first["1"], second["1"]} <= set(denied(links)) and len(denied(links)) == 4, f"denied are {denied(links)}")
+    here = numbers(links)
+    check(set_up_status(folder, "--deny", "0", "--deny", "zed", "links", "plan")[0] == 1, "a name without a certificate is denied")
+    check(numbers(links) == here, "some are denied, and one has no certificate")
+    set_up(folder, LOST, "--deny", "0", "--deny", "bob")
+    check({here["0"], here["bob"]} <= set(denied(links)), f"not all who were named are denied: {denied(links)}")
+    check(all(numbers(links)[name] != here[name] for name in ("0", "bob")), "no new certificates")
+    check(all(numbers(links)[name] == here[name] for name in ("65", "ann")), "others have new certificates")
     check(numbers(links).keys() == {"0", "65", "ann", "bob"}, f"there are certificates of {sorted(numbers(links))}")
 
 

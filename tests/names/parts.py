@@ -22,6 +22,7 @@ import planted
 import registers
 import splitting
 import trial
+import way_back
 import with_room
 import worlds
 from installed import missing

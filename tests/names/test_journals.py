@@ -1,9 +1,11 @@
 """Journals of nodes, read as files: which copies count, what can't be read, and what tenants have by them."""
 
+import ast
 import contextlib
 import io
 import os
 import random
+import re
 import sys
 import tempfile
 import unittest
@@ -16,6 +18,7 @@ from gridfs_client.errors import BadFile, BadSettings
 from gridfs_client.journals import Journals
 from gridfs_client.usage import usage_of
 
+TOP = os.path.join(os.path.dirname(os.path.abspath(__file__)), "..", "..")
 SESSIONS = 3
 
 
@@ -55,6 +58,31 @@ class Recorded(Memory):
         for node in (self.nodes[column], self.nodes[2 + column]):
             node.keep("ann", write.place, tag, write.content, self.draw.choice(("kept", "had")))
         return tag
+
+
+class Readers(unittest.TestCase):
+    """Who adds a form of a content finds all who read contents in docs/A_LINE.md."""
+
+    FORMS = {"Inline", "InSlots", "InChunks", "PartList", "Joined", "PartTold", "ReadContents", "ChunkContents"}
+
+    def readers_in(self, package):
+        folder = os.path.join(TOP, "clients", "python", package)
+        found = {"contents.py"} & set(os.listdir(folder))
+        for name in os.listdir(folder):
+            if name.endswith(".py") and name != "__init__.py":
+                with open(os.path.join(folder, name), encoding="utf-8") as file:
+                    tree = ast.parse(file.read())
+                imports = [node for node in ast.walk(tree) if isinstance(node, ast.ImportFrom)]
+                imported = {each.name for node in imports for each in node.names}
+                found |= {name} if imported & self.FORMS else set()
+        return found
+
+    def test_the_page_has_them_all(self):
+        with open(os.path.join(TOP, "docs", "A_LINE.md"), encoding="utf-8") as file:
+            (line,) = [line for line in file if line.startswith("- *A form of a content:*")]
+        of_client, _, of_gateway = line.partition(";")[0].partition("of the gateway")
+        for told, package in ((of_client, "gridfs_client"), (of_gateway, "gridfs_s3")):
+            self.assertEqual(set(re.findall(r"`(\w+\.py)`", told)), self.readers_in(package))
 
 
 class Cases(unittest.TestCase):

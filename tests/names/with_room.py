@@ -24,9 +24,9 @@ SHORT = b"as small as a word is"
 class Grid:
     """A grid in the folder `grid`, whose nodes can be killed and started."""
 
-    def __init__(self, program, plan=PLAN):
+    def __init__(self, program, plan=PLAN, *more):
         with open("told", "wb") as told:
-            words = [os.path.join(TOP, "grid"), "--lines", "--program", program, "--plan", plan, "grid"]
+            words = [os.path.join(TOP, "grid"), "--lines", *more, "--program", program, "--plan", plan, "grid"]
             self.process = subprocess.Popen(words, stdin=subprocess.PIPE, stdout=told, stderr=told)
         until = time.monotonic() + SECONDS
         while b"nodes are up" not in self.told():
@@ -48,8 +48,8 @@ class Grid:
 
 
 @contextlib.contextmanager
-def grid_of(program, plan=PLAN):
-    started = Grid(program, plan)
+def grid_of(program, plan=PLAN, *more):
+    started = Grid(program, plan, *more)
     try:
         yield started
     finally:

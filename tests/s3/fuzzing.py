@@ -53,6 +53,7 @@ HEADERS = {
     "x-amz-checksum-crc32": ["AAAAAA==", "x", ""], "x-amz-checksum-crc64nvme": ["AAAAAAAAAAA="], "x-amz-checksum-sha1": ["x"], "x-amz-checksum-sha256": ["x"], "x-amz-checksum-algorithm": ["CRC32", "x"], "x-amz-sdk-checksum-algorithm": ["CRC32", "x"],
     "x-amz-decoded-content-length": ["0", "5", "x", "-1", "99999999999999999999"], "x-amz-trailer": ["x-amz-checksum-crc32", "x", ",,"], "x-amz-acl": ["private", "public-read"], "x-amz-storage-class": ["STANDARD", "GLACIER"],
     "x-amz-expected-bucket-owner": ["carol", "dave"], "x-amz-mp-object-size": ["0", "5", "x"], "x-amz-tagging": ["a=b"], "Expect": ["100-continue", "x"], "Accept-Encoding": ["gzip"], "Connection": ["close", "keep-alive", "Upgrade"], "Upgrade": ["websocket"],
+    "Access-Control-Request-Method": ["PUT", "x"], "Access-Control-Request-Headers": [",".join(f"x-{number}" for number in range(count)) for count in (1, 100, 101, 2_000)],
     "Cookie": ["a=b"], "Origin": ["http://a"], "X-Forwarded-For": ["1.2.3.4"], "X-Front-Expect": ["100-continue"], "x-amz-server-side-encryption": ["AES256"],
 }  # fmt: skip
 PAYLOADS = ["UNSIGNED-PAYLOAD"] * 12 + ["STREAMING-UNSIGNED-PAYLOAD-TRAILER"] * 4 + ["STREAMING-AWS4-HMAC-SHA256-PAYLOAD", "STREAMING-AWS4-HMAC-SHA256-PAYLOAD-TRAILER", "0" * 64, "x", ""]
@@ -62,6 +63,8 @@ TREES = [
     "<Tagging><TagSet><Tag><Key>a</Key><Value>b</Value></Tag></TagSet></Tagging>", "<VersioningConfiguration><Status>Enabled</Status></VersioningConfiguration>",
     "<LifecycleConfiguration><Rule><Status>Enabled</Status><Prefix/><Expiration><Days>1</Days></Expiration></Rule></LifecycleConfiguration>", '<?xml version="1.0" encoding="UTF-8"?><Delete xmlns="http://s3.amazonaws.com/doc/2006-03-01/"><Object><Key>&#233;&lt;</Key></Object></Delete>',
 ]  # fmt: skip
+TREES += [f"<Delete>{'<Quiet/>' * count}</Delete>" for count in (4_000, 50_000)]
+TREES += ["".join(["<CompleteMultipartUpload>", *(f"<Part><PartNumber>{number}</PartNumber><ETag>x</ETag></Part>" for number in range(1, 10_002)), "</CompleteMultipartUpload>"])]
 PIECES = ["<a>", "</a>", "<", ">", "&", "&amp;", "&x;", "&#0;", "<!--", "-->", "<![CDATA[x]]>", "<!DOCTYPE a>", "<?x?>", "\x00", "é", "k" * 1_100, "<Object><Key>k</Key></Object>" * 30, "-1", "10001", "9" * 5_000, "٣"]
 
 
@@ -85,6 +88,8 @@ def target(draw, upload):
     path = draw.choice(PATHS)
     if draw.random() < 0.03:
         path = "/one/" + quote(bytes(draw.randrange(256) for _ in range(draw.randrange(40))))
+    if draw.random() < 0.02:
+        words += [(f"a{number}", "1") for number in range(draw.choice((150, 300, 3_000)))]
     text = "&".join(f"{word}={value}" if draw.random() < 0.9 else word for word, value in words)
     return path + (("&" if "?" in path else "?") + text if text else "")
 
@@ -94,7 +99,10 @@ def body(draw, payload):
     if payload.startswith("STREAMING"):
         content = draw.choice((b"", b"hello", b"x" * 70_000))
         sign = b";chunk-signature=" + b"0" * 64 if "AWS4" in payload else b""
-        data = (b"%x%s\r\n%s\r\n" % (len(content), sign, content) if content else b"") + b"0" + sign + b"\r\n" + (b"x-amz-checksum-crc32:AAAAAA==\r\n" if "TRAILER" in payload else b"") + b"\r\n"
+        size, end = draw.choice((1, 100, 8_192, 65_536, 70_000)), draw.choice((b"\r\n", b"\n", b"\r\n" * 20))
+        chunks = [content[at : at + size] for at in range(0, len(content), size)]
+        data = b"".join(b"%x%s\r\n%s\r\n" % (len(each), sign, each) for each in chunks) + b"0" + sign + b"\r\n"
+        data += (b"x-amz-checksum-crc32:AAAAAA==" + end if "TRAILER" in payload else b"") + b"\r\n"
         return draw.changed(data, [b"\r\n", b"0", b"ffffffff", b":", b";", b"\xff", b"x" * 5_000]) if kind < 0.5 else data
     if kind < 0.4:
         return b""

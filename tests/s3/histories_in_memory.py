@@ -112,7 +112,7 @@ class Objects:
         for number, part in ((1, b"x" * 50), (3, content[half:]), (2, b"left out"), (1, content[:half])):
             store.put_part(upload, number, Body(part), 5)
         found = {part.number: where for part, where in store.uploaded(store.upload(upload))}
-        store.complete(upload, Target(name), values, [found[1], found[3]], None)
+        store.complete(upload, Target(name), lambda: values, [found[1], found[3]], None)
 
     def change_words(self, name, values):
         """Gives a content other words where it stands, if it is there still: that changes nothing of it. (Beside another gateway it would be one

@@ -102,7 +102,7 @@ class Objects:
 
     def complete(self, store, upload, name, values):
         held = store.own_upload(upload)
-        store.complete(upload, Target(name), values, [where for _, where in store.uploaded(held)], None)
+        store.complete(upload, Target(name), lambda: values, [where for _, where in store.uploaded(held)], None)
 
     def remove(self, name):
         if not self.do(name, lambda store: store.delete(name)):

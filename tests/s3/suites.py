@@ -31,7 +31,6 @@ NOT_OF_MINIO = {
         " testSSES3EncryptedGetObjectReadAtFunctional testSSES3EncryptedGetObjectReadSeekFunctional testEncryptedSSES3ToSSES3CopyObject testEncryptedSSES3ToUnencryptedCopyObject"
         " testUnencryptedToSSES3CopyObject testUnencryptedToSSES3CopyObjectPart testSSES3EncryptedToUnencryptedCopyPart testSSES3EncryptedToSSES3CopyObjectPart"
     ),
-    "buckets in another region": "testMakeBucketError testMakeBucketRegions",
     "other storage classes": "testStorageClassMetadataPutObject testStorageClassMetadataCopyObject testListObjects",
     "ACLs": "testGetObjectACLContext",
     "policies that let list": "testFunctional",

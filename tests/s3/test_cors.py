@@ -91,6 +91,15 @@ class Browsers(unittest.TestCase):
         self.s3.delete_bucket_cors(Bucket="again")
         self.assertEqual(self.leave("https://shop.example", "GET", path="/again/a")[0], 403)
 
+    def test_long_rules(self):
+        """What a browser asks is compared with each: so both have bounds, and the rules that are there stay."""
+        rules = [{"AllowedOrigins": ["*"], "AllowedMethods": ["GET"], "AllowedHeaders": [f"x-{number:08}-{'y' * 80}" for number in range(900)]}]
+        with self.assertRaisesRegex(ClientError, "MalformedXML"):
+            self.s3.put_bucket_cors(Bucket="some", CORSConfiguration={"CORSRules": rules})
+        self.assertEqual(self.s3.get_bucket_cors(Bucket="some")["CORSRules"], RULES)
+        for count, status in ((100, 403), (101, 400)):
+            self.assertEqual(self.leave("https://nobody.example", "DELETE", ",".join(f"x-{number}" for number in range(count)))[0], status)
+
     def test_leave(self):
         """By origin, method and headers of one rule; nobody learns what is there."""
         shop = "https://shop.example"

@@ -32,6 +32,7 @@ from gridfs_client.pages import check_words
 from gridfs_client.settings import Settings
 from gridfs_s3 import checksums, markup, setting_up, signing, tags
 from gridfs_s3.bodies import Body
+from gridfs_s3 import bounds
 from gridfs_s3.bounds import IN_MEMORY, LONG, MOST_IN_MEMORY, Spool
 from gridfs_s3.copying import range_to_copy
 from gridfs_s3.errors import S3Error
@@ -500,6 +501,24 @@ class Room(Case):
             self.assertEqual(same, [False])
             self.assertRaises(ValueError, use, spool)
 
+    def test_disk(self):
+        """Whoever holds much leaves some of the disk to those who hold little, and has little read ahead."""
+        disk = types.SimpleNamespace(f_frsize=1, f_bavail=0, f_blocks=400 << 20)
+        with mock.patch.object(os, "fstatvfs", lambda _: disk), mock.patch.object(Spool, "held", 0):
+            for held, least in ((0, bounds.LEFT), (bounds.OWN, bounds.LEAST_TO_OTHERS), (1 << 40, bounds.LEAST_TO_OTHERS)):
+                spool = Spool()
+                Spool.held, disk.f_bavail = held, least
+                self.assertRaises(S3Error, spool.add, b"more")
+                disk.f_bavail = least + 4
+                spool.add(b"more")
+                self.assertEqual(Spool.held, held + 4)
+                spool.close()
+                spool.close()
+                self.assertEqual(Spool.held, held)
+            self.assertEqual([bounds.left_to_others(bounds.OWN + 1, size << 30) for size in (8, 40, 4_000)], [512 << 20, 2_560 << 20, 4 << 30])
+            told = [(Spool.held, bounds.ahead_of(False), bounds.ahead_of(True)) for Spool.held in (0, bounds.HELD + 1)]
+            self.assertEqual(told, [(0, 16 << 20, 1 << 20), (bounds.HELD + 1, 1 << 20, 1 << 20)])
+
     def test_memory(self):
         """So many answers of up to a MiB may be in memory at a time, and no longer ones. Each leaves, however it ends, and once it is in a file."""
         gateway, under_way = types.SimpleNamespace(in_memory=0, tenant="carol"), list[int]()
@@ -533,17 +552,24 @@ class Room(Case):
 
 class Sessions(Case):
     def test_who_has_fewest_is_next(self):
-        """So who asks for much has others wait for one of his requests only. Among equals it goes by turns."""
+        """So who asks for much has others wait for one of his requests only, by however many URLs. Among equals it goes by turns."""
+        ANN = "ann", ""
 
         async def scenario():
             pool = Pool(Settings({}), Lending(), Turns())
-            pool.workers = {number: types.SimpleNamespace(number=number, is_busy=True, is_silent=False, who="ann") for number in (1, 2)}
-            wanted = [Wanted(None, pool.loop.create_future(), who) for who in ("ann", "ann", "bob", "bob")]
+            pool.workers = {number: types.SimpleNamespace(number=number, is_busy=True, is_silent=False, who=ANN) for number in (1, 2)}
+            wanted = [Wanted(None, pool.loop.create_future(), who) for who in (ANN, ANN, ("bob", "one URL"), ("bob", "another"))]
             pool.waiting.extend(wanted)
             for place in (2, 3, 0):
                 pool.release(pool.workers[1])
                 self.assertEqual([each.future.done() for each in wanted].index(True), place)
                 wanted[place].future = pool.loop.create_future()
+            by = {1: ("bob", "one URL"), 2: ("bob", "another"), 3: ("zed", "")}
+            pool.workers = {number: types.SimpleNamespace(number=number, is_busy=True, is_silent=False, who=who) for number, who in by.items()}
+            pool.waiting.clear()
+            pool.waiting.extend(wanted := [Wanted(None, pool.loop.create_future(), who) for who in (("bob", "a third"), ANN)])
+            pool.release(pool.workers[3])
+            self.assertEqual([each.future.done() for each in wanted], [False, True])
 
         asyncio.run(scenario())
 

@@ -1,9 +1,11 @@
 """nginx before two gateways of one tenant, by the configuration that is made for it (front.py), over a stand-in: test_operations.py through it, and what only it can
 spoil."""
 
+import contextlib
 import json
 import os
 import shutil
+import socket
 import subprocess
 import sys
 import time
@@ -20,6 +22,7 @@ from gridfs_s3 import cors, policies
 from gridfs_s3.front import instances_of, nginx_conf
 
 SESSIONS = 8  # of carol in the plan
+OF_AN_ADDRESS = 12  # requests under way, before several tenants here
 os.environ |= {"GRIDFS_S3": f"http://127.0.0.1:{endpoint.free_port()}", "GRIDFS_S3_FRONT": "1", "GRIDFS_S3_SEVERAL": "1", "GRIDFS_S3_MOST": "1000000"}
 import botocore.auth
 import test_operations
@@ -48,7 +51,11 @@ def setUpModule():
     sockets["dave"] = "/nowhere"
     for name, url, tenants in (("nginx", test_operations.URL, {"carol": both}), ("several", SEVERAL, {"carol": both, "dave": instances_of("dave", 4, 1)})):
         (room / name).mkdir()
-        (room / name / "nginx.conf").write_text(f"user root;\n{nginx_conf(room / name, tenants, sockets, url.partition('//')[2])}")
+        conf = nginx_conf(room / name, tenants, sockets, url.partition("//")[2])
+        assert "limit_conn addresses 2048;" in conf
+        if name == "several":
+            conf = conf.replace("limit_conn addresses 2048;", f"limit_conn addresses {OF_AN_ADDRESS};")
+        (room / name / "nginx.conf").write_text(f"user root;\n{conf}")
         nginx = start(room, name, [shutil.which("nginx", path="/usr/sbin:" + os.environ["PATH"]), "-e", "stderr", "-c", room / name / "nginx.conf"])
         endpoint.wait(lambda url=url: is_there(url), nginx, room / f"log.{name}")
 
@@ -105,7 +112,8 @@ class Front(test_operations.Case):
             with urllib.request.urlopen(asked) as told:
                 self.assertEqual(told.headers["Access-Control-Allow-Origin"], "https://shop.example")
         one, two = (nginx_conf(Path("/x"), {name: instances_of(name, 4, 1) for name in names}, {"carol": "a", "dave": "b"}, "x") for names in (["carol"], ["carol", "dave"]))
-        self.assertEqual((one.count(":(cors|form|read)$"), two.count(":(cors|form|read)$")), (1, 0))
+        self.assertIn('"~^:.*:(cors|form|read):" gateway-carol;', one)
+        self.assertNotIn("(cors|form|read):\"", two)
 
     def test_what_anybody_may_read(self):
         """He signs nothing, and his tenant is the only one, or that of the URL."""
@@ -120,6 +128,9 @@ class Front(test_operations.Case):
             with self.assertRaises(urllib.error.HTTPError) as fault:
                 urllib.request.urlopen(f"{test_operations.URL}/{self.bucket}/private{query}")
             self.assertEqual(fault.exception.code, 403)
+        for host, status in (("carol.s3.example", 200), ("carol.example:9000", 200), ("dave.s3.example", 503), ("s3.example", 403), ("eve.s3.example", 403)):
+            head = f"GET /{self.bucket}/public/a HTTP/1.1\r\nHost: {host}\r\nConnection: close\r\n\r\n"
+            self.assertTrue(self.told(SEVERAL, head.encode()).startswith(f"HTTP/1.1 {status} ".encode()), host)
 
     def test_forms(self):
         """They name their tenant in the body alone, unless the URL does so too."""
@@ -129,6 +140,35 @@ class Front(test_operations.Case):
             with urllib.request.urlopen(urllib.request.Request(form["url"] + query, content, {"Content-Type": kind})) as told:
                 self.assertEqual((told.status, told.headers["Location"]), (204, f"{test_operations.URL}/{self.bucket}/posted"))
             self.assertEqual(self.get("posted")["Body"].read(), b"x" * 100_000)
+
+    def told(self, url, data, whence="127.0.0.1"):
+        """What is told to these bytes, which come from this address of the machine."""
+        host, _, port = url.rpartition("/")[2].partition(":")
+        with socket.create_connection((host, int(port)), timeout=60, source_address=(whence, 0)) as made:
+            made.sendall(data)
+            return made.recv(65_536)
+
+    def test_malformed_requests(self):
+        """They are told so, and no fault of the moment, after which a client would ask again."""
+        for data in (b"\x01ET / HTTP/1.1\r\n\r\n", b"\r\n \r\n\r\n", b"GET\r\n\r\n", b"GET  HTTP/1.1\r\n\r\n", b"GET / HTTP/x\r\n\r\n", b"GET /%zz HTTP/1.1\r\nHost: a\r\n\r\n",
+                     b"GET /\x00 HTTP/1.1\r\nHost: a\r\n\r\n", b"GET / HTTP/1.1\r\nHost: a\r\nHost: b\r\n\r\n", b"GET / HTTP/1.1\r\n\r\n", b"get / HTTP/1.1\r\nHost: a\r\n\r\n",
+                     b"GET / HTTP/1.1\r\nHost: a\r\nContent-Length: x\r\n\r\n", b"GET /" + b"a" * 40_000 + b" HTTP/1.1\r\nHost: a\r\n\r\n", b"a" * 70_000):  # fmt: skip
+            told = self.told(test_operations.URL, data)
+            self.assertRegex(told, rb"HTTP/1.1 4\d\d |<html>|\A\Z|<Error>", data[:40])
+            self.assertNotRegex(told, rb"HTTP/1.1 5\d\d|\b500\b", data[:40])
+
+    def test_one_address(self):
+        """It has so many requests under way at most, and others are served."""
+        head = b"POST /some?X-Amz-Credential=carol/ HTTP/1.1\r\nHost: a\r\nContent-Type: multipart/form-data; boundary=B\r\nContent-Length: 5000\r\n\r\n--B"
+        ask = b"GET /?X-Amz-Credential=carol/ HTTP/1.1\r\nHost: a\r\nConnection: close\r\n\r\n"
+        with contextlib.ExitStack() as stack:
+            host, _, port = SEVERAL.rpartition("/")[2].partition(":")
+            for _ in range(OF_AN_ADDRESS):
+                stack.enter_context(socket.create_connection((host, int(port)))).sendall(head)
+            time.sleep(1)
+            told = self.told(SEVERAL, ask)
+            self.assertTrue(told.startswith(b"HTTP/1.1 503 ") and b"<Code>SlowDown</Code>" in told, told)
+            self.assertTrue(self.told(SEVERAL, ask, "127.0.0.9").startswith(b"HTTP/1.1 403 "))
 
     def test_before_several_tenants(self):
         """Each request goes to the tenant whose key it names, by whatever signature; one that names none is told so."""

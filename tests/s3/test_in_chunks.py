@@ -9,6 +9,7 @@ import subprocess
 import sys
 import time
 import unittest
+from dataclasses import replace
 from unittest import mock
 
 HERE = os.path.dirname(os.path.abspath(__file__))
@@ -20,9 +21,9 @@ from in_slots import OldClient
 from memory_with_chunks import Killed, World
 
 from gridfs_client import OneByOne, Session, SocketCarrier, ask_plan, layout_of
-from gridfs_client.contents import InChunks, Inline, Joined, PartList
+from gridfs_client.contents import InChunks, Inline, Joined, PartList, to_base64
 from gridfs_client.core import Line, Page, Signpost
-from gridfs_client.errors import Replaced
+from gridfs_client.errors import Damaged, Replaced
 from gridfs_client.in_chunks import ChunkContents
 from gridfs_client.pages import text_of
 from gridfs_client.runs import Run
@@ -30,6 +31,7 @@ from gridfs_s3 import sweeping
 from gridfs_s3.errors import S3Error
 from gridfs_s3.part_lists import Uploaded
 from gridfs_s3.places import to_words, upload_name
+from gridfs_s3.reading import Stretch
 from gridfs_s3.shared import Shared
 from gridfs_s3.store import NoLine, Store
 from gridfs_s3.versions import Target
@@ -45,7 +47,7 @@ class Spool(objects.Spool):
     def close(self):
         print("a file of", self.size, file=sys.stderr, flush=True)
         super().close()
-objects.Spool, objects.OF_A_FILE = Spool, 2_000_000
+objects.Spool, objects.ahead_of = Spool, lambda is_anybodys: 2_000_000
 program.main(sys.argv[1:])
 """
 
@@ -79,7 +81,7 @@ def put_part(objects, upload, number, content):
 def complete(objects, upload, wanted=None):
     name = upload_name(BUCKET, upload, NAME)
     found = {part.number: where for part, where in objects.uploaded(objects.upload(name))}
-    return objects.complete(name, Target(NAME), {"m": "joined", "n": "3"}, [found[number] for number in wanted or sorted(found)], None)
+    return objects.complete(name, Target(NAME), lambda: {"m": "joined", "n": "3"}, [found[number] for number in wanted or sorted(found)], None)
 
 
 def sweep(objects):
@@ -306,7 +308,7 @@ class Many(unittest.TestCase):
         for first, end in ((0, len(whole)), (77, 9_000)):
             at = first
             while at < end:
-                told = b"".join(other.content(held, at, end, most))
+                told = b"".join(other.content(held, at, end, Stretch(most)))
                 self.assertEqual(told, whole[at : at + len(told)])
                 at += len(told)
                 self.assertTrue(at == end or at in ends and most <= len(told) < most + 130, (at, len(told)))
@@ -314,7 +316,25 @@ class Many(unittest.TestCase):
         put(self.objects, NAME, b"new" * 500)
         self.objects.forget_gone()
         with self.assertRaises(Replaced):
-            list(store(self.world, 2).content(held, most, len(whole), most))
+            list(store(self.world, 2).content(held, most, len(whole), Stretch(most)))
+
+    def test_read_some_chunks_at_a_time(self):
+        """It ends behind a chunk. What is read whole is judged at its end, by however many stretches; a range is not."""
+        content = os.urandom(50_000)
+        put(self.objects, NAME, content)
+        held = self.objects.look(NAME)
+        for first, end, lengths in ((0, 50_000, [20_000, 20_000, 10_000]), (5_000, 41_000, [15_000, 20_000, 1_000])):
+            stretch, told, at = Stretch(12_000), list[bytes](), first
+            while at < end:
+                told.append(b"".join(self.objects.content(held, at, end, stretch)))
+                at += len(told[-1])
+            self.assertEqual((b"".join(told), [len(each) for each in told]), (content[first:end], lengths))
+        wrong = replace(held, content=replace(held.content, digest=to_base64(bytes(32))))
+        stretch = Stretch(12_000)
+        for at in (0, 20_000):
+            self.assertEqual(b"".join(self.objects.content(wrong, at, 50_000, stretch)), content[at : at + 20_000])
+        self.assertRaises(Damaged, list, self.objects.content(wrong, 40_000, 50_000, stretch))
+        self.assertEqual(b"".join(self.objects.content(wrong, 40_000, 50_000, Stretch(12_000))), content[40_000:])
 
     def test_some_of_them_are_chosen(self):
         wanted = [number for number in self.parts if number % 3]
@@ -422,7 +442,7 @@ class Through(unittest.TestCase):
         self.assertEqual(self.get("key"), b"".join(b"%d " % number * 20 for number in range(1, count + 1)))
 
     def test_a_long_get_fills_no_disk(self):
-        """Its bytes come by files of some parts each, one after another, by whichever sessions; and not on once nobody takes them."""
+        """Its bytes come by files of some chunks each, two at a time, by whichever sessions; and not on once nobody takes them."""
         self.gateway.end()
         self.enterContext(mock.patch.dict(os.environ, {"PYTHONPATH": code_of_s3.CODE}))
         (found,) = self.enterContext(endpoint.gateways(self.room, program=(sys.executable, "-B", "-c", SHORT_FILES)))
@@ -441,13 +461,14 @@ class Through(unittest.TestCase):
 
         content, files = get()
         self.assertEqual(content, whole)
-        self.assertEqual((sum(files), max(files), len(files)), (len(whole), 2 * len(parts[0]), 4))
+        self.assertEqual((sum(files), max(files), len(files)), (len(whole), 2 * len(parts[0]), 5))
         content, files = get(Range=f"bytes=1000000-{len(whole) - 5}")
         self.assertEqual(content, whole[1_000_000 : len(whole) - 4])
-        self.assertLessEqual(max(files), 3 * len(parts[0]))
+        self.assertLessEqual(max(files), 2_000_000 + MIB)
         body = client.get_object(Bucket="bucket", Key="key")["Body"]
         begun = body.read(100)
         time.sleep(1)
+        self.assertLessEqual(endpoint.held_in_files(found.process.pid), 2 * (2_000_000 + MIB))
         self.assertEqual(begun + body.read(), whole)
         body = client.get_object(Bucket="bucket", Key="key")["Body"]
         body.read(100)

@@ -2,6 +2,7 @@
 for all who want one."""
 
 import asyncio
+import collections
 import contextlib
 import io
 import os
@@ -25,9 +26,10 @@ from gridfs_client.pages import text_of
 from gridfs_client.runs import Run
 from gridfs_s3 import looker, sweeping
 from gridfs_s3.all_pages import AllPages
+from gridfs_s3.errors import S3Error
 from gridfs_s3.gateway import Gateway
 from gridfs_s3.grids import Grids
-from gridfs_s3.index import Few, Index, Union, line_in
+from gridfs_s3.index import MAGIC, Few, Index, NotOurs, Union, line_in
 from gridfs_s3.later import later_page, whole
 from gridfs_s3.listing import Cut, latest_of
 from gridfs_s3.places import KEYS, to_words
@@ -169,26 +171,92 @@ class Pages(unittest.TestCase):
             later.close()
 
     def test_a_file_that_is_none(self):
-        """One that is damaged, or of another form, is begun anew; one that another gateway has is left to it."""
+        """What is something else is somebody's, and stays as it is; one that is empty, or of another form, is begun anew. One that another gateway has is left to it."""
         known = Known(Tag(1, 1), Page((Line("b/a", 1, Inline(b"")),), (), 1))
         with tempfile.TemporaryDirectory() as folder:
             path = os.path.join(folder, "index")
-            with open(path, "wb") as out:
-                out.write(b"no index\n" * 999)
-            index = Index(path)
-            index.keep(0, 1, known)
-            with self.assertRaisesRegex(sqlite3.OperationalError, "locked"):
-                Index(path)
-            index.close()
+            with contextlib.closing(sqlite3.connect(path)) as base, base:
+                base.execute("create table customers (name text)")
+                base.execute("pragma user_version = 1")
+            with open(path, "rb") as file:
+                of_others = file.read()
+            for text in (of_others, b"[gridfs]\ntenant = carol\n", b"x", b"no index\n" * 999, MAGIC + b"\xff" * 9_000):
+                with open(path, "wb") as out:
+                    out.write(text)
+                with self.assertRaisesRegex(NotOurs, "no index of a gateway"):
+                    Index(path)
+                with open(path, "rb") as file:
+                    self.assertEqual(file.read(), text)
+                self.assertEqual(os.listdir(folder), ["index"])
+            for text in (b"", bytes(8_192)):
+                with open(path, "wb") as out:
+                    out.write(text)
+                index = Index(path)
+                index.keep(0, 1, known)
+                with self.assertRaisesRegex(sqlite3.OperationalError, "locked"):
+                    Index(path)
+                index.close()
             with contextlib.closing(sqlite3.connect(path)) as base:
                 base.execute("pragma user_version = 99")
             later = Index(path)
             self.assertEqual((later.tags, told(later)), ({}, []))
-            later.keep(0, 1, known)
             later.close()
             with contextlib.closing(sqlite3.connect(path)) as base, base:
-                base.execute("update pages set text = cast('no page' || char(10) as blob)")
-            self.assertEqual(Index(path).tags, {})
+                base.execute("drop table pages")
+                base.execute("create table pages (place integer primary key, number integer, session integer, text blob)")
+                base.execute("pragma application_id = 0")
+                base.execute("pragma user_version = 1")
+            self.assertEqual(Index(path).tags, {})  # (of an older gateway)
+
+    def test_damage(self):
+        """An index of which some blocks are as they were, or something else, tells what was written, or is begun anew."""
+        counts = collections.Counter()
+        with tempfile.TemporaryDirectory() as folder:
+            path = os.path.join(folder, "index")
+            for seed in range(16):
+                draw, index = random.Random(seed), Index(path)
+                grid = Grid(draw, index)
+                for _ in range(30):
+                    grid.change()
+                index.close()
+                with open(path, "rb") as file:
+                    before = file.read()
+                grid.index = index = Index(path)
+                for _ in range(40):
+                    grid.change()
+                right, tags = told(index), dict(index.tags)
+                index.close()
+                with open(path, "r+b") as file:
+                    now = file.read()
+                    for at in range(0, len(now), 4_096):
+                        old = before[at : at + 4_096] if seed % 2 else draw.randbytes(4_096)
+                        if at and old and old != now[at : at + 4_096] and draw.random() < 0.3:
+                            file.seek(at)
+                            file.write(old)
+                            counts["damaged"] += 1
+                later = Index(path)
+                counts["anew" if not later.tags else "kept"] += 1
+                self.assertIn((told(later), later.tags), [(right, tags), ([], {})], seed)
+                later.close()
+                for name in os.listdir(folder):
+                    os.unlink(os.path.join(folder, name))
+        self.assertGreater(min(counts["damaged"], counts["anew"]), 5, counts)
+
+    def test_damage_amid_work(self):
+        """It is begun anew, in memory; whoever asked is told to ask again."""
+        with tempfile.TemporaryDirectory() as folder:
+            index = Index(os.path.join(folder, "index"))
+            grid = Grid(random.Random(3), index)
+            for _ in range(30):
+                grid.change()
+            index.recent.clear()
+            index.base.execute("update pages set text = cast(substr(text, 1, length(text) - 1) || 'x' as blob)")
+            place = next(iter(index.tags))
+            with self.assertRaisesRegex(S3Error, "begun anew"):
+                index.known(*place)
+            self.assertEqual((index.tags, told(index), index.beginnings), ({}, [], 1))
+            index.keep(0, 1, Known(Tag(1, 1), Page((Line("b/a", 1, Inline(b"")),), (), 1)))
+            self.assertEqual(len(told(index)), 1)
 
     def test_a_line_in_a_text(self):
         lines = (Line("x 5", 1, Inline(b"a")), Line("5", 2, Inline(b"b")), Line("x x 5", 3, None))

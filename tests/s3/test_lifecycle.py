@@ -1,13 +1,18 @@
 """Lifecycles of buckets: what rules say, what goes by them, and what stays."""
 
 import contextlib
+import email.utils
 import os
+import re
 import sys
 import time
+import types
 import unittest
+from unittest import mock
 
 sys.path.insert(0, os.path.dirname(os.path.abspath(__file__)))
 import endpoint
+import test_malformed
 from botocore.exceptions import ClientError
 from code_of_s3 import CODE
 from gridfs_client.asking import ask_plan
@@ -18,7 +23,7 @@ from gridfs_client.layout import layout_of
 from gridfs_client.names import NamedFiles
 from gridfs_client.opening import OpenSessions
 from gridfs_client.settings import Settings
-from gridfs_s3 import errors, gateway, lifecycle, markup
+from gridfs_s3 import clocks, errors, lifecycle, markup
 from gridfs_s3.places import Object
 
 HOUR, DAY = 3_600_000, 86_400_000
@@ -36,6 +41,14 @@ async def slowly(self, going):
     await asyncio.sleep(1)
     return await is_removed(self, going)
 expiring.Lifecycles.is_removed = slowly
+program.main(sys.argv[1:])
+"""
+# A gateway whose clock is a year ahead.
+AHEAD = """
+import sys, time
+now, now_ns, YEAR = time.time, time.time_ns, 365 * 86_400
+time.time, time.time_ns = lambda: now() + YEAR, lambda: now_ns() + YEAR * 1_000_000_000
+from gridfs_s3 import program
 program.main(sys.argv[1:])
 """
 
@@ -156,18 +169,33 @@ class Rules(unittest.TestCase):
             self.fails(code, text)
 
     def test_clock(self):
-        """It is agreed with once a client signed by it, until it is set to another time."""
-        at = {"wall": 5_000.0, "steady": 70.0}
-        clock = gateway.Clock(lambda: at["wall"], lambda: at["steady"])
-        self.assertFalse(clock.is_agreed())
+        """Age is told by it once a client signed by it, until it is set to another time, or a client is refused; and not at once where what was put last is old."""
+        at = {"wall": 1_800_000_000.0, "steady": 70.0}
+        pass_by = lambda seconds: at.update(wall=at["wall"] + seconds, steady=at["steady"] + seconds)
+        clock = clocks.Clock(lambda: at["wall"], lambda: at["steady"])
+        clock.look([an_object(time=1_000).held])
+        self.assertIn("no client", clock.doubt())
         clock.is_confirmed()
-        self.assertTrue(clock.is_agreed())
-        at.update(wall=1_005_000.0, steady=1_000_070.0)
-        self.assertTrue(clock.is_agreed())
-        at.update(wall=2_005_000.0)
-        self.assertFalse(clock.is_agreed())
+        self.assertIsNone(clock.doubt())
+        pass_by(1_000_000)
+        self.assertIsNone(clock.doubt())
+        at.update(wall=at["wall"] + 1_000)
+        self.assertIn("no client", clock.doubt())
         clock.is_confirmed()
-        self.assertTrue(clock.is_agreed())
+        self.assertIsNone(clock.doubt())
+        clock.is_refuted()
+        clock.is_confirmed()
+        self.assertIn("another one", clock.doubt())
+        pass_by(clocks.DAY)
+        self.assertIsNone(clock.doubt())
+        for age, is_old in ((365 * clocks.DAY, True), (clocks.DAY / 2, False)):
+            clock = clocks.Clock(lambda: at["wall"], lambda: at["steady"])
+            clock.is_confirmed()
+            times = (clock.began - age, clock.began + 5, 1_000)  # (the second was put since, by this clock)
+            clock.look([an_object(time=int(1_000 * each)).held for each in times])
+            self.assertEqual(clock.doubt() is not None, is_old)
+            pass_by(clocks.DAY)
+            self.assertIsNone(clock.doubt())
 
 
 class Common(unittest.TestCase):
@@ -301,6 +329,32 @@ class Looks(Common):
         self.until(lambda: "stays for now: no client has signed" in self.found.told(begun))
         self.assertNotIn("are gone", self.found.told(begun))
         self.until(lambda: not self.keys())
+
+    def test_a_clock_that_is_ahead(self):
+        """Nothing goes by it, though a client corrects its own clock by the gateway's; whoever runs the gateway is told."""
+        self.begin()
+        self.put("a")
+        self.give({"Filter": {"Prefix": ""}, "Expiration": {"Days": 90}})
+        self.found.kill()
+        (ahead,) = self.gateway(program=(sys.executable, "-B", "-c", AHEAD))
+        test_malformed.GATEWAY = ahead
+        told = test_malformed.exchange(test_malformed.signed("GET", "/some/a") + b"\r\n")
+        self.assertEqual(test_malformed.code_of(told), (403, "RequestTimeTooSkewed"))
+        told_by_it = email.utils.parsedate_to_datetime(re.search(rb"(?i)\r\ndate: ([^\r]*)", told)[1].decode()).replace(tzinfo=None)
+        for when in (told_by_it, told_by_it.replace(year=told_by_it.year + 1)):
+            with mock.patch("botocore.auth.datetime", types.SimpleNamespace(datetime=types.SimpleNamespace(utcnow=lambda when=when: when))):
+                told = test_malformed.exchange(test_malformed.signed("GET", "/some/a") + b"\r\n")
+            if test_malformed.code_of(told)[0] == 200:
+                break
+        self.assertEqual(test_malformed.code_of(told)[0], 200)
+        self.found = ahead
+        self.until(lambda: "stays for now: a client's clock is another one" in ahead.told())
+        time.sleep(QUIET)
+        self.assertNotIn("are gone", ahead.told())
+        ahead.kill()
+        (self.found,) = self.gateway()
+        self.s3 = self.found.client()
+        self.assertEqual(self.keys(), ["a"])
 
     def test_put_meanwhile(self):
         """An object that is put anew after it was seen to have expired stays; so does what is left when the rules are taken back."""

@@ -22,6 +22,7 @@ from botocore.auth import S3SigV4Auth
 from botocore.awsrequest import AWSRequest
 from botocore.credentials import Credentials
 
+OF_ENCRYPTION = "server-side-encryption"
 EMPTY = "e3b0c44298fc1c149afbf4c8996fb92427ae41e4649b934ca495991b7852b855"
 KEYS = f"carol {endpoint.SECRET}\ncarol.reader {endpoint.SECRET} read\ncarol.one {endpoint.SECRET} bucket=one\n"
 
@@ -87,7 +88,7 @@ class Malformed(unittest.TestCase):
 
     def test_no_http(self):
         for data in (b"\x16\x03\x01\x02\x00\x01\x00\x01\xfc\x03\x03" + b"\x00" * 600, b"GET\r\n\r\n", b"GET / HTTP/9.9\r\n\r\n", b"\x00" * 100 + b"\r\n\r\n",
-                     b"GET / HTTP/1.1\r\nno colon\r\n\r\n", b"GET / HTTP/1.1\r\nContent-Length: x\r\n\r\n", b"GET / HTTP/1.1\r\nContent-Length: -1\r\n\r\n"):  # fmt: skip
+                     b"CONNECT \xff\xfe:1 HTTP/1.1\r\nHost: a\r\n\r\n", b"CONNECT \xc3\xa9 HTTP/1.1\r\nHost: a\r\n\r\n", b"GET / HTTP/1.1\r\nno colon\r\n\r\n", b"GET / HTTP/1.1\r\nContent-Length: x\r\n\r\n", b"GET / HTTP/1.1\r\nContent-Length: -1\r\n\r\n"):  # fmt: skip
             status, code = code_of(exchange(data))
             self.assertIn((status, code), ((400, "BadRequest"), (403, "AccessDenied")), data[:60])
 
@@ -230,13 +231,55 @@ class Malformed(unittest.TestCase):
 
     def test_xml(self):
         bomb = b'<!DOCTYPE x [<!ENTITY a "aaaa"><!ENTITY b "&a;&a;&a;&a;">]><Delete><Object><Key>&b;</Key></Object></Delete>'
-        for body in (bomb, b"<Delete>", b"<Other/>", b"<a>" * 100_000, b"\xff\xfe<", b"<Delete>" + b"<Object><Key>a</Key></Object>" * 1_001 + b"</Delete>"):
+        for body in (bomb, b"<Delete>", b"<Other/>", b"<a>" * 100_000, b"\xff\xfe<", b"<Delete>" + b"<Object><Key>a</Key></Object>" * 1_001 + b"</Delete>", b"<Delete>" + b"<Quiet/>" * 5_000 + b"</Delete>"):
             self.tells(400, "MalformedXML", signed("POST", "/one?delete") + f"Content-Length: {len(body)}\r\n\r\n".encode() + body)
         self.tells(400, "EntityTooLarge", signed("POST", "/one?delete") + b"Content-Length: 99999999\r\n\r\nx")
         for number in ("x", "9" * 5_000, "-1", "٣"):
             body = f"<CompleteMultipartUpload><Part><PartNumber>{number}</PartNumber><ETag>x</ETag></Part></CompleteMultipartUpload>".encode()
             head = signed("POST", "/one/a?uploadId=1." + "0" * 24) + f"Content-Length: {len(body)}\r\n\r\n".encode()
             self.tells(400, "MalformedXML", head + body)
+        parts = "".join(f"<Part><PartNumber>{number}</PartNumber><ETag>x</ETag></Part>" for number in range(1, 10_002))
+        for text, status, code in ((parts, 400, "MalformedXML"), (parts.rpartition("<Part>")[0], 404, "NoSuchUpload")):
+            body = f"<CompleteMultipartUpload>{text}</CompleteMultipartUpload>".encode()
+            head = signed("POST", "/one/a?uploadId=1." + "0" * 24) + f"Content-Length: {len(body)}\r\n\r\n".encode()
+            self.tells(status, code, head + body)
+
+    def test_what_no_client_asks_again(self):
+        """ACLs, storage classes and encryption have codes of Amazon's, which no client takes for a fault of the moment."""
+        for headers, code in (
+            ({"x-amz-acl": "public-read"}, "AccessControlListNotSupported"), ({"x-amz-grant-read": "id=x"}, "AccessControlListNotSupported"), ({"x-amz-storage-class": "STANDARD_IA"}, "InvalidStorageClass"),
+            ({"x-amz-server-side-encryption": "AES256"}, "InvalidEncryptionAlgorithmError"), ({"x-amz-server-side-encryption": "aws:kms"}, "InvalidEncryptionAlgorithmError"),
+        ):  # fmt: skip
+            self.tells(400, code, signed("PUT", "/one/a", headers) + b"Content-Length: 1\r\n\r\nx")
+
+    def test_guards_of_reads(self):
+        """The owner that is expected, also in the URL, and the key by which an object is encrypted."""
+        S3.put_object(Bucket="two", Key="guarded", Body=b"x")
+        for query, headers, status, code in (
+            ("?x-amz-expected-bucket-owner=dave", {}, 403, "AccessDenied"), ("?X-Amz-Expected-Bucket-Owner=dave", {}, 403, "AccessDenied"), ("?x-amz-expected-bucket-owner=carol", {}, 200, ""),
+            ("", {"x-amz-server-side-encryption-customer-algorithm": "AES256"}, 400, "InvalidRequest"),
+        ):  # fmt: skip
+            self.tells(status, code, signed("GET", "/two/guarded" + query, headers) + b"\r\n")
+        S3.delete_object(Bucket="two", Key="guarded")
+
+    def test_probes(self):
+        for path in ("/minio/health/live", "/minio/health/ready"):
+            self.tells(200, "", f"GET {path} HTTP/1.1\r\nHost: a\r\n\r\n".encode())
+
+    def test_long_queries(self):
+        """Before anybody has shown who he is each word costs as much as it does later."""
+        for count, status in ((200, 403), (201, 400)):
+            query = "&".join(f"a{number}=1" for number in range(count))
+            self.assertEqual(code_of(exchange(f"GET /one/a?{query} HTTP/1.1\r\nHost: a\r\n\r\n".encode()))[0], status)
+
+    def test_removals_of_who_leaves(self):
+        """No more is done of them, and no fault is told."""
+        body = b"<Delete>" + b"".join(b"<Object><Key>none-%d</Key></Object>" % number for number in range(900)) + b"</Delete>"
+        for _ in range(3):
+            with socket.create_connection(("127.0.0.1", GATEWAY.port), timeout=60) as connection:
+                connection.sendall(signed("POST", "/one?delete") + f"Content-Length: {len(body)}\r\n\r\n".encode() + body)
+                time.sleep(0.05)
+        time.sleep(2)
 
     def test_changes_that_are_not_known(self):
         """What might mean another operation, or a condition, is not done as the plain operation."""
@@ -277,7 +320,14 @@ class Malformed(unittest.TestCase):
             ("POST", in_parts, {}, sized(of_parts.replace(b"</Part>", b"<Size>4</Size></Part>"))), ("POST", in_parts, {}, sized(of_parts.replace(b"</ETag>", b"<x/></ETag>"))),
         ]:  # fmt: skip
             told = code_of(exchange(signed(method, path, headers) + rest))
-            self.assertEqual(told, (501, "NotImplemented"), (method, path, headers))
+            wanted = 501, "NotImplemented"
+            if any(OF_ENCRYPTION in name for name in headers):
+                wanted = 400, "InvalidEncryptionAlgorithmError"
+            elif path.endswith("Owner=dave"):
+                wanted = 403, "AccessDenied"
+            elif path.endswith("?acl"):
+                wanted = 400, "AccessControlListNotSupported"
+            self.assertEqual(told, wanted, (method, path, headers))
         for method, path, rest in (("DELETE", "/two/k?versionId=7", empty), ("PUT", "/two/k?tagging&versionId=7", tagged), ("DELETE", "/two/k?versionId", empty)):
             self.tells(400, "InvalidArgument", signed(method, path) + rest)
         for method, path in (("PUT", "/two/k"), ("DELETE", "/two/k"), ("DELETE", "/empty")):
@@ -299,7 +349,7 @@ class Malformed(unittest.TestCase):
     def test_long_xml(self):
         """Of many texts with elements between them: in time that goes with its length."""
         body, begun = b"<Delete>" + b"<a/>xxxxxxxxxxxxxxxxxxxxxxxxxxxxxxxxxxxxxx" * 95_000 + b"</Delete>", self.spent()
-        self.tells(501, "NotImplemented", signed("POST", "/one?delete", access="carol.one") + f"Content-Length: {len(body)}\r\n\r\n".encode() + body)
+        self.tells(400, "MalformedXML", signed("POST", "/one?delete", access="carol.one") + f"Content-Length: {len(body)}\r\n\r\n".encode() + body)
         self.assertLess(self.spent() - begun, 5)
 
     def test_odd_words(self):

@@ -164,10 +164,17 @@ class Buckets(Case):
         self.fails("BucketNotEmpty", self.s3.delete_bucket, Bucket=self.bucket)
 
     def test_region(self):
-        """A bucket in another region is made nowhere."""
+        """Any will do where the gateway was told none, also one that is a host."""
         name = f"{self.bucket}-elsewhere"
-        self.fails("InvalidLocationConstraint", self.s3.create_bucket, Bucket=name, CreateBucketConfiguration={"LocationConstraint": "eu-central-1"})
-        self.assertNotIn(name, [each["Name"] for each in self.s3.list_buckets()["Buckets"]])
+        self.s3.create_bucket(Bucket=name, CreateBucketConfiguration={"LocationConstraint": "eu-central-1"})
+        for region in ("eu-central-1", "s3.example", "127.0.0.1"):
+            request = AWSRequest("GET", f"{URL}/", {"X-Amz-Content-SHA256": "UNSIGNED-PAYLOAD"})
+            signer = S3SigV4Auth(Credentials(ACCESS, SECRET), "s3", region)
+            signer.payload = lambda _: "UNSIGNED-PAYLOAD"
+            signer.add_auth(request)
+            with urllib.request.urlopen(urllib.request.Request(f"{URL}/", headers=dict(request.headers))) as told:
+                self.assertIn(f"<Name>{name}</Name>".encode(), told.read())
+        self.s3.delete_bucket(Bucket=name)
 
     def test_some_buckets(self):
         """By their prefix, and so many at a time."""
@@ -192,13 +199,13 @@ class Buckets(Case):
             self.s3.delete_bucket(Bucket=name)
 
     def test_what_is_not_done(self):
-        for call, words in [
-            (self.s3.get_bucket_logging, {}),
-            (self.s3.put_object, {"Key": "a", "Body": b"", "ServerSideEncryption": "AES256"}),
-            (self.s3.put_object, {"Key": "a", "Body": b"", "ACL": "public-read"}),
-            (self.s3.put_object, {"Key": "a", "Body": b"", "StorageClass": "GLACIER"}),
+        for code, call, words in [
+            ("NotImplemented", self.s3.get_bucket_logging, {}),
+            ("InvalidEncryptionAlgorithmError", self.s3.put_object, {"Key": "a", "Body": b"", "ServerSideEncryption": "AES256"}),
+            ("AccessControlListNotSupported", self.s3.put_object, {"Key": "a", "Body": b"", "ACL": "public-read"}),
+            ("InvalidStorageClass", self.s3.put_object, {"Key": "a", "Body": b"", "StorageClass": "GLACIER"}),
         ]:  # fmt: skip
-            self.fails("NotImplemented", call, Bucket=self.bucket, **words)
+            self.fails(code, call, Bucket=self.bucket, **words)
 
     def test_what_was_never_given(self):
         for code, call in [
@@ -505,6 +512,21 @@ class Checksums(Case):
         self.assertEqual((told["ETag"], told["Checksum"], told["ObjectSize"], told["StorageClass"]), (hashlib.md5(b"hello").hexdigest(), {"ChecksumSHA1": sha}, 5, "STANDARD"))
         told = self.s3.get_object_attributes(Bucket=self.bucket, Key="known", ObjectAttributes=["ObjectSize"])
         self.assertEqual((told["ObjectSize"], "ETag" in told, "Checksum" in told), (5, False, False))
+        words, told = Uploads.upload(self, "in parts", {1: b"a" * 70_000, 2: b"b" * 5, 3: b"c" * 300})
+        Uploads.complete(self, words, told)
+        parts = self.s3.get_object_attributes(Bucket=self.bucket, Key="in parts", ObjectAttributes=["ObjectParts"], MaxParts=2)["ObjectParts"]
+        self.assertEqual((parts["TotalPartsCount"], parts["IsTruncated"], parts["NextPartNumberMarker"]), (3, True, 2))
+        self.assertEqual([(each["PartNumber"], each["Size"]) for each in parts["Parts"]], [(1, 70_000), (2, 5)])
+        parts = self.s3.get_object_attributes(Bucket=self.bucket, Key="in parts", ObjectAttributes=["ObjectParts"], PartNumberMarker=2)["ObjectParts"]
+        self.assertEqual(([each["PartNumber"] for each in parts["Parts"]], parts["IsTruncated"]), ([3], False))
+        for number, content in ((1, b"a" * 70_000), (2, b"b" * 5), (3, b"c" * 300)):
+            found = self.s3.get_object(Bucket=self.bucket, Key="in parts", PartNumber=number)
+            self.assertEqual((found["Body"].read(), found["PartsCount"], found["ResponseMetadata"]["HTTPStatusCode"]), (content, 3, 206))
+            found = self.s3.head_object(Bucket=self.bucket, Key="in parts", PartNumber=number)
+            self.assertEqual((found["ContentLength"], found["PartsCount"]), (len(content), 3))
+        self.assertEqual(self.s3.get_object(Bucket=self.bucket, Key="known", PartNumber=1)["Body"].read(), b"hello")
+        self.fails("InvalidPartNumber", self.s3.get_object, Bucket=self.bucket, Key="in parts", PartNumber=4)
+        self.fails("InvalidRequest", self.s3.get_object, Bucket=self.bucket, Key="in parts", PartNumber=1, Range="bytes=0-1")
         self.fails("NoSuchKey", self.s3.get_object_attributes, Bucket=self.bucket, Key="none", ObjectAttributes=["ETag"])
         self.fails("InvalidArgument", self.s3.get_object_attributes, Bucket=self.bucket, Key="known", ObjectAttributes=["Anything"])
 
@@ -737,7 +759,7 @@ class Requests(Case):
         self.assertEqual(self.get("body")["Body"].read(), b"any")
         self.assertEqual(self.code(self.ask("PUT", path, b"any", payload="nonsense")), "InvalidArgument")
 
-    def chunked(self, content, size, spoil=None, trailer=None):
+    def chunked(self, content, size, spoil=None, trailer=None, trailer_end="\r\n"):
         """A put in signed chunks."""
         kind = "STREAMING-AWS4-HMAC-SHA256-PAYLOAD" + ("-TRAILER" if trailer else "")
         headers = {"x-amz-decoded-content-length": str(len(content)), "Content-Encoding": "aws-chunked"}
@@ -760,7 +782,7 @@ class Requests(Case):
         if trailer:
             line = f"{trailer[0]}:{trailer[1]}\n"
             text = "\n".join(["AWS4-HMAC-SHA256-TRAILER", stamp, scope, before, hashlib.sha256(line.encode()).hexdigest()])
-            body += line.replace("\n", "\r\n").encode() + f"x-amz-trailer-signature:{signer.signature(text, request)}\r\n".encode()
+            body += line.replace("\n", trailer_end).encode() + f"x-amz-trailer-signature:{signer.signature(text, request)}\r\n".encode()
         body += b"\r\n"
         if spoil is not None:
             at = body.index(b"\r\n") + 2 + spoil
@@ -784,10 +806,11 @@ class Requests(Case):
         self.assertEqual(self.get("chunked")["Body"].read(), content)
         crc = base64.b64encode(zlib.crc32(content).to_bytes(4, "big")).decode()
         self.assertEqual(self.chunked(content, 65_536, trailer=("x-amz-checksum-crc32", crc))[0], 200)
+        self.assertEqual(self.chunked(content, 65_536, trailer=("x-amz-checksum-crc32", crc), trailer_end="\n\r\n")[0], 200)
         self.assertEqual(self.code(self.chunked(content, 65_536, trailer=("x-amz-checksum-crc32", "AAAAAA=="))), "BadDigest")
 
     def test_unsigned_chunks_with_a_trailer(self):
-        content = b"Hello world"
+        content = b"Hello world" * 1_000
         for name, digest, told in [
             ("x-amz-checksum-crc32", zlib.crc32(content).to_bytes(4, "big"), ""),
             ("x-amz-checksum-sha256", hashlib.sha256(content).digest(), ""),
@@ -796,10 +819,28 @@ class Requests(Case):
             ("x-amz-checksum-md5", b"x" * 16, "NotImplemented"),
         ]:
             headers = {"x-amz-decoded-content-length": str(len(content)), "Content-Encoding": "aws-chunked", "x-amz-trailer": name}
-            body = b"5\r\nHello\r\n6\r\n world\r\n0\r\n" + f"{name}:{base64.b64encode(digest).decode()}\r\n\r\n".encode()
-            found = self.ask("PUT", f"/{self.bucket}/trailed", b"", headers, "STREAMING-UNSIGNED-PAYLOAD-TRAILER", data=body)
-            self.assertEqual(self.code(found), told)
+            trailer = f"{name}:{base64.b64encode(digest).decode()}".encode()
+            for end in (b"\r\n\r\n", b"\n\r\n\r\n"):  # (the second is of minio-go)
+                found = self.trailed(content, (8_192, len(content)), trailer + end, headers)
+                self.assertEqual(self.code(found), told)
         self.assertEqual(self.get("trailed")["Body"].read(), content)
+
+    def trailed(self, content, ends, rest, headers):
+        """A put in unsigned chunks, each of which ends there."""
+        chunks = [content[first:end] for first, end in zip((0, *ends), ends)]
+        body = b"".join(b"%x\r\n%b\r\n" % (len(each), each) for each in chunks) + b"0\r\n" + rest
+        return self.ask("PUT", f"/{self.bucket}/trailed", b"", headers, "STREAMING-UNSIGNED-PAYLOAD-TRAILER", data=body)
+
+    def test_odd_chunks(self):
+        """But the last one each has 8 KiB, as one of fewer bytes costs as much; and what follows that is a few trailers."""
+        content = os.urandom(20_000)
+        headers = {"x-amz-decoded-content-length": "20000", "Content-Encoding": "aws-chunked", "x-amz-trailer": "x-amz-checksum-crc32"}
+        crc = b"x-amz-checksum-crc32:" + base64.b64encode(zlib.crc32(content).to_bytes(4, "big"))
+        for ends, rest, told in (
+            ((8_192, 16_384, 20_000), crc + b"\r\n\r\n", ""), ((8_191, 20_000), crc + b"\r\n\r\n", "InvalidChunkSizeError"), ((8_192, 8_193, 20_000), crc + b"\r\n\r\n", "InvalidChunkSizeError"),
+            (range(1, 20_001), crc + b"\r\n\r\n", "InvalidChunkSizeError"), ((20_000,), crc + b"\n" * 40, "IncompleteBody"), ((20_000,), crc + b"\r\nmore\r\n\r\n", "IncompleteBody"),
+        ):  # fmt: skip
+            self.assertEqual(self.code(self.trailed(content, ends, rest, headers)), told, (len(ends), rest[-20:]))
 
     def in_parts(self, key, headers, parts, algorithm=None):
         """An upload by requests as SDKs of today make them; its path, and the XML that completes it."""

@@ -25,16 +25,16 @@ class Policies(unittest.TestCase):
             (policy("b/*"), ("a", "", "c/d"), ()), (policy("b/public/*"), ("public/", "public/a/b"), ("public", "a", "apublic/a")), (policy("b/one", "b/two*"), ("one", "two", "twofold"), ("ones", "tw", "")),
             (policy("b/a", Principal={"AWS": "*"}, Sid="x"), ("a",), ("b",)), ({"Statement": {**READ, "Action": ["s3:GetObject"], "Resource": "arn:aws:s3:::b/a"}, "Id": "x"}, ("a",), ("",)),
         ):  # fmt: skip
-            rules = policies.policy_of(json.dumps(found).encode(), "b")
+            rules = policies.policy_of(json.dumps(found).encode(), "b").keys
             self.assertEqual([any(rule.has(key) for rule in rules) for key in (*readable, *others)], [True] * len(readable) + [False] * len(others), found)
 
     def test_what_is_not_taken(self):
         good = policy("b/*")
         for code, wrong in (
             *(("MalformedPolicy", each) for each in (b"", b"{", b"\xff", b"[]", b"[" * 15_000, {}, good | {"Version": "2030-01-01"}, good | {"Other": 1}, {"Statement": []}, {"Statement": [1]}, policy("c/*"), policy("b"),
-            policy("*"), policy("b/a*b"), policy("b/?"), policy("b/*", Action=1), policy(), policy("b/*", Resource=[1]), policy("b/a\n*b"))),
+            policy("*"), policy("b/a*b"), policy("b/?"), policy("b/*", Action=1), policy(), policy("b/*", Resource=[1]), policy("b/a\n*b"), policy("b/*", Action="s3:ListBucket"), policy("b", "b/*"), policy("b", Action=["s3:ListBucket", "s3:GetObject"]))),
             *(("NotImplemented", policy("b/*", **each)) for each in ({"Effect": "Deny"}, {"Principal": {"AWS": "arn:aws:iam::1:root"}}, {"Principal": None}, {"Action": "s3:*"}, {"Action": ["s3:GetObject", "s3:PutObject"]},
-            {"Action": "s3:ListBucket"}, {"Condition": {"IpAddress": {"aws:SourceIp": "10.0.0.0/8"}}}, {"NotPrincipal": "*"}, {"NotResource": "x"})),
+            {"Action": ["s3:ListBucket", "s3:PutObject"]}, {"Condition": {"IpAddress": {"aws:SourceIp": "10.0.0.0/8"}}}, {"NotPrincipal": "*"}, {"NotResource": "x"})),
         ):  # fmt: skip
             with self.assertRaises(errors.S3Error, msg=wrong) as fault:
                 policies.policy_of(wrong if isinstance(wrong, bytes) else json.dumps(wrong).encode(), "b")
@@ -83,6 +83,22 @@ class Anybody(unittest.TestCase):
             status, _, body = self.ask("GET", f"/some/public/a?{words}")
             self.assertEqual((status, b"<Code>InvalidRequest</Code>" in body), (400, True), words)
         self.assertEqual(self.s3.get_object(Bucket="some", Key="public/a")["Body"].read(), b"hello")
+
+    def test_what_mc_gives(self):
+        """`mc anonymous set download` names the bucket's place and its listing too: so anybody may list then, and nothing else."""
+        of_bucket = {"Effect": "Allow", "Principal": {"AWS": ["*"]}, "Action": ["s3:GetBucketLocation", "s3:ListBucket"], "Resource": ["arn:aws:s3:::mcs"]}
+        of_keys = {**of_bucket, "Action": ["s3:GetObject"], "Resource": ["arn:aws:s3:::mcs/*"]}
+        self.s3.create_bucket(Bucket="mcs")
+        self.s3.put_object(Bucket="mcs", Key="a/b", Body=b"hello")
+        self.assertEqual(self.ask("GET", "/mcs")[0], 403)
+        self.s3.put_bucket_policy(Bucket="mcs", Policy=json.dumps({"Version": "2012-10-17", "Statement": [of_bucket, of_keys]}))
+        for path in ("/mcs", "/mcs?list-type=2&prefix=a/&delimiter=/&max-keys=5", "/mcs/"):
+            status, _, body = self.ask("GET", path)
+            self.assertEqual((status, b"<Key>a/b</Key>" in body), (200, True), path)
+        self.assertEqual([self.ask(method, path)[0] for method, path in (("GET", "/mcs?location"), ("HEAD", "/mcs"), ("GET", "/mcs/a/b"))], [200, 200, 200])
+        for path in ("/mcs?uploads", "/mcs?versions", "/mcs?policy", "/mcs?versioning"):
+            self.assertEqual(self.ask("GET", path)[0], 400, path)
+        self.assertEqual(self.ask("PUT", "/mcs/c", b"x")[0], 403)
 
     def test_given_and_taken_away(self):
         self.assertEqual(json.loads(self.s3.get_bucket_policy(Bucket="some")["Policy"]), policy("some/public/*"))

@@ -46,8 +46,10 @@ class Policies(unittest.TestCase):
             self.assertEqual(self.lets(policy(condition), key=key), wanted, (condition, key))
 
     def test_each_field_is_named(self):
-        found = policy({"key": "a"}, ["starts-with", "$x-amz-meta-a", ""])
+        found = policy({"key": "a"}, ["starts-with", "$x-amz-meta-a", ""], {"bucket": "b"})
         self.assertTrue(self.lets(found, key="a", x_amz_meta_a="b", x_ignore_me="c", policy="p", x_amz_signature="s", bucket="b"))
+        self.assertFalse(self.lets(found, key="a", bucket="c"))
+        self.assertFalse(self.lets(policy({"key": "a"}), key="a", bucket="b"))  # (else it were good for any bucket of its key)
         self.assertFalse(self.lets(found, key="a", x_amz_meta_b="b"))
         self.assertFalse(self.lets(found, key="a", success_action_redirect="http://a"))
 
@@ -177,9 +179,9 @@ class Posts(unittest.TestCase):
         self.fails("InvalidArgument", self.form("b") | {"bucket": "other"})
 
     def test_what_is_not_here(self):
-        self.fails("NotImplemented", self.form("b", {"acl": "public-read"}))
+        self.fails("AccessControlListNotSupported", self.form("b", {"acl": "public-read"}))
         self.fails("NotImplemented", self.form("b", {"x-amz-storage-class": "GLACIER"}))
-        self.fails("NotImplemented", self.form("b", {"x-amz-server-side-encryption": "AES256"}))
+        self.fails("InvalidEncryptionAlgorithmError", self.form("b", {"x-amz-server-side-encryption": "AES256"}))
         self.fails("NotImplemented", self.form("b"), path="/some?uploads")
         self.fails("NotImplemented", self.form("b"), headers={"If-None-Match": "*"})
         self.fails("NoSuchBucket", self.form("b", bucket="nobody"), path="/nobody")

@@ -3,7 +3,9 @@ before it that takes slow clients off."""
 
 import asyncio
 import contextlib
+import json
 import os
+import shutil
 import signal
 import socket
 import sys
@@ -16,9 +18,13 @@ from urllib.parse import urlsplit
 sys.path.insert(0, os.path.dirname(os.path.abspath(__file__)))
 import endpoint
 import test_malformed
+from code_of_s3 import CODE
 from gridfs_s3 import bounds
 
 KEYS = f"carol {endpoint.SECRET}\ncarol.one {endpoint.SECRET} bucket=one\n"
+POLICY = json.dumps({"Statement": {"Effect": "Allow", "Principal": "*", "Action": "s3:GetObject", "Resource": "arn:aws:s3:::open/*"}})
+MIB = 1 << 20
+PATIENCE = 60  # seconds until all of it has come
 SOON = 20  # seconds that a small request may take on a machine that does much else
 
 
@@ -34,6 +40,9 @@ def setUpModule():
     S3.put_object(Bucket="two", Key="small", Body=b"small")
     S3.put_object(Bucket="one", Key="piece", Body=b"x" * 1_000_000)
     S3.put_object(Bucket="one", Key="long", Body=b"x" * 6_000_000)
+    S3.create_bucket(Bucket="open")
+    S3.put_bucket_policy(Bucket="open", Policy=POLICY)
+    S3.put_object(Bucket="open", Key="long", Body=b"x" * (24 * MIB))
 
 
 def put(path, length, access="carol.one"):
@@ -104,6 +113,18 @@ class Slow(unittest.TestCase):
         self.served()
         self.assertLess(self.grown(), before + 150)
 
+    def test_strangers_who_read(self):
+        """Of what anybody may read little more is on disk than is taken."""
+        for _ in range(12):
+            self.come(f"GET /open/long HTTP/1.1\r\nHost: 127.0.0.1:{GATEWAY.port}\r\n\r\n".encode(), taken=4_096)
+        until = time.monotonic() + PATIENCE
+        while (held := endpoint.held_in_files(GATEWAY.process.pid)) < 12 * MIB and time.monotonic() < until:
+            time.sleep(0.2)
+        time.sleep(3)
+        self.assertGreaterEqual(held, 12 * MIB)
+        self.assertLessEqual(endpoint.held_in_files(GATEWAY.process.pid), 24 * MIB)
+        self.served()
+
     def test_who_leaves(self):
         """What nobody waits for any more is not done, where it was not begun: the grid stands still while they ask and leave."""
         S3.put_object(Bucket="one", Key="left", Body=b"left")
@@ -166,6 +187,39 @@ class Slow(unittest.TestCase):
         self.assertTrue(bounds.is_too_slow(bounds.GRACE + 1, 0) and bounds.is_too_slow(1_000, 3_000_000))
 
 
+FEW = """
+import sys
+from gridfs_s3 import connections, program
+connections.MOST_CONNECTIONS = 20
+program.main(sys.argv[1:])
+"""
+
+
+class Strangers(unittest.TestCase):
+    """Who sends half a form, and has shown nothing yet."""
+
+    def test_half_forms(self):
+        """The oldest ones end, and others are served; a gateway from a shell takes as many descriptors as it may."""
+        head = b"POST /one HTTP/1.1\r\nHost: a\r\nContent-Type: multipart/form-data; boundary=B\r\nContent-Length: 5000\r\n\r\n--B\r\n"
+        with endpoint.stand_in() as room, contextlib.ExitStack() as stack, mock.patch.dict(os.environ, {"PYTHONPATH": CODE}):
+            few = (shutil.which("prlimit"), "--nofile=512:4096", sys.executable, "-B", "-c", FEW)
+            (found,) = stack.enter_context(endpoint.gateways(room, program=few))
+            with open(f"/proc/{found.process.pid}/limits") as file:
+                self.assertRegex(file.read(), r"Max open files +4096 +4096")
+            forms = [stack.enter_context(socket.create_connection(("127.0.0.1", found.port), timeout=60)) for _ in range(60)]
+            for made in forms:
+                made.sendall(head)
+            time.sleep(1)
+            begun = time.monotonic()
+            found.client(read_timeout=SOON).list_buckets()
+            self.assertLess(time.monotonic() - begun, SOON)
+            with contextlib.suppress(ConnectionResetError):
+                self.assertEqual(forms[0].recv(100), b"")
+            with self.assertRaises(TimeoutError):
+                forms[-1].settimeout(0.2)
+                forms[-1].recv(100)
+
+
 class Places(unittest.IsolatedAsyncioTestCase):
     async def test_shares(self):
         """Of all places a key has a part, and a URL less."""
@@ -194,6 +248,11 @@ class Places(unittest.IsolatedAsyncioTestCase):
         self.assertFalse(await taken("zed"))
         for stack in held:
             await stack.aclose()
+        async with contextlib.AsyncExitStack() as stack:
+            for _ in range(bounds.OF_ANYBODY):
+                await stack.enter_async_context(places.some_of_anybody())
+            with self.assertRaises(TimeoutError):
+                await asyncio.wait_for(stack.enter_async_context(places.some_of_anybody()), 0.05)
         self.assertFalse(places.taken)
         self.assertTrue(await taken("zed"))
 

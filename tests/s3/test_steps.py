@@ -115,7 +115,7 @@ def complete(objects, upload):
     name = upload_name(BUCKET, upload, NAME)
     held = objects.upload(name)
     chosen = [where for _, where in objects.uploaded(held)]
-    return objects.complete(name, Target(NAME), {"m": "joined", "n": "3"}, chosen, None)
+    return objects.complete(name, Target(NAME), lambda: {"m": "joined", "n": "3"}, chosen, None)
 
 
 def kill_at(step):
@@ -335,7 +335,7 @@ class Steps(unittest.TestCase):
         name = upload_name(BUCKET, upload, NAME)
         chosen = [where for _, where in files.uploaded(files.upload(name))]
         with self.assertRaises(S3Error):
-            files.complete(name, Target(NAME), {"m": "joined"}, chosen, refuse)
+            files.complete(name, Target(NAME), lambda: {"m": "joined"}, chosen, refuse)
         for number in range(6):
             put(files, "bucket/other", b"%d" % number * 1100)
         files.forget_after = 0

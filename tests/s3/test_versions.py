@@ -3,6 +3,8 @@
 import contextlib
 import os
 import random
+import re
+import socket
 import sys
 import threading
 import time
@@ -10,6 +12,7 @@ import unittest
 
 sys.path.insert(0, os.path.dirname(os.path.abspath(__file__)))
 import endpoint
+import test_malformed
 from botocore.exceptions import ClientError
 from test_lifecycle import OFTEN, PATIENCE, QUIET, Common
 
@@ -180,6 +183,62 @@ class Versions(Common):
         s3.delete_bucket(Bucket="some")
         s3.create_bucket(Bucket="some")
         self.assertNotIn("Status", s3.get_bucket_versioning(Bucket="some"))
+
+    def slow(self, method, path, first):
+        """A request whose body has come but for its last byte."""
+        head = test_malformed.signed(method, path) + f"Content-Length: {len(first) + 1}\r\n\r\n".encode()
+        made = self.enterContext(socket.create_connection(("127.0.0.1", self.found.port), timeout=PATIENCE))
+        made.sendall(head + first)
+        return made
+
+    def test_what_was_begun_before(self):
+        """Where a change stands is chosen as it is committed: so what comes slowly takes nothing away that was there when versions were enabled, or is `null` once
+        they are suspended; and the ID that is told is the right one."""
+        s3 = Common.begin(self)
+        test_malformed.GATEWAY = self.found
+        keys, upload = ["put", "form", "done"], s3.create_multipart_upload(Bucket="some", Key="done")["UploadId"]
+        part = s3.upload_part(Bucket="some", Key="done", UploadId=upload, PartNumber=1, Body=b"new!")["ETag"]
+        for key in keys:
+            s3.put_object(Bucket="some", Key=key, Body=b"old")
+        listed = f"<CompleteMultipartUpload><Part><PartNumber>1</PartNumber><ETag>{part}</ETag></Part></CompleteMultipartUpload"
+        form = s3.generate_presigned_post("some", "form")["fields"]
+        lines = [f'--B\r\nContent-Disposition: form-data; name="{name}"\r\n\r\n{value}\r\n' for name, value in form.items()]
+        lines += ['--B\r\nContent-Disposition: form-data; name="file"; filename="a"\r\n\r\nnew!\r\n--B-']
+
+        def begin():
+            """All three, but for their last byte."""
+            posted = "".join(lines).encode()
+            made = self.enterContext(socket.create_connection(("127.0.0.1", self.found.port), timeout=PATIENCE))
+            head = f"POST /some HTTP/1.1\r\nHost: a\r\nContent-Type: multipart/form-data; boundary=B\r\nContent-Length: {len(posted) + 1}\r\n\r\n"
+            made.sendall(head.encode() + posted)
+            asked = [self.slow("PUT", "/some/put", b"new"), made]
+            return [*asked, self.slow("POST", f"/some/done?uploadId={upload}", listed.encode())] if keys[-1] == "done" else asked
+
+        def end(asked):
+            """The IDs of the versions that they are told."""
+            for made, last in zip(asked, (b"!", b"-", b">")):
+                made.sendall(last)
+            told = [made.recv(65_536) for made in asked]
+            found = [re.search(rb"(?i)x-amz-version-id: (\w+)", each) for each in told]
+            self.assertTrue(all(re.match(rb"HTTP/1.1 20[04] ", each) for each in told) and all(found), told)
+            return [each[1].decode() for each in found]
+
+        asked = begin()
+        time.sleep(1)
+        self.enable()
+        before = dict(zip(keys, end(asked)))
+        self.assertNotIn("null", before.values())
+        versions = sorted((key, version) for key, version, _ in self.all()[0])
+        self.assertEqual(versions, sorted(each for key in keys for each in ((key, "null"), (key, before[key]))))
+        for key in keys:
+            self.assertEqual(s3.get_object(Bucket="some", Key=key, VersionId="null")["Body"].read(), b"old")
+            self.assertEqual(s3.get_object(Bucket="some", Key=key)["Body"].read(), b"new!")
+        keys.pop()
+        asked = begin()
+        time.sleep(1)
+        self.enable("Suspended")
+        self.assertEqual(end(asked), ["null", "null"])
+        self.assertNotIn("Traceback", self.found.told())
 
     def raw(self, method, path, body):
         parse = {"PUT": self.s3.put_bucket_versioning}[method]

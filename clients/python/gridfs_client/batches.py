@@ -1,6 +1,7 @@
 """The text of a node's journal, batch by batch (docs/FORMATS.md, The journal of a node).
 
-It is read as far as batches are whole: so one that is being written can be read, or a copy of it. Only the numbers and lengths of batches are looked at, not their digests.
+It is read as far as batches are whole: so one that is being written can be read, or a copy of it. Only the numbers
+and lengths of batches are looked at, not their digests.
 """
 
 import re
@@ -16,7 +17,9 @@ Lines = list[tuple[int, bytes]]
 
 
 def batches(file: BinaryIO, path: str) -> Iterator[Lines]:
-    """The lines of each whole batch, each with its offset. Damaged where a wrong one is followed by anything, BadFile for a journal of a later form."""
+    """The lines of each whole batch, each with its offset. Damaged where a wrong one is followed by anything, BadFile
+    for a journal of a later form.
+    """
     for lines, _ in sealed(file, path):
         yield lines
 

@@ -18,7 +18,7 @@ from .carriers import Carrier
 from .chunk_lines import CHUNK_CHARGE, ROOM, ChunkTold
 from .errors import Damaged, NoRoom, Unanswered
 from .grid import Shape, listed
-from .runs import Place, Run, runs_of
+from .runs import MOST_NUMBER, Place, Run, runs_of
 from .sessions import DOUBT, QUIET, SHARE, Pace
 from .uplinks import LOOK, Sent, Uplink, uplink_of
 
@@ -356,8 +356,12 @@ class Chunks:
         return max(0, int((time.time() - FIRST_MOMENT) * MOMENTS)) * IN_A_MOMENT
 
     def begin_above(self, number: int) -> None:
-        """Numbers from now on are above this one, and above all that were used here. A draw sees to it that nobody else has them, should the clock go back."""
+        """Numbers from now on are above this one, and above all that were used here. A draw sees to it that nobody else has them, should the clock go back.
+        Unanswered where there are no more: a client may have had nodes forget all of them."""
         self.last = max(self.last, number, self.moment()) + self.draw.randrange(IN_A_MOMENT // 2)
+        if self.last > MOST_NUMBER - IN_A_MOMENT:
+            why = "nodes keep no more chunks of it, since a client had them forget nearly all numbers that there are"
+            raise Unanswered(f"session {self.number}: {why}; use other sessions (`session`)")
 
     # Short questions
 
@@ -606,7 +610,8 @@ class Keeper:
         self.left: set[int] = set()  # columns that were
         self.places: dict[int, Place] = {}  # of each piece that is kept
         self.under_way: dict[int, Keeping] = {}  # of each that is not yet
-        self.by_key: dict[tuple[int, int], int] = {}
+        self.by_key: dict[tuple[int, int], int] = {ROOM: -1}  # (by which it is told, too, that a node takes a line for none)
+        self.refusing: set[int] = set()  # places that told so
         self.begun: list[Place] = []  # all numbers that may be kept somewhere
         self.ahead, self.window = 0, Window(chunks.pace)
 
@@ -659,8 +664,10 @@ class Keeper:
         self.begin(at, keeping.content)
 
     def take(self, told: ChunkTold) -> None:
-        at = self.by_key.get(told.key)
-        if at is None:
+        at = self.by_key.get(told.key, -1)
+        if told.word == "bad":
+            self.refusing.add(told.node % MOST_PLACES)
+        if at < 0:
             return
         keeping, place = self.under_way[at], told.node % MOST_PLACES
         if place not in keeping.lines:
@@ -699,6 +706,8 @@ class Keeper:
         if waited > max(timeout / SHARE, 2 * self.window.longest) and self.column not in self.left or waited > timeout:
             self.chunks.silent.add(line.place)
             told = f"node {self.chunks.node_at(line.place)} of column {self.column} did not keep a chunk in {round(waited, 1):g} s"
+            if line.place in self.refusing:
+                told += ", and told `refused bad`"
             self.leave(sorted(self.under_way), f"session {self.chunks.number}: {told}", None if waited <= timeout else Unanswered)
 
     def leave(self, which: Sequence[int], why: str, fault: type[NoRoom] | type[Unanswered] | None) -> None:

@@ -281,7 +281,8 @@ def parser() -> argparse.ArgumentParser:
          source=dict(place, metavar="SOURCE"), target=dict(place, metavar="TARGET"),
          **{"--dry-run": dict(is_given, help="tell what would be done, and do nothing"),
             "--delete": dict(is_given, help="remove what is in the target and not in the source"),
-            "--exclude": dict(metavar="PATTERN", action="append", default=[], help="leave alone, on both sides, what has this name, or with / in it this path from the folder on; * ? [] as a shell has them")})  # fmt: skip
+            "--exclude": dict(metavar="PATTERN", action="append", default=[],
+                              help="leave alone, on both sides, what has this name, or with / in it this path; * ? [] as in a shell")})  # fmt: skip
     word("status", status, "tell which nodes answer, and then what the tenant has used of its room",
          **{"--nodes": dict(is_given, dest="is_of_nodes", help="the nodes alone")})  # fmt: skip
     word("sweep", sweep, "forget names that were taken away, and chunks that dead commands left; of all sessions that nobody uses",
@@ -369,9 +370,12 @@ def in_folder(path: str, name: str) -> str:
 
 
 def told_of(entry: Entry) -> dict[str, object]:
-    """An entry, with words where there are any, and with the digest of the whole content or what is told of its parts."""
+    """An entry, with words where there are any, and with the digest of the whole content or what is told of its
+    parts.
+    """
     parts = [{"size": part.size, "list_sha256" if part.is_list else "sha256": part.sha256} for part in entry.parts]
-    return {key: value for key, value in (asdict(entry) | {"parts": parts}).items() if key not in ("words", "sha256", "parts") or value}
+    values = asdict(entry) | {"parts": parts}
+    return {key: value for key, value in values.items() if key not in ("words", "sha256", "parts") or value}
 
 
 def line_of(entry: Entry) -> str:
@@ -444,8 +448,8 @@ def remove_whole(opened: Opened | OpenedFleet, args: argparse.Namespace) -> None
 def stat(opened: Opened | OpenedFleet, args: argparse.Namespace) -> None:
     entry = opened.by_sessions(lambda names: names.stat(args.name))
     value = told_of(entry)
-    parts = {"parts": ", ".join(f"{part.size} {'list ' * part.is_list}{part.sha256}" for part in entry.parts)} if entry.parts else {}
-    tell(args, value, *(f"{key}: {each}" for key, each in (value | parts).items()))
+    parts = ", ".join(f"{part.size} {'list ' * part.is_list}{part.sha256}" for part in entry.parts)
+    tell(args, value, *(f"{key}: {each}" for key, each in (value | ({"parts": parts} if parts else {})).items()))
 
 
 def sweep(opened: Opened | OpenedFleet, args: argparse.Namespace) -> None:

@@ -206,7 +206,9 @@ Content = Inline | InSlots | InChunks | PartList | Joined
 
 @dataclass(frozen=True, slots=True)
 class PartTold:
-    """A part that a content was put in: its bytes, and SHA-256 in hexadecimal; of several that a list names together that of the list's text."""
+    """A part that a content was put in: its bytes, and SHA-256 in hexadecimal; of several that a list names together
+    that of the list's text.
+    """
 
     size: int
     sha256: str

@@ -1,8 +1,9 @@
 """A copy of a node, also of one that runs: its journal, and of the folder beside it what the journal names.
 
-Segments grow at their ends alone, and no place in them is used twice. So a copy that is there already gets what is new; a segment that grows no more is shared by the copy where
-the file system can (a reflink, or a hard link), and each byte of the others is copied once. To another machine a copy goes as a stream, an archive of tar: the segments that are
-named, what is new of each, and the journal.
+Segments grow at their ends alone, and no place in them is used twice. So a copy that is there already gets what is
+new; a segment that grows no more is shared by the copy where the file system can (a reflink, or a hard link), and
+each byte of the others is copied once. To another machine a copy goes as a stream, an archive of tar: the segments
+that are named, what is new of each, and the journal.
 """
 
 import fcntl
@@ -28,7 +29,9 @@ AT = "gridfs.at"  # where in its file begins what an archive has of it
 
 @dataclass
 class Copied:
-    """What a copy has: which node's it is, bytes of its journal and of its segments, how many of these were copied and not shared, and how many segments the node had lost."""
+    """What a copy has: which node's it is, bytes of its journal and of its segments, how many of these were copied
+    and not shared, and how many segments the node had lost.
+    """
 
     node: int
     journal_bytes: int
@@ -76,7 +79,8 @@ class Copy:
             self.append(files.journal, out, files.facts.end)
         like(os.fstat(files.journal.fileno()), out.name)
         finish(self.folder, ends)
-        return Copied(files.node, files.facts.end, sum(ends.values()), self.copied, len(ends.keys() - files.segments.keys()))
+        lacking = len(ends.keys() - files.segments.keys())
+        return Copied(files.node, files.facts.end, sum(ends.values()), self.copied, lacking)
 
     def bring_segments(self, ends: Counter[int]) -> None:
         growing = max(segments_in(self.files.folder), default=0)
@@ -109,7 +113,8 @@ def expect_copy_of(node: int, folder: str) -> None:
         with open(journal, "rb") as earlier:
             head = NODE.fullmatch(earlier.readline())
         if head is None or int(head[1]) != node:
-            raise BadFile(f"{folder}: it has a copy of {f'node {int(head[1])}' if head else 'no node'}, and this is node {node}")
+            whose = f"node {int(head[1])}" if head else "no node"
+            raise BadFile(f"{folder}: it has a copy of {whose}, and this is node {node}")
     elif segments_in(folder_of(journal)) and not os.path.exists(f"{journal}.new"):
         raise BadFile(f"{folder_of(journal)}: segments are there without a journal, so they may be another node's")
 
@@ -155,7 +160,8 @@ def parse_had(text: str) -> dict[int, int]:
 
 def write_stream(journal: str, out: IO[bytes], had: Mapping[int, int]) -> None:
     """Writes a copy of a node, but for what is there already."""
-    with closing(NodeFiles(journal)) as files, tarfile.open(fileobj=out, mode="w|", format=tarfile.PAX_FORMAT) as stream:
+    made = tarfile.open(fileobj=out, mode="w|", format=tarfile.PAX_FORMAT)
+    with closing(NodeFiles(journal)) as files, made as stream:
         ends = ends_of(files)
         named = "".join(f"{number}\n" for number in sorted(ends)).encode()
         stream.addfile(member(f"{files.node}", len(named)), io.BytesIO(named))
@@ -174,7 +180,9 @@ def member(name: str, size: int, at: int = 0) -> tarfile.TarInfo:
 
 
 def take_stream(stream: IO[bytes], folder: str) -> int:
-    """Has a folder with no copy, or an earlier one, go on to the one that comes; the bytes that came. BadFile where it is none, or of another node, or has a gap."""
+    """Has a folder with no copy, or an earlier one, go on to the one that comes; the bytes that came. BadFile where
+    it is none, or of another node, or has a gap.
+    """
     journal = os.path.join(folder, JOURNAL)
     shelf, count = folder_of(journal), 0
     try:
@@ -187,7 +195,8 @@ def take_stream(stream: IO[bytes], folder: str) -> int:
             os.makedirs(shelf, mode=0o700, exist_ok=True)
             open(f"{journal}.new", "wb").close()
             while (each := members.next()) and each.name != JOURNAL:
-                count += take(content_in(members, each), os.path.join(shelf, segment_name(int(each.name))), int(each.pax_headers[AT]), each.size)
+                path = os.path.join(shelf, segment_name(int(each.name)))
+                count += take(content_in(members, each), path, int(each.pax_headers[AT]), each.size)
             if each is None:
                 raise BadFile("the stream ended before the journal")
             count += take(content_in(members, each), f"{journal}.new", 0, each.size)

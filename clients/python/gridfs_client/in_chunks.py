@@ -33,15 +33,30 @@ class Gone(Exception):
 
 @dataclass(frozen=True)
 class Cut:
-    """The bytes of a content from the first to before the end."""
+    """The bytes of a content from the first to before the end; and whether all of it is read, here or by cuts before and behind."""
 
     part: InChunks
     first: int
     end: int
+    is_whole: bool
 
-    @property
-    def is_whole(self) -> bool:
-        return (self.first, self.end) == (0, self.part.size)
+
+class SoFar:
+    """What was read of a content in order, as far as it is: whoever reads it whole by several cuts has its digest judged at its end."""
+
+    def __init__(self) -> None:
+        self.part: Part | None = None
+        self.digest, self.at = Digest(), 0
+
+    def is_right(self, part: Part, at: int, data: bytes, is_whole: bool = True) -> bool:
+        """Takes these bytes at this place of a part. No where they are its last ones, and all of it has another digest."""
+        if at == 0:
+            self.part, self.digest, self.at = part if is_whole else None, Digest(), 0
+        if part != self.part or at != self.at:
+            return True
+        self.digest.update(data)
+        self.at += len(data)
+        return self.at < part.size or self.digest.digest().hex() == digest_in_hex(part.digest)
 
 
 class ChunkSource(Protocol):
@@ -51,7 +66,9 @@ class ChunkSource(Protocol):
     def shape(self) -> Shape: ...
 
     def get(self, wanted: Iterable[Wanted]) -> Generator[bytes | None, None, None]:
-        """The bytes that are wanted of these chunks, in their order; None for one that was forgotten. Damaged where there is no sound one."""
+        """The bytes that are wanted of these chunks, in their order; None for one that was forgotten. Damaged where
+        there is no sound one.
+        """
 
 
 class ReadContents:
@@ -81,35 +98,34 @@ class ReadContents:
 
     def read(self, part: InChunks) -> Generator[bytes, None, None]:
         """All bytes of a content, as `read_cuts` gives them."""
-        return self.read_cuts([Cut(part, 0, part.size)])
+        return self.read_cuts([Cut(part, 0, part.size, True)])
 
-    def read_cuts(self, cuts: Iterable[Cut]) -> Generator[bytes, None, None]:
+    def read_cuts(self, cuts: Iterable[Cut], so_far: SoFar | None = None) -> Generator[bytes, None, None]:
         """What is cut from these contents, one after another; the last bytes of one that is read whole once its digest was found right. Gone where a chunk was
         forgotten; Damaged."""
-        coming = deque[Cut]()
+        coming, checked, at = deque[Cut](), so_far or SoFar(), None
 
         def wanted() -> Iterator[Wanted]:
             for cut in cuts:
                 if cut.part.pieces != -(-cut.part.size // self.most):
                     raise Damaged("as many chunks as are named don't hold so many bytes")
                 if any(run.column >= self.source.shape.columns for run in cut.part.runs):
-                    raise Damaged(f"it is in a column that a grid of {self.source.shape.columns} has not: is `grid` right?")
+                    columns = self.source.shape.columns
+                    raise Damaged(f"it is in a column that a grid of {columns} has not: is `grid` right?")
                 coming.append(cut)
                 yield from self.wanted(cut.part, cut.first, cut.end)
 
-        digest, read = Digest(), 0
         with closing(self.source.get(wanted())) as found:
             for piece in found:
                 if piece is None:
                     raise Gone
                 cut = coming[0]
-                read += len(piece)
-                if cut.is_whole:
-                    digest.update(piece)
-                if read == cut.end - cut.first:
-                    if cut.is_whole and digest.digest().hex() != digest_in_hex(cut.part.digest):
-                        raise Damaged("its chunks don't hold it")
-                    digest, read = Digest(), 0
+                at = cut.first if at is None else at
+                if not checked.is_right(cut.part, at, piece, cut.is_whole):
+                    raise Damaged("its chunks don't hold it")
+                at += len(piece)
+                if at == cut.end:
+                    at = None
                     coming.popleft()
                 yield piece
 
@@ -121,7 +137,8 @@ class ReadContents:
                 if isinstance(part, PartList):
                     yield from self.cuts((each for each, _ in self.entries(part)), first - begin, end - begin)
                 elif isinstance(part, InChunks):
-                    yield Cut(part, max(0, first - begin), min(part.size, end - begin))
+                    cut = max(0, first - begin), min(part.size, end - begin)
+                    yield Cut(part, *cut, cut == (0, part.size))
             begin += part.size
 
     def without_lists(self, parts: Iterable[Part]) -> Iterator[Part]:
@@ -162,8 +179,9 @@ class ChunkContents(ReadContents):
     # Writing
 
     def expect_room(self, name: str, size: int | None) -> int:
-        """The column for a content of so many bytes. NoRoom where the tenant has no room for chunks, or all columns together have too little; Unanswered where none
-        is wholly up."""
+        """The column for a content of so many bytes. NoRoom where the tenant has no room for chunks, or all columns
+        together have too little; Unanswered where none is wholly up.
+        """
         wanted, least = self.room_for(size or 1), self.room_for(min(size or 1, self.most))
         for lasts in (ROOM_LASTS, 0):  # (as it was told last, and then as it is)
             rooms = self.chunks.rooms(lasts)

@@ -1,11 +1,14 @@
-"""Journals of nodes with the folders beside them, read as files: what tenants have, without their keys, without a session, and while the nodes run.
+"""Journals of nodes with the folders beside them, read as files: what tenants have, without their keys, without a
+session, and while the nodes run.
 
-A journal is read batch by batch, as far as batches are whole: so one that is being written can be read, or a copy of it. Of each file the newest copy counts
-that any of the journals has. A write that was acknowledged stands in a whole column, so the journals of a whole row have it. Fewer of them may lack what was written
-last. Contents are read where they are wanted, from files as they were opened: a node that writes its journal anew, or removes a segment, does not disturb that.
+A journal is read batch by batch, as far as batches are whole: so one that is being written can be read, or a copy of
+it. Of each file the newest copy counts that any of the journals has. A write that was acknowledged stands in a whole
+column, so the journals of a whole row have it. Fewer of them may lack what was written last. Contents are read where
+they are wanted, from files as they were opened: a node that writes its journal anew, or removes a segment, does not
+disturb that.
 
-Chunks are taken from whichever node of their column has them here. Digests of contents tell what is right: where one is wrong its chunks are read once more, and the sum of each
-copy is looked at.
+Chunks are taken from whichever node of their column has them here. Digests of contents tell what is right: where one
+is wrong its chunks are read once more, and the sum of each copy is looked at.
 """
 
 import os
@@ -54,10 +57,13 @@ class Place:
 
 
 class Journals:
-    """What some journals of one grid have together, and the chunks of one tenant. BadFile where one is none, or of another grid; Damaged as it says."""
+    """What some journals of one grid have together, and the chunks of one tenant. BadFile where one is none, or of
+    another grid; Damaged as it says.
+    """
 
     def __init__(self, paths: Sequence[str], tenant: str = ""):
-        self.plan, self.nodes, self.places, self.tenant = Plan(), list[NodeFiles](), dict[tuple[str, int, int], Place](), tenant
+        self.plan, self.tenant = Plan(), tenant
+        self.nodes, self.places = list[NodeFiles](), dict[tuple[str, int, int], Place]()
         self.opened = ExitStack()
         try:
             for path in paths:
@@ -122,7 +128,8 @@ class Journals:
         if tenant not in self.plan.tenants:
             raise BadSettings(f"the journals have no tenant {tenant}")
         layout = layout_of(self.plan.tenants[tenant])
-        files = JournalNames(JournalFiles(self, tenant, layout, as_they_are), layout, team=OneByOne(), ground=Ground("", lambda _: None))
+        session = JournalFiles(self, tenant, layout, as_they_are)
+        files = JournalNames(session, layout, team=OneByOne(), ground=Ground("", lambda _: None))
         files.chunks = JournalChunks(self)
         return files
 
@@ -175,7 +182,9 @@ class JournalNames(NamedFiles):
         return self.chunks.contents
 
     def get_to(self, name: str, target: IO[bytes]) -> Entry:
-        """Where the digest is wrong the content is read once more, by copies of chunks whose sums are right. (Sums take longer than digests here.)"""
+        """Where the digest is wrong the content is read once more, by copies of chunks whose sums are right. (Sums
+        take longer than digests here.)
+        """
         start = place_to_cut(target)
         self.chunks.is_careful = start is None
         try:
@@ -192,7 +201,8 @@ class JournalChunks:
     """The chunks of the tenant, from whichever node here has them."""
 
     def __init__(self, journals: Journals):
-        self.nodes, self.shape, self.contents = journals.nodes, Shape(journals.plan.rows, journals.plan.columns), ReadContents(self)
+        self.nodes, self.shape = journals.nodes, Shape(journals.plan.rows, journals.plan.columns)
+        self.contents = ReadContents(self)
         self.is_careful = False  # only copies with the right sum will do
 
     def get(self, wanted: Iterable[Wanted]) -> Generator[bytes | None, None, None]:

@@ -22,21 +22,32 @@ from .usage import Usage, usage_of
 
 PROGRAM = "gridfs-journals"
 LACKING = 9  # the status where some names have no whole copy
-NOT_TOGETHER = "Where nodes run, or were copied one after another, copy what has changed once more. --as-they-are takes pages as they are: names that were removed may come back"
+NOT_TOGETHER = (
+    "Where nodes run, or were copied one after another, copy what has changed once more. "
+    "--as-they-are takes pages as they are: names that were removed may come back"
+)
 EPILOG = """\
 examples, on a node's machine and for copies of the journals of nodes 0 and 1, which are a row of two by two:
   gridfs-journals room /var/lib/gridfs/0/journal               how full each tenant is, as node 0 has it
   gridfs-journals room --metrics /run/gridfs/room.prom 0.pages 1.pages
   gridfs-journals pages /var/lib/gridfs/0/journal > 0.pages    the little that `room` wants, to be brought elsewhere
   gridfs-journals shelf /var/lib/gridfs/0/journal              what node 0 has of chunks, and what is dead or lacked
-  gridfs-journals copy /var/lib/gridfs/0/journal /backup/0     a copy of node 0, which may run: /backup/0/journal and /backup/0/journal.shelf
+  gridfs-journals copy /var/lib/gridfs/0/journal /backup/0     a copy of node 0, which may run, with its chunks
   ssh root@there gridfs-journals copy /var/lib/gridfs/0/journal - | gridfs-journals copy - /backup/0
   gridfs-journals get ann backup 0/journal 1/journal           ann's names, with their contents, into the folder backup
 
-A journal may be that of a node that runs, or a copy: it is read as far as its batches are whole. Contents in chunks are read from the folder beside it, 0/journal.shelf. The
-journals of a whole row of nodes have all that was acknowledged before the first one was copied. Of fewer some of the last changes may be missing. `get` tells each name of
-which there is no whole copy, gets all others, and ends with status 9. Else the status is 0, 1 where a tenant has no name, 2 for wrong words, 5 where a journal is damaged or
-copies don't go together, 6 for other faults of files, and that of the first name which was skipped."""
+A journal may be that of a node that runs, or a copy: it is read as far as its batches are whole. Contents in chunks
+are read from the folder beside it, 0/journal.shelf. The journals of a whole row of nodes have all that was
+acknowledged before the first one was copied. Of fewer some of the last changes may be missing. `get` tells each name
+of which there is no whole copy, gets all others, and ends with status 9. Else the status is 0, 1 where a tenant has no
+name, 2 for wrong words, 5 where a journal is damaged or copies don't go together, 6 for other faults of files, and
+that of the first name which was skipped."""
+COPY = (
+    "Copies a node, which may run, into a folder: its journal, and of the folder beside it all that the journal names. "
+    "A folder with an earlier copy gets what is new."
+)
+HAD = "with - for FOLDER: what is there already, a line for each segment with its number and its bytes; - for standard input"
+AS_THEY_ARE = "take pages that are older than others ask for: names that were removed may come back"
 METRICS: dict[str, tuple[str, Callable[[Usage], float]]] = {
     "names": ("names that hold a content", lambda usage: usage.names),
     "used_bytes": ("bytes of these contents", lambda usage: usage.bytes_used),
@@ -77,13 +88,13 @@ def parser() -> argparse.ArgumentParser:
     sub = words.add_parser("pages", help="what `room` wants of a journal, to standard output", description="Writes what `room` wants of a journal to standard output: some MB at most, which are read as a journal.")
     sub.add_argument("journals", nargs=1, metavar="JOURNAL")
     sub.set_defaults(call=pages)
-    sub = words.add_parser("copy", help="a copy of a node, which may run", description="Copies a node, which may run, into a folder: its journal, and of the folder beside it all that the journal names. A folder with an earlier copy gets what is new.")
-    sub.add_argument("--had", metavar="FILE", help="with - for FOLDER: what is there already, a line for each segment with its number and its bytes; - for standard input")
+    sub = words.add_parser("copy", help="a copy of a node, which may run", description=COPY)
+    sub.add_argument("--had", metavar="FILE", help=HAD)
     sub.add_argument("journal", metavar="JOURNAL", help="or - for a stream from standard input")
     sub.add_argument("folder", metavar="FOLDER", help="or - for a stream to standard output")
     sub.set_defaults(call=copy)
     sub = words.add_parser("get", help="a tenant's names into a folder", description="Gets a tenant's names, with their contents, into a folder; gridfs-client mirror puts them back.")
-    sub.add_argument("--as-they-are", action="store_true", help="take pages that are older than others ask for: names that were removed may come back")
+    sub.add_argument("--as-they-are", action="store_true", help=AS_THEY_ARE)
     sub.add_argument("tenant")
     sub.add_argument("folder")
     sub.add_argument("journals", nargs="+", metavar="JOURNAL")
@@ -183,9 +194,11 @@ def copy(args: argparse.Namespace) -> None:
             write_stream(args.journal, standard(sys.stdout, OUTPUT), parse_had(had.read().decode("ascii", "replace")))
         return
     made = copy_node(args.journal, args.folder)
-    out_lines([f"copied node {made.node}: {made.journal_bytes} bytes of its journal, {made.named_bytes} of segments; {made.copied_bytes} bytes were copied, the others are shared or were there"])
+    named = f"{made.journal_bytes} bytes of its journal, {made.named_bytes} of segments"
+    out_lines([f"copied node {made.node}: {named}; {made.copied_bytes} bytes were copied, the others are shared or were there"])
     if made.lacking:
-        raise Skipped(f"{made.lacking} segments are missing beside {args.journal}: their chunks are damaged there", LACKING)
+        missing = f"{made.lacking} segments are missing beside {args.journal}: their chunks are damaged there"
+        raise Skipped(missing, LACKING)
 
 
 class FromJournals(ToFolder):
@@ -207,7 +220,10 @@ def get(args: argparse.Namespace) -> None:
         def names_for(_: str) -> Iterator[NamedFiles]:
             yield journals.files(args.tenant, args.as_they_are)
 
-        made = FromJournals(args.folder, "", names_for, lambda _: 0, lambda word, name: out_lines([f"{word} {shown(name)}"]), partial(complain, who=PROGRAM))
+        def tell(word: str, name: str) -> None:
+            out_lines([f"{word} {shown(name)}"])
+
+        made = FromJournals(args.folder, "", names_for, lambda _: 0, tell, partial(complain, who=PROGRAM))
         try:
             report = made.run()
         except Damaged as fault:
@@ -216,7 +232,8 @@ def get(args: argparse.Namespace) -> None:
             raise NoSuchName(f"{args.tenant} has no name") from None
         out_lines([f"got {len(report.moved)}; {report.same} the same"])
         if made.lacking:
-            raise Skipped(f"{len(report.skipped)} skipped; of {made.lacking} of them no journal and folder here has a whole copy", LACKING)
+            skipped = f"{len(report.skipped)} skipped; of {made.lacking} of them"
+            raise Skipped(f"{skipped} no journal and folder here has a whole copy", LACKING)
         if report.skipped:
             raise Skipped(f"{len(report.skipped)} skipped", report.status)
 

@@ -82,7 +82,9 @@ def open_regular(path: str) -> io.BufferedReader:
 
 
 def is_same(path: str, entry: Entry, parts: Callable[[], Iterable[PartTold]]) -> bool:
-    """Whether a file has the size and the digest of a name's content; of one that was put in parts, these, one behind the other. They are asked for where they count."""
+    """Whether a file has the size and the digest of a name's content; of one that was put in parts, these, one behind
+    the other. They are asked for where they count.
+    """
     with open_regular(path) as file:
         if os.fstat(file.fileno()).st_size != entry.size:
             return False
@@ -128,14 +130,17 @@ def keep_words(path: str, words: str) -> bool:
 
 
 class Tree:
-    """What is met in a folder and below it but for what is excluded: its regular files, what can't be read or is none, and how many folders are empty."""
+    """What is met in a folder and below it but for what is excluded: its regular files, what can't be read or is
+    none, and how many folders are empty.
+    """
 
     def __init__(self, folder: str, skip: Callable[[str, ClientError], None], excludes: Iterable[str] = ()):
         self.folder, self.skip, self.excludes, self.empty = folder, skip, tuple(excludes), 0
 
     def files(self) -> Iterator[str]:
-        """The files, as paths from the folder on. An OSError where it can't be read. Symbolic links are not followed, and what a mirror or a get was writing when it was
-        killed is passed over."""
+        """The files, as paths from the folder on. An OSError where it can't be read. Symbolic links are not followed,
+        and what a mirror or a get was writing when it was killed is passed over.
+        """
         folders = [""]
         while folders:
             inside = folders.pop()
@@ -165,9 +170,15 @@ class Tree:
 
 
 def is_excluded(path: str, excludes: Iterable[str]) -> bool:
-    """Whether a path, or a folder that it leads through, is excluded: by its name, or by a pattern with a `/` as a path."""
+    """Whether a path, or a folder that it leads through, is excluded: by its name, or by a pattern with a `/` as a
+    path.
+    """
     paths = [*folders_of(path), path]
-    return any(fnmatch.fnmatchcase(each if "/" in pattern else os.path.basename(each), pattern.strip("/")) for pattern in excludes for each in paths)
+
+    def matches(pattern: str, each: str) -> bool:
+        return fnmatch.fnmatchcase(each if "/" in pattern else os.path.basename(each), pattern.strip("/"))
+
+    return any(matches(pattern, each) for pattern in excludes for each in paths)
 
 
 def name_of(prefix: str, path: str) -> str:
@@ -246,10 +257,16 @@ class Mirror(abc.ABC):
         with self.names("") as files:
             found = files.names(self.prefix)
             own = MAP_NAME if isinstance(files, FleetFiles) else None  # (it is gridfs-fleet's, and none of the tenant's names)
-            return {entry.name: entry for entry in found if entry.name != own and not is_excluded(entry.name.removeprefix(self.prefix), self.excludes)}
+            return {entry.name: entry for entry in found if entry.name != own and not self.leaves(entry.name)}
+
+    def leaves(self, name: str) -> bool:
+        """Whether a name is left alone."""
+        return is_excluded(name.removeprefix(self.prefix), self.excludes)
 
     def is_same(self, path: str, entry: Entry) -> bool:
-        """Whether a file has what the name holds. (Of parts that lists name the lists are read, by another session's turn.)"""
+        """Whether a file has what the name holds. (Of parts that lists name the lists are read, by another session's
+        turn.)
+        """
 
         def parts() -> Iterable[PartTold]:
             if not any(part.is_list for part in entry.parts):
@@ -359,7 +376,8 @@ class ToGrid(Mirror):
         if name not in entries:
             return True
         path = self.local(self.files[name])
-        same = self.tried(path, lambda: self.is_same(path, entries[name]) and self.has_no_others(path, entries[name].words))
+        entry = entries[name]
+        same = self.tried(path, lambda: self.is_same(path, entry) and self.has_no_others(path, entry.words))
         self.report.same += same is True
         return same is False
 

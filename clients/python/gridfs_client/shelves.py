@@ -1,7 +1,9 @@
-"""A node's journal and the folder of chunks beside it, which are one thing: what the journal names there, what lies there, and the bytes of chunks.
+"""A node's journal and the folder of chunks beside it, which are one thing: what the journal names there, what lies
+there, and the bytes of chunks.
 
-A node that runs removes segments once their chunks were forgotten or moved. So the segments are opened before the journal is read, and those that came meanwhile behind it: what
-was opened can be read whatever the node does since. Where a segment that the journal names was gone by then, and the journal has changed, all is read once more.
+A node that runs removes segments once their chunks were forgotten or moved. So the segments are opened before the
+journal is read, and those that came meanwhile behind it: what was opened can be read whatever the node does since.
+Where a segment that the journal names was gone by then, and the journal has changed, all is read once more.
 """
 
 import os
@@ -24,7 +26,9 @@ Taken = Callable[[BinaryIO, int, bytes], None]
 
 
 class Extent(NamedTuple):
-    """Where the bytes of a chunk are: in a segment of the shelf, or as a word of the journal, where the segment is 0. `is_sure`: the node tells it."""
+    """Where the bytes of a chunk are: in a segment of the shelf, or as a word of the journal, where the segment is 0.
+    `is_sure`: the node tells it.
+    """
 
     segment: int
     at: int
@@ -72,7 +76,9 @@ class Shelf:
 
 
 class Facts:
-    """What was read so far of a journal: its node, the lines of its last plan, and where the chunks of one tenant are, or of all."""
+    """What was read so far of a journal: its node, the lines of its last plan, and where the chunks of one tenant
+    are, or of all.
+    """
 
     def __init__(self, tenant: str | None = None) -> None:
         self.of = b" %b " % tenant.encode("ascii") if tenant else b""
@@ -86,7 +92,8 @@ class Facts:
         if lines and (head := NODE.fullmatch(lines[0][1])):
             self.node, self.plan = int(head[1]), [line for _, line in lines]
             words = [line.decode("ascii").split() for line in self.plan[1:]]
-            self.rooms = {name: int(kib) for name, kib in (row[::2] for row in words if len(row) == 3 and row[1] == "chunks")}
+            rooms = [row for row in words if len(row) == 3 and row[1] == "chunks"]
+            self.rooms = {name: int(kib) for name, _, kib in rooms}
             self.first = self.first or self.rooms
             return False
         for offset, line in lines:
@@ -148,8 +155,10 @@ def allow_many_files() -> None:
 
 
 class NodeFiles:
-    """A node's journal and shelf, opened, as they were at one moment. BadFile where it is no journal, Damaged where it is damaged. `take` is given each other fact: the journal
-    as it was opened, where the line begins, and the line."""
+    """A node's journal and shelf, opened, as they were at one moment. BadFile where it is no journal, Damaged where
+    it is damaged. `take` is given each other fact: the journal as it was opened, where the line begins, and the
+    line.
+    """
 
     def __init__(self, path: str, tenant: str | None = None, take: Taken = lambda *_: None):
         self.path, self.folder, self.tenant, self.take = path, folder_of(path), tenant, take
@@ -189,8 +198,9 @@ class NodeFiles:
     def open_segments(self, numbers: Iterable[int]) -> None:
         for number in numbers:
             if number not in self.segments:
+                path = os.path.join(self.folder, segment_name(number))
                 with suppress(FileNotFoundError):
-                    self.segments[number] = self.opened.enter_context(open(os.path.join(self.folder, segment_name(number)), "rb"))
+                    self.segments[number] = self.opened.enter_context(open(path, "rb"))
 
     def has_changed(self) -> bool:
         """Whether the journal has more by now than was read, or is another one."""
@@ -210,7 +220,9 @@ class NodeFiles:
         return self.facts.sessions.get((self.tenant or "", session), {}).get(number)
 
     def content(self, extent: Extent, is_checked: bool) -> bytes:
-        """The bytes there; their sum is looked at where that is wanted. Damaged, with a word that says why, where they can't be read."""
+        """The bytes there; their sum is looked at where that is wanted. Damaged, with a word that says why, where
+        they can't be read.
+        """
         try:
             if not extent.segment:
                 return content_of(os.pread(self.journal.fileno(), extent.length, extent.at).decode("latin1"))

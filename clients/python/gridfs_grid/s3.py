@@ -90,6 +90,7 @@ class All:
 
     def start_gateway(self, it):
         words = ["--config", self.grid_folder / f"{it.tenant}.ini", "--keys", self.s3 / f"{it.tenant}.keys", "--listen", f"unix:{self.s3 / it.name}.socket"]
+        words += ["--index", self.s3 / f"{it.name}.index"]
         self.run(f"s3.{it.name}", [GATEWAY, *words], env={**os.environ, "GRIDFS_SESSION": it.sessions})
 
     def wait_for_gateway(self, it):

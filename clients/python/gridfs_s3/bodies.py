@@ -23,6 +23,7 @@ from .requests import Asked
 from .signing import DIGEST, UNSIGNED, Signed
 
 LONGEST_LINE, MOST_TRAILERS = 4_096, 16
+LEAST_CHUNK = 8_192  # bytes of each chunk but the last one, as S3 wants it: one costs as much as some thousand bytes
 CHUNKED = re.compile(r"STREAMING-(AWS4-HMAC-SHA256|UNSIGNED)-PAYLOAD(-TRAILER)?")
 CHUNK = re.compile(rb"([0-9a-fA-F]{1,8})(?:;chunk-signature=([0-9a-f]{64}))?")
 
@@ -105,7 +106,7 @@ class Body:
         self.parts = self.chunks() if chunked else self.plain()
         self.ahead = bytearray()
         self.is_over = False
-        self.begun, self.came = 0.0, 0
+        self.begun, self.came, self.turn = 0.0, 0, 0
 
     async def next(self) -> bytes | None:
         """Some bytes that came; None at the end, once all was found right but the digests. 400 RequestTimeout where they don't come, or too slowly."""
@@ -116,6 +117,9 @@ class Body:
         except asyncio.TimeoutError:
             raise S3Error("RequestTimeout") from None
         self.came += len(data or b"")
+        if self.came - self.turn > BODY_PIECE:  # (what is here already waits for nobody: others have their turn)
+            self.turn = self.came
+            await asyncio.sleep(0)
         if is_too_slow(time.monotonic() - self.begun, self.came):
             raise S3Error("RequestTimeout", "The content comes too slowly.")
         return data
@@ -184,19 +188,19 @@ class Body:
                 raise S3Error("IncompleteBody")
             yield data
 
-    async def line(self) -> bytes:
+    async def line(self, is_trailer: bool = False) -> bytes:
         if self.stream.at_eof():  # (a request without a body has another kind of stream)
             raise S3Error("IncompleteBody")
         try:
             found = await self.stream.readuntil(b"\n")
         except (ValueError, BadHttpMessage):  # (a line too long is of the second kind)
             raise S3Error("IncompleteBody") from None
-        if len(found) > LONGEST_LINE or not found.endswith(b"\r\n"):
+        if len(found) > LONGEST_LINE or not found.endswith(b"\n" if is_trailer else b"\r\n"):
             raise S3Error("IncompleteBody", "The content is not in the chunks that the request says.")
-        return found[:-2]
+        return found.removesuffix(b"\n").removesuffix(b"\r")
 
     async def chunks(self) -> AsyncIterator[bytes]:
-        before, size = self.signed.signature, 0
+        before, size, is_short = self.signed.signature, 0, False
         while True:
             found = CHUNK.fullmatch(await self.line())
             if not found or bool(found[2]) != self.is_signed:
@@ -206,6 +210,9 @@ class Body:
             if size > self.told_size:
                 raise S3Error("IncompleteBody")
             is_last = not left
+            if is_short and not is_last:
+                raise S3Error("InvalidChunkSizeError")
+            is_short = left < LEAST_CHUNK
             while left:
                 data = await self.stream.read(min(left, 1 << 18))
                 if not data:
@@ -228,13 +235,15 @@ class Body:
         return right
 
     async def take_trailers(self, before: str) -> None:
-        """Reads the lines after the last chunk."""
-        lines = []
-        while not self.stream.at_eof() and (line := (await self.line()).decode("latin1")):
-            name, _, value = line.partition(":")
-            lines.append((name.strip().lower(), value.strip()))
-            if len(lines) > MOST_TRAILERS:
-                raise S3Error("IncompleteBody")
+        """Reads the lines after the last chunk. (minio-go ends one by a line feed alone, and has an empty one before the signature of all.)"""
+        lines, count = list[tuple[str, str]](), 0
+        while not self.stream.at_eof():
+            line, count = (await self.line(is_trailer=True)).decode("latin1"), count + 1
+            name, mark, value = line.partition(":")
+            if count > MOST_TRAILERS or bool(mark) != bool(line):
+                raise S3Error("IncompleteBody", "What follows the last chunk is no trailer.")
+            if line:
+                lines.append((name.strip().lower(), value.strip()))
         self.trailers = dict(lines)
         if self.is_signed and self.checks.trailers:
             told = self.trailers.pop("x-amz-trailer-signature", "")

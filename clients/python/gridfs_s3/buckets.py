@@ -1,5 +1,7 @@
 """Operations on buckets."""
 
+import time
+
 from aiohttp import web
 
 from gridfs_client.buckets import Bucket, Held
@@ -48,7 +50,7 @@ class Buckets(Operations):
         check_bucket(asked.bucket)
         if body_of(asked).told_size:
             wanted = (await self.gateway.document(asked, "CreateBucketConfiguration")).told("LocationConstraint")
-            if wanted not in (None, "", "EU", self.gateway.region):
+            if self.gateway.region_is_told and wanted not in (None, "", "EU", self.gateway.region):
                 raise S3Error("InvalidLocationConstraint", f"The only region here is {self.gateway.region}.")
         name = BUCKETS + asked.bucket
 
@@ -96,7 +98,7 @@ class Buckets(Operations):
         return answer(document("VersioningConfiguration", element("Status", state) if state else None))
 
     async def put_bucket_versioning(self, asked: Asked) -> web.Response:
-        """200. Other gateways go on for two seconds by what was before. The errors of a body; 400 MalformedXML; 404 NoSuchBucket; 501
+        """200. Changes that are committed from now on go by it, those of other gateways after two seconds. The errors of a body; 400 MalformedXML; 404 NoSuchBucket; 501
         NotImplemented over several grids."""
         await self.gateway.need_bucket(asked.bucket)
         state = (await self.gateway.document(asked, "VersioningConfiguration")).told("Status") or ""
@@ -114,7 +116,7 @@ class Buckets(Operations):
 
         # (the bucket was made when it was made)
         await self.gateway.change(name, lambda store: store.change(name, expect, lambda: {**words, "v": state}))
-        self.gateway.known_buckets.pop(asked.bucket, None)
+        self.gateway.knows(asked.bucket, time.monotonic(), state)
         return answer()
 
     async def get_bucket_acl(self, asked: Asked) -> web.Response:

@@ -30,7 +30,7 @@ def parser(kind: type[argparse.ArgumentParser] = argparse.ArgumentParser) -> arg
     found.add_argument("--keys", metavar="FILE", help="the access keys with their secrets; others may not read it")
     found.add_argument("--listen", metavar="WHERE", default="127.0.0.1:9000", help="ADDRESS:PORT, or unix:PATH (127.0.0.1:9000)")
     found.add_argument("--index", metavar="FILE", help="keeps what pages say for the next start; else, and over several grids, that goes with the process")
-    found.add_argument("--region", default="us-east-1", metavar="WORD", help="the region that is told (us-east-1)")
+    found.add_argument("--region", metavar="WORD", help="the only region of buckets (without it any is taken, and us-east-1 is told)")
     found.add_argument("--domain", metavar="NAME", help="BUCKET.NAME is a bucket's own host name")
     found.add_argument("--timeout", metavar="SECONDS", default=None, help="seconds to wait for a node's answer (20)")
     found.add_argument("--lifecycle", metavar="SECONDS", type=float, default=3600, help="seconds between looks for what has expired by the rules of its bucket (3600)")

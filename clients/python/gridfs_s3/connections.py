@@ -1,7 +1,8 @@
 """Connections: what comes by them before a request is known, within bounds; and what is no request is told an error of S3."""
 
 import asyncio
-from collections.abc import Awaitable, Callable
+from collections.abc import Awaitable, Callable, Iterator
+from contextlib import contextmanager
 from http import HTTPStatus
 from typing import Any
 
@@ -37,17 +38,28 @@ class Connection(RequestHandler):
     def connection_made(self, transport: asyncio.BaseTransport) -> None:
         super().connection_made(transport)
         self.rest, self.head = b"", 0  # bytes that wait, and how many of a head came
+        self.is_unknown = False  # it sends a form of which nobody has shown yet whose it is
         self.payload: Any = None  # of the last request that came
         self.late = asyncio.get_running_loop().call_later(FIRST, self.give_up)
         if self._manager and len(self._manager.connections) > MOST_CONNECTIONS:
-            idle = (each for each in self._manager.connections if isinstance(each, Connection) and each is not self and not each.is_busy)
-            if oldest := next(idle, None):
-                oldest.give_up()
+            others = [each for each in self._manager.connections if isinstance(each, Connection) and each is not self]
+            found = next((each for each in others if not each.is_busy), None) or next((each for each in others if each.is_unknown), None)
+            if found:
+                found.give_up()
 
     def connection_lost(self, exc: BaseException | None) -> None:
         self.late.cancel()
         self.rest = b""
         super().connection_lost(exc)
+
+    @contextmanager
+    def unknown(self) -> Iterator[None]:
+        """Meanwhile it is ended before others, where there are too many: the one that began first."""
+        self.is_unknown = True
+        try:
+            yield
+        finally:
+            self.is_unknown = False
 
     @property
     def is_busy(self) -> bool:

@@ -25,7 +25,7 @@ from .places import Object, Values
 from .requests import Asked, answer, iso, judge
 from .store import Body, Condition, NoLine, PageFull, Store
 from .trips import Elsewhere
-from .versions import Place
+from .versions import Place, Restated
 
 Told = TypeVar("Told")
 
@@ -63,6 +63,14 @@ class Copied:
             assert not self.is_begun
             self.sums[algorithm] = ALGORITHMS[algorithm]()
         return of_digest(algorithm, self.sums[algorithm].digest())
+
+
+def touched_by(store: Store, name: str, found: Object, values: Callable[[Store, Object], Values], condition: Condition | None) -> Held | None:
+    """Gives an object other words by this session; None where it can't be done so, also where it is to be a version of its own by now."""
+    try:
+        return store.touch(name, found.held, lambda: values(store, found), condition)
+    except Restated:
+        return None
 
 
 def known_of(found: Object, part: tuple[int, int]) -> list[Checksum]:
@@ -137,7 +145,7 @@ class Copies(Operations):
                     copied = Copied(data, rest, part[1] - part[0], known_of(found[0], part))
                     is_writing = True
                     return await writer.run(lambda store: put(store, copied, found[0]))
-                except NotSettled:
+                except (NotSettled, Restated):
                     pass
                 except Elsewhere as fault:
                     await self.gateway.go_on(wants[is_writing], fault)
@@ -159,8 +167,8 @@ class Copies(Operations):
     async def copy_object(self, asked: Asked) -> web.Response:
         """200; a copy of an object onto itself with other metadata or tags moves no content. 400 InvalidArgument, InvalidRequest (nothing would change), InvalidTag;
         404 NoSuchBucket, NoSuchKey; 412 PreconditionFailed; 507 InsufficientStorage."""
-        target, place = await self.objects.target_of(asked), await self.source_of(asked)
-        name, directive = target.name, asked.headers.get(DIRECTIVE, "COPY")
+        aim, place = await self.objects.aim_of(asked), await self.source_of(asked)
+        name, directive = aim.name, asked.headers.get(DIRECTIVE, "COPY")
         is_onto_itself = (place.bucket, place.key, place.version) == (asked.bucket, asked.key, None)
         if directive not in ("COPY", "REPLACE"):
             raise S3Error("InvalidArgument", f"{DIRECTIVE} is COPY or REPLACE.")
@@ -169,29 +177,30 @@ class Copies(Operations):
             raise S3Error("InvalidRequest", "A copy onto itself has to change something: REPLACE.")
         new, algorithm = values_of(asked), algorithm_wanted(asked)
 
-        def values_for(found: Object, source: Body | None) -> Values:
+        def values_for(store: Store, found: Object, source: Body | None) -> Values:
             old = found.values
             old_tags = tags.among(old)
             kept = new if directive == "REPLACE" else {each: value for each, value in old.items() if each not in ("k", "o", "u", "n", "m", "s", "t", *old_tags)}
-            values = {**kept, **(old_tags if new_tags is None else new_tags), **target.values}
+            values = {**kept, **(old_tags if new_tags is None else new_tags), **aim.values(store)}
             if source is None:  # (the content stays where it is)
                 return {**values, **{each: old[each] for each in ("m", "n", "s") if each in old}}
             return {**values, **values_by(source, algorithm or (found.checksum.algorithm if found.checksum else ""))}
 
         condition = await self.gateway.condition_of(asked, name)
         if is_onto_itself and not place.state and not condition and not algorithm:
-            if held := await self.touched(asked, place, lambda found: values_for(found, None)):
+            if held := await self.touched(asked, place, lambda store, found: values_for(store, found, None)):
                 return self.result("CopyObjectResult", Object(asked.key, held))
         source_told = dict[str, str]()
 
         def put(store: Store, source: Body, found: Object) -> Held:
             source_told.update({"x-amz-copy-source-version-id": found.version} if place.state else {})
-            return store.put_object(name, source, lambda: values_for(found, source), condition, target.about)
+            target = aim.at(store)
+            return store.put_object(target.name, source, lambda: values_for(store, found, source), condition, target.about)
 
         held = await self.copied(place, asked, put, lambda found: (0, found.size), name, condition=condition)
-        return self.result("CopyObjectResult", Object(asked.key, held), {**source_told, **target.told})
+        return self.result("CopyObjectResult", Object(asked.key, held), {**source_told, **aim.target.told})
 
-    async def touched(self, asked: Asked, place: Place, values: Callable[[Object], Values], condition: Condition | None = None) -> Held | None:
+    async def touched(self, asked: Asked, place: Place, values: Callable[[Store, Object], Values], condition: Condition | None = None) -> Held | None:
         """Gives an object other words where it stands; None where it has to be put anew."""
         for _ in range(3):
             found, name = await self.objects.found(place), place.name
@@ -200,7 +209,7 @@ class Copies(Operations):
             if number is not None and not self.grids.has_session(number):
                 return None
             try:
-                touch: Callable[[Store], Held | None] = lambda store: store.touch(name, found.held, lambda: values(found), condition)
+                touch: Callable[[Store], Held | None] = lambda store: touched_by(store, name, found, values, condition)
                 if held := await self.gateway.change(name, touch, number=number, condition=condition):
                     return held
             except NoLine:

@@ -17,6 +17,7 @@ from .requests import Asked, answer
 
 KIND = "cors"
 MOST_RULES, LONGEST_ID, LONGEST_AGE = 100, 255, 2**31 - 1
+LONGEST, MOST_ASKED = 64 << 10, 100  # bytes of the rules of a bucket; names of headers that a browser asks for
 METHODS = {"GET", "PUT", "POST", "DELETE", "HEAD"}
 ELEMENTS = {"CORSConfiguration": {"CORSRule"}, "CORSRule": {"ID", "AllowedOrigin", "AllowedMethod", "AllowedHeader", "ExposeHeader", "MaxAgeSeconds"}}
 SURE_FOR = 2.0  # seconds for which rules that were seen are taken to be in force
@@ -107,7 +108,9 @@ class Cors(Operations):
         """200: the bucket has these rules and no others. The errors of a body; 400 InvalidRequest, MalformedXML; 404 NoSuchBucket; 507 InsufficientStorage."""
         made, _ = await self.given.made(asked.bucket)
         rules = rules_of(await self.gateway.document(asked, "CORSConfiguration"))
-        await self.given.give(asked.bucket, made, KIND, document_of(rules))
+        if len(text := document_of(rules)) > LONGEST:
+            raise S3Error("MalformedXML", f"The CORS rules of a bucket have at most {LONGEST:,} bytes.")
+        await self.given.give(asked.bucket, made, KIND, text)
         self.known.pop(asked.bucket, None)
         return answer()
 
@@ -148,6 +151,8 @@ class Cors(Operations):
         if method not in METHODS:
             raise S3Error("BadRequest", "Access-Control-Request-Method is wanted, and is one of S3's methods.")
         wanted = [each.strip().lower() for each in asked.headers.get("access-control-request-headers", "").split(",") if each.strip()]
+        if len(wanted) > MOST_ASKED:
+            raise S3Error("BadRequest", f"At most {MOST_ASKED} headers are asked for.")
         async with self.asking:
             rules = await self.rules(asked.bucket)
         rule = next((each for each in rules if each.lets(origin, method, wanted)), None)

@@ -8,6 +8,7 @@ from gridfs_client.errors import CarrierFault, ClientError, NoRoom, Replaced, Se
 from gridfs_client.local import visible
 
 ERRORS = {
+    "AccessControlListNotSupported": (400, "The bucket does not allow ACLs: all is its tenant's alone here, but what a policy lets anybody read."),
     "AccessDenied": (403, "Access is denied."),
     "AccessForbidden": (403, "Access is forbidden."),
     "AuthorizationHeaderMalformed": (400, "The header Authorization is malformed."),
@@ -25,13 +26,17 @@ ERRORS = {
     "InvalidAccessKeyId": (403, "There is no such access key."),
     "InvalidArgument": (400, "A parameter is malformed."),
     "InvalidBucketName": (400, "A bucket's name has 3 to 63 of a-z, 0-9, - and ., a letter or digit at both ends, and is no address."),
+    "InvalidChunkSizeError": (403, "Only the last chunk is expected to have a size less than 8192 bytes."),
     "InvalidDigest": (400, "Content-MD5 is malformed."),
+    "InvalidEncryptionAlgorithmError": (400, "Nothing is encrypted here at the wish of a request."),
     "InvalidLocationConstraint": (400, "There is no such region here."),
+    "InvalidPartNumber": (416, "The requested partnumber is not satisfiable"),
     "InvalidPart": (400, "A part is not there, or has another ETag."),
     "InvalidPartOrder": (400, "The parts are not in ascending order."),
     "InvalidPolicyDocument": (400, "The policy of a form is JSON in base64, with an expiration and conditions."),
     "InvalidRange": (416, "The object has none of these bytes."),
     "InvalidRequest": (400, "The request is malformed."),
+    "InvalidStorageClass": (400, "The only storage class is STANDARD."),
     "InvalidTag": (400, "A tag is malformed."),
     "InvalidURI": (400, "The URI is malformed."),
     "KeyTooLongError": (400, "A key has at most 1,024 bytes."),

@@ -97,7 +97,7 @@ class Lifecycles(Operations):
     # What has expired
 
     async def look_again_and_again(self, seconds: float) -> None:
-        who_asks.set("lifecycle")
+        who_asks.set(("lifecycle", ""))
         while True:
             await asyncio.sleep(seconds)
             try:
@@ -111,8 +111,11 @@ class Lifecycles(Operations):
         gone = Counter[tuple[str, str]]()
         if not in_force:
             return gone
-        if not self.gateway.clock.is_agreed():
-            tell("what has expired stays for now: no client has signed a request by the time of this machine's clock yet, or it was set since")
+        clock = self.gateway.clock
+        if clock.last_put is None:
+            await self.gateway.all(clock.look)
+        if doubt := clock.doubt():
+            tell(f"what has expired stays for now: {doubt}")
             return gone
         if not self.grids.has_all and any(rule.is_enabled and rule.has_objects_go for found in in_force.values() for rule in found.rules):
             tell("objects that have expired stay: that they go needs a gateway that has all sessions of its tenant")

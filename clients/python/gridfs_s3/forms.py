@@ -27,8 +27,8 @@ from .objects import KEPT_HEADERS, LONGEST_PUT, Objects, algorithm_wanted, value
 from .requests import Asked, answer
 from .signing import ALGORITHM, IN_QUERY, SCOPE, UNSIGNED, Signed, Signer, is_utf8, seconds_of
 
-MOST_BEFORE = 32 << 10  # bytes of a form before its file
-NEVER_NAMED = {"bucket", "file", "policy", "x-amz-signature"}  # fields that a policy need not name
+MOST_BEFORE, FIELDS = 32 << 10, 10.0  # bytes of a form before its file, and seconds in which they have to come
+NEVER_NAMED = {"file", "policy", "x-amz-signature"}  # fields that a policy need not name
 IGNORED = "x-ignore-"
 OF_SIGNATURES = {"x-amz-algorithm", "x-amz-credential", "x-amz-date", "x-amz-security-token", "x-amz-signature"}
 AS_HEADERS = re.compile(rf"content-type|{'|'.join(KEPT_HEADERS)}|x-amz-.*")
@@ -225,7 +225,7 @@ class Forms(Operations):
         await let_body_come(asked)
         try:
             stream = Few(asked.request.content)
-            async with asyncio.timeout(IDLE):
+            async with asyncio.timeout(FIELDS):
                 fields, file = await fields_of(MultipartReader(asked.request.headers, cast(StreamReader, stream)))
             stream.all_of_it()
         except asyncio.TimeoutError:
@@ -284,14 +284,14 @@ class Forms(Operations):
     async def post_object(self, asked: Asked, form: Form) -> web.Response:
         """204, or as success_action_status says, or 303 to success_action_redirect. 404 NoSuchBucket; 507 InsufficientStorage; 400 BadDigest, EntityTooLarge,
         EntityTooSmall, InvalidTag, KeyTooLongError, MalformedPOSTRequest, MalformedXML, MetadataTooLarge, RequestTimeout. After these nothing was changed."""
-        target, given = await self.objects.target_of(asked), form.fields.get("tagging")
+        aim, given = await self.objects.aim_of(asked), form.fields.get("tagging")
         values = values_of(asked) | (tags.in_document(parse(given.encode(), "Tagging", tags.ELEMENTS)) if given else {})
         async with self.source_of(asked, form) as source:
-            found = await self.objects.put(asked, target, source, values, algorithm_wanted(asked))
+            found = await self.objects.put(aim, source, values, algorithm_wanted(asked))
         etag = f'"{found.etag}"'
         scheme = asked.request.headers.get("X-Forwarded-Proto", asked.request.scheme)
         place = f"{'https' if scheme == 'https' else 'http'}://{asked.headers.get('host', '')}{asked.path.rstrip('/')}/{quote(asked.key, safe='/-_.~')}"
-        headers = {"ETag": etag, "Location": place, **(found.checksum.headers() if found.checksum else {}), **target.told}
+        headers = {"ETag": etag, "Location": place, **(found.checksum.headers() if found.checksum else {}), **aim.target.told}
         page = form.fields.get("success_action_redirect", form.fields.get("redirect", ""))
         if PAGE.fullmatch(page):
             besides = urlencode({"bucket": asked.bucket, "key": asked.key, "etag": etag}, quote_via=quote)

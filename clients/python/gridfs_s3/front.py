@@ -15,7 +15,8 @@ daemon off;
 worker_processes {workers};
 pid {folder}/nginx.pid;
 error_log stderr warn;
-events {{ worker_connections 4096; }}
+worker_rlimit_nofile 34000;
+events {{ worker_connections 16384; }}
 http {{
     access_log off;
     server_tokens off;
@@ -37,7 +38,16 @@ http {{
         "~\\|(?<user>[a-z]{{1,16}})(\\.[A-Za-z0-9_-]{{1,40}})?$" $user;
         default "";
     }}
-    # who signs no request sends a form, asks for leave, or reads what anybody may: for a tenant that the URL names by ?X-Amz-Credential=, or for the only one here
+    # one address has a quarter of the connections at most, and so have all requests for one tenant; who names none is counted by his address alone
+    limit_conn_zone $binary_remote_addr zone=addresses:10m;
+    limit_conn_zone $tenant zone=tenants:1m;
+    limit_conn_status 503;
+    # who signs no request sends a form, asks for leave, or reads what anybody may: for a tenant that the URL names by ?X-Amz-Credential=, or by its host, as
+    # carol.s3.example, or for the only one here
+    map $host $by_host {{
+        "~^(?<named>[a-z]{{1,16}})\." $named;
+        default "";
+    }}
     map "$request_method $http_origin $content_type" $by_browser {{
         "~^OPTIONS ." cors;
         "~*^POST .*multipart/form-data" form;
@@ -45,14 +55,17 @@ http {{
         default "";
     }}
     # and of its gateways any, or the one that has the session of an upload
-    map "$tenant:$arg_uploadId:$by_browser" $gateway {{
+    map "$tenant:$arg_uploadId:$by_browser:$by_host" $gateway {{
         default "";
 {map}
     }}
 {upstreams}
     server {{
         listen {listen};
-        error_page 400 414 494 = @malformed;
+        error_page 400 414 494 /malformed;
+        error_page 503 = @busy;
+        limit_conn addresses 2048;
+        limit_conn tenants 2048;
         error_page 401 = @who;
         error_page 403 = @nobody;
         error_page 402 = @cors;
@@ -87,11 +100,13 @@ http {{
             if ($gateway = "") {{ return 401; }}
             proxy_pass http://$gateway;
         }}
+        location /minio/health/ {{ return 200 ''; }}
         location @who {{
             add_header WWW-Authenticate 'Basic realm="gridfs-s3", charset="UTF-8"' always;
             return 401 'An access key and its secret are required.\\n';
         }}
-        location @malformed {{
+        location = /malformed {{
+            internal;
             default_type application/xml;
             return 400 '<?xml version="1.0" encoding="UTF-8"?>\\n<Error><Code>BadRequest</Code><Message>The request is malformed, or its headers are too long.</Message></Error>';
         }}
@@ -106,6 +121,11 @@ http {{
         location @cors {{
             default_type application/xml;
             return 403 '<?xml version="1.0" encoding="UTF-8"?>\\n<Error><Code>AccessForbidden</Code><Message>No tenant is named: before several, leave is asked for signed URLs alone.</Message></Error>';
+        }}
+        location @busy {{
+            default_type application/xml;
+            add_header Retry-After 1 always;
+            return 503 '<?xml version="1.0" encoding="UTF-8"?>\n<Error><Code>SlowDown</Code><Message>There are too many requests of this address, or for this tenant, at a time.</Message></Error>';
         }}
         location @away {{
             default_type application/xml;
@@ -172,8 +192,7 @@ def nginx_conf(folder: Path, gateways: Mapping[str, Sequence[Instance]], sockets
             maps.append(f'        "~^{tenant}:({numbers})\\." gateway-{each.name};')
             upstreams.append(f"    upstream gateway-{each.name} {{ server unix:{sockets[each.name]} max_fails=0; keepalive 32; }}")
         maps.append(f'        "~^{tenant}:" gateway-{tenant};')
-        if len(gateways) == 1:
-            maps.append(f'        "~^:.*:(cors|form|read)$" gateway-{tenant};')
+        maps.append(f'        "~^:.*:(cors|form|read):{"" if len(gateways) == 1 else f"{tenant}$"}" gateway-{tenant};')
         servers = " ".join(f"server unix:{sockets[each.name]} {fails};" for each in found)
         upstreams.append(f"    upstream gateway-{tenant} {{ {servers} keepalive 32; }}")
     return NGINX.format(folder=folder, listen=listen, workers=workers, map="\n".join(maps), upstreams="\n".join(upstreams))

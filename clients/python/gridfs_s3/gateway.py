@@ -3,6 +3,7 @@
 import asyncio
 import time
 from collections.abc import AsyncIterator, Callable, Iterable, Mapping
+from concurrent.futures import ThreadPoolExecutor
 from contextlib import AsyncExitStack, asynccontextmanager, closing, suppress
 from dataclasses import dataclass
 from typing import TypeVar
@@ -16,6 +17,7 @@ from gridfs_client.listing import Listing
 from . import metrics
 from .bodies import body_of
 from .bounds import IN_HAND, Places
+from .clocks import Clock
 from .errors import S3Error, tell
 from .grids import Grids, Taken, Want
 from .index import Few, Names, Union
@@ -27,7 +29,7 @@ from .requests import Asked, matches
 from .sessions import Pool
 from .store import Condition, NoLine, PageFull, Store
 from .trips import Elsewhere
-from .versions import Place, expect_id, is_there
+from .versions import Place, Restated, expect_id, is_there
 
 Told = TypeVar("Told")
 KNOWN_FOR = 2.0  # seconds for which a bucket that was there is taken to be there
@@ -37,7 +39,6 @@ MOST_GRIDS = 4  # of a way, whose pages are settled
 LENT_FOR = 20.0  # seconds for which a condition waits for a session that another command has
 WATCH, WATCH_FOR, MOST_FAILURES = 10.0, 60.0, 3  # seconds after which it looks whether it still can do anything, for which it waits, and failures that are too many
 PROBE = f"{BUCKETS}-"  # (which no bucket is)
-SET = 900.0  # seconds by which a clock is off that was set to another time
 MAP_AGAIN = 5.0  # seconds after which a later map is looked for
 
 
@@ -56,20 +57,11 @@ def whole(held: Held | None) -> tuple[int, int]:
     return 0, held.content.size
 
 
-class Clock:
-    """Whether this machine's clock is one that clients agree with. What is removed because it is old rests on that: a clock that is years ahead would have all go."""
-
-    def __init__(self, wall: Callable[[], float] = time.time, steady: Callable[[], float] = time.monotonic):
-        self.wall, self.steady = wall, steady
-        self.agreed: float | None = None  # by how much the clock was ahead of the steady one when a client agreed last
-
-    def is_confirmed(self) -> None:
-        """A client has signed a request by a time that is near the clock's."""
-        self.agreed = self.wall() - self.steady()
-
-    def is_agreed(self) -> bool:
-        """Whether a client agreed since the start, and the clock was not set to another time since."""
-        return self.agreed is not None and abs(self.wall() - self.steady() - self.agreed) < SET
+def state_in(bucket: str, held: Held | None) -> str:
+    """The state of a bucket's versions, by what stands at its name. 404 NoSuchBucket."""
+    if not held:
+        raise S3Error("NoSuchBucket", BucketName=bucket)
+    return of_words(held.words).get("v", "")
 
 
 @dataclass(frozen=True)
@@ -88,11 +80,13 @@ class NotSettled(Exception):
 class Gateway:
     """One tenant, by the sessions of its grids."""
 
-    def __init__(self, grids: Grids, tenant: str, keys: Mapping[str, Key], region: str, domain: str | None):
-        self.grids, self.tenant, self.keys, self.region, self.domain = grids, tenant, keys, region, domain
-        self.known_buckets: dict[str, tuple[float, str]] = {}  # until when, and the state of their versions
+    def __init__(self, grids: Grids, tenant: str, keys: Mapping[str, Key], region: str | None, domain: str | None):
+        self.grids, self.tenant, self.keys, self.domain = grids, tenant, keys, domain
+        self.region, self.region_is_told = region or "us-east-1", region is not None
+        self.known_buckets: dict[str, tuple[float, str]] = {}  # when they were seen, and the state of their versions
         self.clock = Clock()
         self.places, self.documents = Places(), asyncio.Semaphore(IN_HAND)
+        self.parsing = ThreadPoolExecutor(2, "documents")  # (which bodies don't wait for)
         self.in_memory = 0  # gets whose answer may be in memory though it is not short
         self.map_faults = list[str]()  # what was the matter when a later map was looked for last
         if not grids.map:
@@ -170,7 +164,7 @@ class Gateway:
                     if has_searched or not await taken.pool.sweeps.found_room():
                         raise
                     has_searched = True
-                except NotSettled:
+                except (NotSettled, Restated):
                     pass
                 except Unanswered:
                     silent += 1
@@ -360,7 +354,7 @@ class Gateway:
         await let_body_come(asked)
         with closing(await body.spooled()) as spool:
             async with self.documents:
-                return await loop.run_in_executor(None, lambda: parse(spool.read(0, spool.size), name, asked.elements))
+                return await loop.run_in_executor(self.parsing, lambda: parse(spool.read(0, spool.size), name, asked.elements))
 
     async def text(self, asked: Asked, most: int) -> bytes:
         """The whole of a request's body that is no content. The errors of a body."""
@@ -374,20 +368,33 @@ class Gateway:
         """The state of a bucket's versions, empty where it never had any. 400 InvalidBucketName, 404 NoSuchBucket; 501 NotImplemented where it has versions, over
         several grids."""
         check_bucket(bucket)
-        until, state = self.known_buckets.get(bucket, (0.0, ""))
-        if until > time.monotonic():
-            return state
+        if (known := self.state_known(bucket)) is not None:
+            return known
         self.known_buckets.pop(bucket, None)
-        held = await self.held(BUCKETS + bucket)
-        if not held:
-            raise S3Error("NoSuchBucket", BucketName=bucket)
-        state = of_words(held.words).get("v", "")
+        seen = time.monotonic()
+        state = state_in(bucket, await self.held(BUCKETS + bucket))
         if state and self.grids.map:
             raise S3Error("NotImplemented", "The bucket has versions, which are not told apart over several grids.")
+        return self.knows(bucket, seen, state)
+
+    def state_known(self, bucket: str) -> str | None:
+        """The state of a bucket's versions, if it was seen no more than two seconds ago."""
+        seen, state = self.known_buckets.get(bucket, (-KNOWN_FOR, ""))
+        return state if time.monotonic() - seen < KNOWN_FOR else None
+
+    def knows(self, bucket: str, seen: float, state: str) -> str:
+        """The state as it is known now: this one, if nobody saw it later."""
         if len(self.known_buckets) > 1_000:
             self.known_buckets.clear()
-        self.known_buckets[bucket] = time.monotonic() + KNOWN_FOR, state
-        return state
+        known = self.known_buckets[bucket] = max((seen, state), self.known_buckets.get(bucket, (seen, state)))
+        return known[1]
+
+    def state_now(self, bucket: str, store: Store) -> str:
+        """(A thread's.) The state of a bucket's versions, as it was two seconds ago at the earliest. 404 NoSuchBucket."""
+        if (known := self.state_known(bucket)) is not None or self.grids.map:
+            return known or ""
+        seen = time.monotonic()
+        return self.knows(bucket, seen, state_in(bucket, store.look(BUCKETS + bucket)))
 
     async def place_of(self, bucket: str, key: str, version: str | None) -> Place:
         """Where an object is looked for. 400 InvalidArgument for what is no ID of a version; the errors of need_bucket."""

@@ -4,23 +4,29 @@ It has the text of each page as any session of this gateway saw it last, with th
 file: so a page of which the grid tells the same tag is the page that stands here. Which pages have to be asked for, so that the rows are what names held at
 some moment of a request, is not decided here (all_pages.py).
 
+A disk may give back what was not written there, or long ago. So each page has a sum, and all that is there has one together, by which a later process judges what
+it finds: where a sum is wrong it begins anew. It is the exclusive or of the digests of all rows, so that a change costs only what it changes.
+
 Of a page that has split the lines are rows as long as the session's page of the next level, which takes its place for their names, is not known here. That was written only once the old
 one had the signpost: so whoever saw it need not have seen that (gridfs_client/splits.py).
 """
 
+import hashlib
 import os
 import re
 import sqlite3
 import tempfile
 import threading
 import time
+import zlib
 from bisect import bisect_left
 from collections import OrderedDict
 from collections.abc import Iterable, Iterator, Mapping, Sequence
-from contextlib import AbstractContextManager, ExitStack, contextmanager, nullcontext, suppress
+from contextlib import AbstractContextManager, ExitStack, closing, contextmanager, nullcontext, suppress
 from heapq import merge
 from itertools import groupby, islice
-from typing import Final, NamedTuple, Protocol
+from typing import Any, Final, NamedTuple, Protocol
+from urllib.parse import quote
 
 from gridfs_client.answers import Tag
 from gridfs_client.buckets import Held
@@ -30,20 +36,23 @@ from gridfs_client.layout import Layout
 from gridfs_client.pages import parse_line, parse_page, text_of
 from gridfs_client.ways import Found, version_in
 
-from .errors import tell
+from .errors import S3Error, tell
 from .later import WHERE, head_in, later_page
 from .places import KEYS, NULL, VERSIONS, Object, of_words
 
-FORM = 1
+FORM, OF_A_GATEWAY = 2, 0x67667333  # of the tables; and by what a file is known to be an index, in the head of the database
+HEAD, MAGIC = 100, b"SQLite format 3\0"  # bytes of that head, and its first ones
 RECENT = 4 << 20  # bytes of text of pages that are kept as they were read
 COMMIT = 2.0  # seconds after which what was kept is written down
 TABLES = (
-    "create table if not exists pages (place integer primary key, number integer, session integer, text blob)",
+    "create table if not exists pages (place integer primary key, number integer, session integer, sum integer, text blob)",
     "create table if not exists rows (key blob, name text, session integer, version integer, writer integer, grid text, move integer, "
     "size integer, etag text, time integer, words text, number integer, chooser integer, is_marker integer, primary key (key, name, session)) without rowid",
     "create table if not exists about (word text primary key, value text)",
 )
-ADDED = f"insert or replace into rows values ({', '.join('?' * 14)})"
+ADDED = f"insert into rows values ({', '.join('?' * 14)})"
+SUM: Final = "sum"  # the word of the sum of all, in `about`
+OF_DAMAGE = (0, sqlite3.SQLITE_ERROR, sqlite3.SQLITE_CORRUPT, sqlite3.SQLITE_NOTADB)  # codes of faults by which an index is damaged, or of no form
 LINE: Final = ""  # in the place of a name: the row is that of a line of a session's page, by its name
 SIZE: Final = 7  # places in a row
 WORDS: Final = 10
@@ -90,7 +99,41 @@ def stored(line: Line, session: int, grid: str) -> Stored:
     if line.content is None:
         return *place, None, "", 0, "", 0, 0, 0
     row = row_for(Held(line.name, Version(line.version, session), line.content, line.words))
-    return *place, row.size, row.etag, row.time, row.words, *row.order, row.is_marker
+    return *place, row.size, row.etag, row.time, row.words, *row.order, int(row.is_marker)
+
+
+def digest_of(row: Sequence[object]) -> int:
+    return int.from_bytes(hashlib.blake2b(repr(tuple(row)).encode("utf-8", "surrogatepass"), digest_size=8).digest(), "little")
+
+
+def sum_of(place: int, number: int, session: int, text: bytes) -> int:
+    """Of a page in its place."""
+    return zlib.crc32(text, zlib.crc32(b"%d %d %d" % (place, number, session)))
+
+
+def expect_sum(sum: object, *page: Any) -> None:
+    """Damage where a page is not what was written."""
+    try:
+        if sum == sum_of(*page):
+            return
+    except TypeError:  # (it has not even its form)
+        pass
+    raise Damage("a page has another sum")
+
+
+def expect_index(path: str) -> None:
+    """NotOurs for a file that is something else than an index: it is somebody's. (A cut may leave one that is empty, or zeros.)"""
+    with open(path, "rb") as file:
+        head = file.read(HEAD)
+    if not head.strip(b"\0"):
+        return
+    if not head.startswith(MAGIC):
+        raise NotOurs
+    if int.from_bytes(head[68:72], "big") != OF_A_GATEWAY:
+        with closing(sqlite3.connect(f"file:{quote(path)}?mode=ro", uri=True)) as base:
+            tables = {name for (name,) in base.execute("select name from sqlite_master where type = 'table'")}
+        if int.from_bytes(head[60:64], "big") > 1 or not tables <= {"pages", "rows", "about"}:
+            raise NotOurs
 
 
 def key_beside(name: str, words: str) -> bytes | None:
@@ -110,6 +153,17 @@ def line_in(text: bytes, name: str) -> Line | None:
             return line
         at = text.find(end, at + 1)  # (another name ends so)
     return None
+
+
+class NotOurs(sqlite3.OperationalError):
+    """A file that is there is no index."""
+
+    def __init__(self) -> None:
+        super().__init__("it is there, and is no index of a gateway. Name another file")
+
+
+class Damage(sqlite3.DatabaseError):
+    """What is there is not what was written."""
 
 
 class Names(Protocol):
@@ -179,34 +233,55 @@ class Index:
         self.not_cleared: set[tuple[int, int]] = set()  # those of them, each with its session, that have lines still
         self.not_signed: set[int] = set()  # those that may not have split of all sessions
         self.is_kept, self.beginnings = path is not None, 0  # how often it was begun anew
+        self.sum = 0  # of all rows
         if path is None:
             handle, name = tempfile.mkstemp(prefix="gridfs-s3-index-")
             os.close(handle)
             self.base = self.opened(name)
             os.unlink(name)
         else:
-            try:
-                self.base = self.opened(path)
-            except sqlite3.OperationalError:
-                raise  # (another gateway has it)
-            except (sqlite3.DatabaseError, ClientError):
-                for end in ("", "-wal", "-shm"):
-                    with suppress(FileNotFoundError):
-                        os.unlink(path + end)
-                self.base = self.opened(path)
+            self.base = self.opened_or_anew(path)
+
+    def opened_or_anew(self, path: str) -> sqlite3.Connection:
+        """The index of a file, or one that is begun anew where that is damaged; in memory where the disk is full."""
+        try:
+            os.close(os.open(path, os.O_RDWR | os.O_CREAT, 0o600))  # (names are nobody else's to read)
+            expect_index(path)
+        except OSError as fault:
+            raise sqlite3.OperationalError(fault.strerror) from None
+        except sqlite3.DatabaseError:
+            raise NotOurs from None
+        try:
+            return self.opened(path)
+        except (sqlite3.DatabaseError, ClientError) as fault:
+            code = getattr(fault, "sqlite_errorcode", 0) & 0xFF
+            if code == sqlite3.SQLITE_FULL:
+                tell(f"the index can't be written: {fault}; it is in memory")
+                self.is_kept = False
+                return self.opened(":memory:")
+            if code not in OF_DAMAGE:
+                raise  # (as where another gateway has it)
+            tell(f"{path} is damaged: {fault}; the index is begun anew")
+        for end in ("", "-wal", "-shm"):
+            with suppress(FileNotFoundError):
+                os.unlink(path + end)
+        os.close(os.open(path, os.O_RDWR | os.O_CREAT, 0o600))
+        return self.opened(path)
 
     def opened(self, path: str) -> sqlite3.Connection:
-        if self.is_kept:
-            try:
-                os.close(os.open(path, os.O_RDWR | os.O_CREAT, 0o600))  # (names are nobody else's to read)
-            except OSError as fault:
-                raise sqlite3.OperationalError(fault.strerror) from None
         base = sqlite3.connect(path, timeout=1, check_same_thread=False, isolation_level=None)
         try:
             base.execute("pragma locking_mode = exclusive")
-            base.execute(f"pragma journal_mode = {'wal' if self.is_kept else 'memory'}")
-            base.execute("pragma synchronous = off")
             base.execute("pragma cache_size = -65536")
+            if self.is_kept:
+                base.execute("begin exclusive")
+                base.execute(f"pragma application_id = {OF_A_GATEWAY}")
+                base.execute("commit")
+                base.execute("pragma journal_mode = wal")
+                base.execute("pragma synchronous = normal")  # (a cut takes the last seconds, and tears nothing)
+            else:
+                base.execute("pragma journal_mode = memory")
+                base.execute("pragma synchronous = off")
             base.execute("begin immediate")
             if base.execute("pragma user_version").fetchone() != (FORM,):
                 for (name,) in base.execute("select name from sqlite_master where type = 'table'").fetchall():
@@ -214,11 +289,24 @@ class Index:
                 base.execute(f"pragma user_version = {FORM}")
             for table in TABLES:
                 base.execute(table)
+            self.judge(base)
             self.learn(base)
         except BaseException:
             base.close()
             raise
         return base
+
+    def judge(self, base: sqlite3.Connection) -> None:
+        """Damage where anything there is not what was written last."""
+        self.sum, told = 0, base.execute("select value from about where word = ?", (SUM,)).fetchone()
+        for place, number, session, sum, text in base.execute("select place, number, session, sum, text from pages"):
+            expect_sum(sum, place, number, session, text)
+            self.sum ^= digest_of((place, number, session, sum))
+        for table in ("rows", f"about where word != '{SUM}'"):
+            for row in base.execute(f"select * from {table}"):
+                self.sum ^= digest_of(row)
+        if str(self.sum) != (told[0] if told else "0"):
+            raise Damage("all has another sum")
 
     def learn(self, base: sqlite3.Connection) -> None:
         """What is known of pages in memory."""
@@ -263,8 +351,7 @@ class Index:
     def close(self) -> None:
         """Writes down what is known, for a later process."""
         with self.guard:
-            if self.base.in_transaction:
-                self.base.execute("commit")
+            self.write_down()
             self.base.close()
 
     def forget(self) -> None:
@@ -272,6 +359,7 @@ class Index:
         with self.guard:
             for table in ("pages", "rows", "about"):
                 self.base.execute(f"delete from {table}")
+            self.sum = 0
             self.know_nothing()
 
     def know_nothing(self) -> None:
@@ -288,12 +376,22 @@ class Index:
 
     def go_on_in_memory(self, why: sqlite3.Error) -> None:
         """Where the disk takes no more, it begins anew in memory, and nothing is left for a later process."""
-        tell(f"the index can't be written: {why}; it is in memory from now on")
+        tell(f"the index can't be {'written' if isinstance(why, sqlite3.OperationalError) else 'read'}: {why}; it is in memory from now on")
         with suppress(sqlite3.Error):
             self.base.close()
         self.is_kept = False
         self.base = self.opened(":memory:")
         self.know_nothing()
+
+    @contextmanager
+    def reading(self) -> Iterator[None]:
+        """What is read meanwhile is of one moment. Where it turns out to be damaged, all is begun anew: 503 ServiceUnavailable."""
+        with self.guard:
+            try:
+                yield
+            except sqlite3.DatabaseError as fault:
+                self.go_on_in_memory(fault)
+                raise S3Error("ServiceUnavailable", "The gateway's index was damaged, and is begun anew. Nothing was changed.") from None
 
     def about(self, word: str) -> str:
         with self.guard:
@@ -302,14 +400,29 @@ class Index:
 
     def say(self, word: str, value: str) -> None:
         with self.guard:
-            self.base.execute("insert or replace into about values (?, ?)", (word, value))
+            self.take_out("about where word = ?", word)
+            self.base.execute("insert into about values (?, ?)", (word, value))
+            self.sum ^= digest_of((word, value))
             self.commit()
 
     def commit(self) -> None:
-        if self.base.in_transaction:
-            self.base.execute("commit")
+        self.write_down()
         self.base.execute("begin")
         self.committed = time.monotonic()
+
+    def write_down(self) -> None:
+        if self.base.in_transaction:
+            self.base.execute("insert or replace into about values (?, ?)", (SUM, str(self.sum)))
+            self.base.execute("commit")
+
+    def take_out(self, where: str, *words: object) -> None:
+        """Removes rows; their digests go from the sum of all."""
+        for row in self.base.execute(f"delete from {where} returning *", words):
+            self.sum ^= digest_of(row)
+
+    def add(self, row: Sequence[object]) -> None:
+        self.base.execute(ADDED, row)
+        self.sum ^= digest_of(row)
 
     # Pages
 
@@ -318,23 +431,32 @@ class Index:
 
     def known(self, page: int, session: int) -> Known | None:
         """The page of a session as it was seen last."""
-        with self.guard:
-            if found := self.recent.get((page, session)):
-                self.recent.move_to_end((page, session))
-                return found[0]
-            told = self.base.execute("select number, session, text from pages where place = ?", (page * 64 + session,)).fetchone()
-            if told is None:
-                return None
-            known = Known(Tag(told[0], told[1]), later_page(told[2]))
-            self.is_recent(page, session, known, len(told[2]))
-            return known
+        with self.reading():
+            return self.found(page, session)
+
+    def found(self, page: int, session: int) -> Known | None:
+        if found := self.recent.get((page, session)):
+            self.recent.move_to_end((page, session))
+            return found[0]
+        told = next(self.texts_at("place = ?", page * 64 + session), None)
+        if told is None:
+            return None
+        known = Known(told[1], later_page(told[2]))
+        self.is_recent(page, session, known, len(told[2]))
+        return known
+
+    def texts_at(self, where: str, *words: int) -> Iterator[tuple[int, Tag, bytes]]:
+        """The places, tags and texts of pages. Damage where one is not what was written."""
+        for place, number, session, sum, text in self.base.execute(f"select place, number, session, sum, text from pages where {where}", words):
+            expect_sum(sum, place, number, session, text)
+            yield place, Tag(number, session), text
 
     def greatest(self, page: int, name: str) -> Found | None:
         """The line of a name that counts, of all pages of its bucket; only that is read."""
         lines, seen = list[Found](), set[int]()
-        with self.guard:
+        with self.reading():
             for each in self.and_before(page):
-                for place, text in self.base.execute("select place, text from pages where place between ? and ?", (each * 64, each * 64 + 63)):
+                for place, _, text in self.texts_at("place between ? and ?", each * 64, each * 64 + 63):
                     if place % 64 not in seen and (line := line_in(text, name)):
                         lines.append(Found(Version(line.version, place % 64), place % 64, "", line))
                     seen.add(place % 64)
@@ -358,7 +480,7 @@ class Index:
             text = text_of(known.page)
             try:
                 self.keep_text(page, session, known, text)
-            except sqlite3.OperationalError as fault:
+            except sqlite3.DatabaseError as fault:
                 self.go_on_in_memory(fault)
                 self.keep_text(page, session, known, text)
             self.note((page, session), known.tag, known.page.number, known.page.after, has_split(known.page), bool(known.page.signposts and known.page.lines))
@@ -372,7 +494,7 @@ class Index:
             if self.is_kept and time.monotonic() - self.committed > COMMIT:
                 try:
                     self.commit()
-                except sqlite3.OperationalError as fault:
+                except sqlite3.DatabaseError as fault:
                     self.go_on_in_memory(fault)
 
     def note_open(self, page: int) -> None:
@@ -384,7 +506,12 @@ class Index:
 
     def keep_text(self, page: int, session: int, known: Known, text: bytes) -> None:
         before = self.shown(page, session)
-        self.base.execute("insert or replace into pages values (?, ?, ?, ?)", (page * 64 + session, known.tag.number, known.tag.session, text))
+        place, tag = page * 64 + session, known.tag
+        row = place, tag.number, tag.session, sum_of(place, tag.number, tag.session, text)
+        for gone in self.base.execute("delete from pages where place = ? returning place, number, session, sum", (place,)):
+            self.sum ^= digest_of(gone)
+        self.base.execute("insert into pages values (?, ?, ?, ?, ?)", (*row, text))
+        self.sum ^= digest_of(row)
         if page in self.split or has_split(known.page):
             self.change_rows(self.part(before, page, session), self.part(known.page.by_name, page, session), session)
         else:
@@ -392,16 +519,18 @@ class Index:
 
     def change_rows(self, old: Mapping[str, Line], new: Mapping[str, Line], session: int) -> None:
         changed = [name for name in old.keys() | new.keys() if old.get(name) is not new.get(name) and old.get(name) != new.get(name)]
-        gone = [(name.encode(), session) for name in changed if name in old and name not in new]
-        come = [stored(new[name], session, self.grid) for name in changed if name in new]
         beside = {name: self.keys_of(name, old) for name in changed if name.startswith(BESIDE)}
-        self.base.executemany("delete from rows where key = ? and name = '' and session = ?", gone)
-        self.base.executemany(ADDED, come)
+        for name in changed:
+            self.take_out("rows where key = ? and name = '' and session = ?", name.encode(), session)
+            if name in new:
+                self.add(stored(new[name], session, self.grid))
         for name, keys in beside.items():
-            self.base.executemany("delete from rows where key = ? and name = ?", [(key, name) for key in keys])
             found = max(self.lines(name), key=by_version, default=None)
-            if found and found[SIZE] is not None and (key := key_beside(name, found[WORDS])):
-                self.base.execute(ADDED, (key, name, 0, *found[3:WORDS], "", *found[WORDS + 1 :]))
+            key = key_beside(name, found[WORDS]) if found and found[SIZE] is not None else None
+            for each in keys | ({key} if key else set()):
+                self.take_out("rows where key = ? and name = ?", each, name)
+            if found and key:
+                self.add((key, name, 0, *found[3:WORDS], "", *found[WORDS + 1 :]))
 
     def lines(self, name: str) -> list[Stored]:
         """The lines of a name."""
@@ -416,16 +545,15 @@ class Index:
         """All pages of a session."""
         for page, each in sorted(self.tags):
             if each == session:
-                with self.guard:
-                    told = self.base.execute("select text from pages where place = ?", (page * 64 + session,)).fetchone()
+                with self.reading():
+                    told = next(self.texts_at("place = ?", page * 64 + session), None)
                 if told:
-                    yield parse_page(told[0], WHERE)
+                    yield parse_page(told[2], WHERE)
 
     def texts(self, session: int, pages: range) -> list[bytes]:
         """The texts of these pages of a session, as far as they are known."""
-        with self.guard:
-            found = (self.base.execute("select text from pages where place = ?", (page * 64 + session,)).fetchone() for page in pages if (page, session) in self.tags)
-            return [told[0] for told in found if told]
+        with self.reading():
+            return [text for page in pages if (page, session) in self.tags for _, _, text in self.texts_at("place = ?", page * 64 + session)]
 
     def end(self) -> int:
         """Behind the last page that is known."""
@@ -488,7 +616,7 @@ class Index:
 
     def shown(self, page: int, session: int) -> Mapping[str, Line]:
         """The lines of which rows stand here for a bucket: of the page itself, or of one before."""
-        known = self.known(self.counting(page, session), session)
+        known = self.found(self.counting(page, session), session)
         if known is None:
             return {}
         if self.layout is None or (page, session) in self.tags:
@@ -506,15 +634,14 @@ class Index:
         """Pages of the next level that are not known, and to which lines went that the session's page showed, and does not any more."""
         if self.layout is None or (level := self.layout.level_of(page) + 1) == len(self.layout.levels):
             return set()
-        gone = self.shown(page, session).keys() - later.by_name.keys()
+        with self.reading():
+            gone = self.shown(page, session).keys() - later.by_name.keys()
         return {number for name in gone if ((number := self.layout.page_of(name, level)), session) not in self.tags}
 
     # Names
 
-    @contextmanager
-    def at_once(self) -> Iterator[None]:
-        with self.guard:
-            yield
+    def at_once(self) -> AbstractContextManager[None]:
+        return self.reading()
 
     def rows(self, begin: bytes, end: bytes) -> Iterator[Row]:
         return that_count(self.stored(begin, end))
@@ -523,11 +650,11 @@ class Index:
         return self.base.execute(f"select {COLUMNS} from rows where key >= ? and key < ? order by key, name", (begin, end))
 
     def names(self, prefix: str) -> list[Row]:
-        with self.guard:
+        with self.reading():
             return list(self.rows(prefix.encode(), prefix.encode() + b"\xff"))
 
     def has_any(self, prefix: str) -> bool:
-        with self.guard:
+        with self.reading():
             return next(self.rows(prefix.encode(), prefix.encode() + b"\xff"), None) is not None
 
     def total(self, prefix: str) -> tuple[int, int]:

@@ -8,7 +8,8 @@ from xml.parsers import expat
 from .errors import S3Error
 
 SPACE = "http://s3.amazonaws.com/doc/2006-03-01/"
-DEEPEST, MOST_ELEMENTS = 8, 100_000
+DEEPEST, MOST_ELEMENTS = 8, 5_000
+MOST_OF = {"CompleteMultipartUpload": 70_000, "LifecycleConfiguration": 50_000}  # elements that these documents may have
 
 
 class Element:
@@ -42,7 +43,7 @@ def parse(text: bytes, name: str, known: Mapping[str, Set[str]] | None = None) -
     def start(tag: str, _: object) -> None:
         nonlocal count
         count += 1
-        if len(path) > DEEPEST or count > MOST_ELEMENTS:
+        if len(path) > DEEPEST or count > MOST_OF.get(name, MOST_ELEMENTS):
             raise S3Error("MalformedXML")
         element = Element(tag.rpartition(" ")[2])
         (path[-1] if path else root).inner.append(element)

@@ -2,7 +2,7 @@
 
 import asyncio
 import re
-from collections.abc import AsyncIterator, Callable, Iterator
+from collections.abc import AsyncIterator, Awaitable, Callable, Iterator, Sequence
 from contextlib import asynccontextmanager, closing, nullcontext
 
 from aiohttp import web
@@ -11,8 +11,9 @@ from gridfs_client.buckets import Held
 from gridfs_client.contents import Inline
 
 from . import bodies, metrics, tags
+from .aims import Aim
 from .bodies import Spooled, Whole, body_of
-from .bounds import GIVEN, IDLE, IN_HAND, IN_MEMORY, LONG, MOST_IN_MEMORY, OF_A_FILE, Spool, is_too_slow
+from .bounds import GIVEN, IDLE, IN_HAND, IN_MEMORY, LONG, MOST_IN_MEMORY, Spool, ahead_of, is_too_slow
 from .buckets import Buckets
 from .checksums import HEADER, algorithm_of
 from .errors import S3Error, error_of, tell
@@ -20,12 +21,13 @@ from .gateway import Gateway, Operations, let_body_come
 from .looker import Looked
 from .markup import document, element, many
 from .places import MOST_KEPT, MOST_METADATA, Object, Values
+from .reading import Stretch
 from .requests import SERVER, Asked, answer, http_date, judge, range_wanted
 from .store import Body, Condition, Store
 from .trips import Elsewhere
-from .versions import HEADER as VERSION, MARKER, Place, Target, target_of
+from .versions import HEADER as VERSION, MARKER, Place
 
-LONGEST_PUT = 5 << 30
+LONGEST_PUT, MOST_PARTS = 5 << 30, 10_000
 ATTRIBUTES = {"Checksum", "ETag", "ObjectParts", "ObjectSize", "StorageClass"}
 DIRECTIVE = "x-amz-metadata-directive"  # whose metadata an object gets: its source's (COPY), or those of this request (REPLACE)
 BREAKS = re.compile(r"[\r\n\x00]")
@@ -62,6 +64,15 @@ def brought_by(asked: Asked) -> Values:
     if asked.headers.get(DIRECTIVE, "REPLACE") != "REPLACE":  # (s3fs says so of each put)
         raise S3Error("NotImplemented", "What is no copy has the metadata that it brings.")
     return values_of(asked) | tags.in_headers(asked.headers)
+
+
+def number_in(text: str | None, default: int) -> int:
+    """The number of a header, of at most a thousand parts or so. 400 InvalidArgument."""
+    if text is None:
+        return default
+    if not re.fullmatch(r"[0-9]{1,5}", text):
+        raise S3Error("InvalidArgument")
+    return min(int(text), MOST_PARTS)
 
 
 def algorithm_wanted(asked: Asked) -> str:
@@ -104,6 +115,8 @@ def begun(asked: Asked, place: Place, found: Object, part: tuple[int, int] | Non
     headers = {**headers_of(found, asked), **place.told(found), **asked.cors, **asked.ids, "Server": SERVER, "Content-Security-Policy": "sandbox"}
     if found.checksum and not part and asked.headers.get(f"{HEADER}mode", "").upper() == "ENABLED":
         headers |= found.checksum.headers()
+    if "partNumber" in asked.query and "n" in found.values:
+        headers["x-amz-mp-parts-count"] = found.values["n"]
     if count := len(tags.among(found.values)):
         headers["x-amz-tagging-count"] = str(count)
     if part:
@@ -113,40 +126,102 @@ def begun(asked: Asked, place: Place, found: Object, part: tuple[int, int] | Non
     return response
 
 
-def expect_whole(asked: Asked) -> None:
-    if "partNumber" in asked.query:
-        raise S3Error("NotImplemented", "The parts of an object are not told apart once it is complete.")
+def part_wanted(asked: Asked) -> int:
+    """The number of the part that is asked for; 0 for the whole. 400 InvalidArgument, InvalidRequest."""
+    if "partNumber" not in asked.query:
+        return 0
+    number = asked.number("partNumber", 0, 99_999)
+    if not 1 <= number <= MOST_PARTS:
+        raise S3Error("InvalidArgument", f"partNumber is a number from 1 to {MOST_PARTS}.")
+    if "range" in asked.headers:
+        raise S3Error("InvalidRequest", "Cannot specify both Range header and partNumber query parameter")
+    return number
+
+
+def range_of_part(sizes: Sequence[int], number: int) -> tuple[int, int] | None:
+    """The bytes of a part, of parts of these sizes; None of an object that is empty. 416 InvalidPartNumber; 501 NotImplemented where they are not told apart."""
+    if not sizes:
+        raise S3Error("NotImplemented", "The parts of this object are not told apart.")
+    if number > len(sizes):
+        raise S3Error("InvalidPartNumber")
+    first = sum(sizes[: number - 1])
+    return (first, first + sizes[number - 1]) if sizes[number - 1] else None
 
 
 class IsLong(Exception):
     """An answer wants a place first. Nothing was read yet."""
 
 
+class Piece:
+    """Some bytes of an answer, in a file: a session writes them, and they are given as they are taken."""
+
+    def __init__(self, before: asyncio.Task[None] | None, give: Callable[[bytes], Awaitable[None]]):
+        self.spool, self.before, self.give = Spool(), before, give
+        self.given, self.is_whole = 0, False
+        self.came, self.is_half_taken = asyncio.Event(), asyncio.Event()
+        self.giving = asyncio.get_running_loop().create_task(self.give_on())
+        self.giving.add_done_callback(lambda giving: giving.cancelled() or giving.exception())  # (whoever waits for it is told)
+
+    async def give_on(self) -> None:
+        """Gives what comes into the file until it is whole, once all before was given."""
+        try:
+            if self.before:
+                await self.before
+            while True:
+                self.came.clear()
+                is_whole = self.is_whole
+                while data := self.spool.read(self.given, GIVEN):
+                    await self.give(data)
+                    self.given += len(data)
+                    self.judge_half()
+                if is_whole:
+                    return
+                await self.came.wait()
+        finally:
+            self.is_half_taken.set()
+
+    def judge_half(self) -> None:
+        if self.is_whole and 2 * self.given >= self.spool.size:
+            self.is_half_taken.set()
+
+    def end(self) -> None:
+        """All of it has come."""
+        self.is_whole = True
+        self.judge_half()
+        self.came.set()
+
+    def close(self) -> None:
+        self.giving.cancel()
+        self.spool.close()
+
+
 class Get:
     """One get: what is chosen of the object, and its answer, which begins once the first bytes are there. A session puts what is longer than a little into a
-    file, from which it is given as it is taken: so no session waits for who takes it. What is very long comes into one file after another, each once the one
-    before was taken: so whoever is slow does not fill the disk either."""
+    file, from which it is given as it is taken: so no session waits for who takes it. What is long comes by several files, each once half of the one before was
+    taken: so whoever is slow does not fill the disk either."""
 
     def __init__(self, gateway: Gateway, asked: Asked, place: Place):
         self.gateway, self.asked, self.place = gateway, asked, place
         self.part: tuple[int, int] | None = None
+        self.number = part_wanted(asked)
         self.response: web.StreamResponse | None = None
         self.loop = asyncio.get_running_loop()
         self.has_place, self.most_in_memory = False, IN_MEMORY  # bytes that may be in memory until they are taken
-        self.spool: Spool | None = None
         self.held: Held | None = None
         self.looked: Looked | None = None  # at its volume, since it was asked for
         self.next, self.end = 0, 0  # of the object: the byte to read next, and that behind the last one that is wanted
-        self.came, self.is_whole = asyncio.Event(), False
-        self.giving: asyncio.Task[None] | None = None
-        self.begun, self.given, self.of_file, self.counted = 0.0, 0, 0, metrics.given.labels(gateway.tenant)
+        self.stretch, self.pieces = Stretch(), list[Piece]()  # what is read at a time, and the files that are there
+        self.begun, self.given, self.counted = 0.0, 0, metrics.given.labels(gateway.tenant)
 
-    def choose(self, held: Held | None) -> tuple[int, int]:
+    def choose(self, held: Held | None, store: Store | None = None) -> tuple[int, int]:
         found = self.place.expect(held)
         judge(self.asked.headers, found)
         self.part = range_wanted(self.asked.headers, found)
+        if self.number and store:
+            self.part = range_of_part(store.sizes_of_parts(found.held), self.number)
         first, end = self.part or (0, found.size)
-        if end - first > LONG and not self.has_place:
+        if end - first > (IN_MEMORY if self.asked.is_anybodys else LONG) and not self.has_place:
+            self.next, self.end = first, end
             raise IsLong
         return first, end
 
@@ -158,12 +233,11 @@ class Get:
     async def begin_to_give(self, held: Held) -> None:
         self.leave_memory()
         await self.begin(held)
-        self.begin_file()
+        self.begin_piece()
 
-    def begin_file(self) -> None:
-        self.of_file, self.is_whole = 0, False
-        self.giving = self.loop.create_task(self.give_on())
-        self.giving.add_done_callback(lambda giving: giving.cancelled() or giving.exception())  # (whoever waits for it is told)
+    def begin_piece(self) -> None:
+        before = self.pieces[-1].giving if self.pieces else None
+        self.pieces.append(Piece(before, self.give))
 
     async def give(self, data: bytes | memoryview) -> None:
         """A TimeoutError where it is not taken in time, or all is taken too slowly."""
@@ -171,40 +245,28 @@ class Get:
         async with asyncio.timeout(IDLE):
             await self.response.write(data)
         self.given += len(data)
-        self.of_file += len(data)
         if is_too_slow(self.loop.time() - self.begun, self.given):
             raise asyncio.TimeoutError("it is taken too slowly")
         self.counted.inc(len(data))
 
-    async def give_on(self) -> None:
-        """Gives what comes into the file until it is whole."""
-        assert self.spool is not None
-        while True:
-            self.came.clear()
-            is_whole = self.is_whole
-            while data := self.spool.read(self.of_file, GIVEN):
-                await self.give(data)
-            if is_whole:
-                return
-            await self.came.wait()
-
     def send(self, store: Store) -> tuple[Held, bytes] | None:
         """(A thread's.) Has what is read given; or tells it, where it is little."""
-        held, parts, data = store.read(self.place.name, self.choose, self.place.is_latest, OF_A_FILE, self.looked)
+        self.stretch = Stretch(ahead_of(self.asked.is_anybodys))
+        held, parts, data = store.read(self.place.name, lambda held: self.choose(held, store), self.place.is_latest, self.looked, self.stretch)
         first, end = self.part or (0, held.content.size)
         with closing(parts):  # (what it reads ahead ends before the session has other work)
             if len(data) == end - first <= self.most_in_memory:
                 for _ in parts:
                     pass
                 return held, data
-            self.held, self.next, self.end, self.spool = held, first, end, self.spool or Spool()
+            self.held, self.next, self.end = held, first, end
             asyncio.run_coroutine_threadsafe(self.begin_to_give(held), self.loop).result()
             self.fill(parts, data)
         return None
 
     async def told_by_its_line(self) -> tuple[Held, bytes] | None:
         """The object and what is wanted of it, where that stands in the line of its name, and is known of its pages as they are: no session is wanted then."""
-        if self.place.is_latest:
+        if self.place.is_latest or self.number:
             return None
         seen = await self.gateway.glance(self.place.name)
         self.looked = seen.looked
@@ -219,31 +281,35 @@ class Get:
         assert self.held
         if self.held.version.grid != store.grid:
             raise Elsewhere(self.held.version.grid)
-        with closing(store.content(self.held, self.next, self.end, OF_A_FILE)) as parts:
+        self.stretch.most = ahead_of(self.asked.is_anybodys)
+        with closing(store.content(self.held, self.next, self.end, self.stretch)) as parts:
             self.fill(parts, next(parts))
 
     def fill(self, parts: Iterator[bytes], data: bytes) -> None:
-        assert self.spool
+        piece = self.pieces[-1]
         while data:
-            self.spool.add(data)
+            piece.spool.add(data)
             self.next += len(data)
-            self.loop.call_soon_threadsafe(self.came.set)
-            if self.giving and self.giving.done():
+            self.loop.call_soon_threadsafe(piece.came.set)
+            if piece.giving.done():
                 raise ConnectionResetError("the client has gone")
             data = next(parts, b"")
 
     async def give_all(self) -> None:
-        """Gives the rest of the file, and then what is left of the object, file by file."""
-        while self.giving:
-            self.is_whole = True
-            self.came.set()
-            await self.giving
+        """Gives the rest, file by file: of those that are there all but the last one were given."""
+        while True:
+            piece = self.pieces[-1]
+            piece.end()
             if self.next == self.end:
+                await piece.giving
                 return
-            if self.spool:
-                self.spool.close()
-            self.spool, begin = Spool(), self.next
-            self.begin_file()
+            await piece.is_half_taken.wait()
+            if piece.giving.done():
+                piece.giving.result()
+            for given in self.pieces[:-1]:
+                given.close()
+            self.pieces, begin = [piece], self.next
+            self.begin_piece()
             await self.gateway.look(self.place.name, self.send_on, lambda begin=begin: self.next > begin)  # type: ignore[misc]
 
     async def run(self) -> web.StreamResponse:
@@ -251,7 +317,8 @@ class Get:
             return await self.answered()
         except IsLong:
             self.has_place = True
-            async with self.gateway.places.one(self.asked):
+            places, is_long = self.gateway.places, self.end - self.next > LONG
+            async with places.one(self.asked) if is_long else places.some_of_anybody():
                 return await self.answered()
 
     def take_memory(self) -> None:
@@ -279,16 +346,15 @@ class Get:
             if self.response is None:
                 raise
             # The rest of the answer can't come. The connection ends, so that nobody takes what came for the whole.
-            tell(f"{self.asked.path}: cut: {fault or type(fault).__name__}")
+            if not self.asked.is_anybodys:  # (strangers may leave as often as they like)
+                tell(f"{self.asked.path}: cut: {fault or type(fault).__name__}")
             metrics.faults.labels(self.gateway.tenant, "Cut").inc()
             if self.asked.request.transport:
                 self.asked.request.transport.abort()
             raise ConnectionResetError from None
         finally:
-            if self.giving:
-                self.giving.cancel()
-            if self.spool:
-                self.spool.close()
+            for piece in self.pieces:
+                piece.close()
             self.leave_memory()
         assert self.response is not None
         await self.response.write_eof()
@@ -309,27 +375,45 @@ class Objects(Operations):
         held = self.gateway.look(place.name, lambda store: store.latest(place.name)) if place.is_latest else self.gateway.held(place.name)
         return place.expect(await held)
 
-    async def target_of(self, asked: Asked, version: str = "") -> Target:
+    async def aim_of(self, asked: Asked, version: str = "") -> Aim:
         """Where a new version of the object that is asked for is to stand. 404 NoSuchBucket."""
-        return target_of(asked.bucket, asked.key, await self.gateway.need_bucket(asked.bucket), version)
+        return Aim(self.gateway, asked.bucket, asked.key, await self.gateway.need_bucket(asked.bucket), version)
 
     async def get_object(self, asked: Asked) -> web.StreamResponse:
         """200; 206 with Range. 304 NotModified; 404 NoSuchBucket, NoSuchKey, NoSuchVersion; 405 MethodNotAllowed for a marker; 412 PreconditionFailed; 416
         InvalidRange. Where it is replaced again and again 503, or a connection that ends early."""
         place = await self.place_of(asked)
-        expect_whole(asked)
         return await Get(self.gateway, asked, place).run()
 
     async def head_object(self, asked: Asked) -> web.StreamResponse:
         """The same with no body."""
-        place = await self.place_of(asked)
-        expect_whole(asked)
+        place, number = await self.place_of(asked), part_wanted(asked)
         found = await self.found(place)
         judge(asked.headers, found)
-        response = begun(asked, place, found, range_wanted(asked.headers, found))
+        part = range_wanted(asked.headers, found)
+        if number:
+            part = range_of_part(await self.sizes_of_parts(place, found), number)
+        response = begun(asked, place, found, part)
         await response.prepare(asked.request)
         await response.write_eof()
         return response
+
+    async def sizes_of_parts(self, place: Place, found: Object) -> list[int]:
+        return await self.gateway.look(place.name, lambda store: store.sizes_of_parts(found.held))
+
+    async def object_parts(self, asked: Asked, place: Place, found: Object) -> str | None:
+        """The parts in which an object was uploaded, so many at a time; None of one that was put whole."""
+        if not (count := found.values.get("n")):
+            return None
+        headers = asked.headers
+        most, after = (number_in(headers.get(f"x-amz-{name}"), default) for name, default in (("max-parts", 1_000), ("part-number-marker", 0)))
+        numbered = list(enumerate(await self.sizes_of_parts(place, found), 1))
+        shown = numbered[after : after + most]
+        inner = [many("Part", element("PartNumber", number), element("Size", size)) for number, size in shown]
+        is_cut = "true" if shown and shown[-1] != numbered[-1] else "false"
+        last = shown[-1][0] if shown else after
+        told: dict[str, str | int] = {"PartsCount": count, "PartNumberMarker": after, "NextPartNumberMarker": last, "MaxParts": most, "IsTruncated": is_cut}
+        return many("ObjectParts", *(element(name, value) for name, value in told.items()), *inner)
 
     async def get_object_acl(self, asked: Asked) -> web.Response:
         """200: all is the tenant's. 404 NoSuchBucket, NoSuchKey, NoSuchVersion."""
@@ -343,11 +427,10 @@ class Objects(Operations):
             raise S3Error("InvalidArgument", f"x-amz-object-attributes names some of {', '.join(sorted(ATTRIBUTES))}.")
         place = await self.place_of(asked)
         found = await self.found(place)
-        count = found.values.get("n")
         told = {
             "ETag": element("ETag", found.etag),
             "Checksum": many("Checksum", *found.checksum.elements()) if found.checksum else None,
-            "ObjectParts": many("ObjectParts", element("PartsCount", count)) if count else None,
+            "ObjectParts": await self.object_parts(asked, place, found) if "ObjectParts" in wanted else None,
             "StorageClass": element("StorageClass", "STANDARD"),
             "ObjectSize": element("ObjectSize", found.size),
         }
@@ -373,23 +456,24 @@ class Objects(Operations):
         InsufficientStorage; 400 BadDigest, EntityTooLarge, IncompleteBody, InvalidDigest, InvalidTag, KeyTooLongError, MetadataTooLarge,
         RequestTimeout, XAmzContentSHA256Mismatch; 403 SignatureDoesNotMatch (of a chunk); 501 NotImplemented (metadata of another object). After these nothing
         was changed."""
-        target, body = await self.target_of(asked), body_of(asked)
+        aim, body = await self.aim_of(asked), body_of(asked)
         if body.told_size > LONGEST_PUT:
             raise S3Error("EntityTooLarge")
         values, algorithm = brought_by(asked), algorithm_wanted(asked)
-        condition = await self.gateway.condition_of(asked, target.name)
+        condition = await self.gateway.condition_of(asked, aim.name)
         async with self.source_of(asked, body) as source:
-            found = await self.put(asked, target, source, values, algorithm, condition)
-        return answer(headers={"ETag": f'"{found.etag}"', **(found.checksum.headers() if found.checksum else {}), **target.told})
+            found = await self.put(aim, source, values, algorithm, condition)
+        return answer(headers={"ETag": f'"{found.etag}"', **(found.checksum.headers() if found.checksum else {}), **aim.target.told})
 
-    async def put(self, asked: Asked, target: Target, source: Whole | Spooled, values: Values, algorithm: str, condition: Condition | None = None) -> Object:
+    async def put(self, aim: Aim, source: Whole | Spooled, values: Values, algorithm: str, condition: Condition | None = None) -> Object:
         """Puts a content that is here, with what is kept beside it. The errors of a change."""
 
         def work(store: Store) -> Held:
-            return store.put_object(target.name, source, lambda: {**values, **values_by(source, algorithm), **target.values}, condition, target.about)
+            target = aim.at(store)
+            return store.put_object(target.name, source, lambda: {**values, **values_by(source, algorithm), **aim.values(store)}, condition, target.about)
 
-        await self.gateway.need_bucket(asked.bucket)  # (it may have been removed while the content came)
-        return Object(asked.key, await self.gateway.change(target.name, work, condition=condition))
+        await self.gateway.need_bucket(aim.bucket)  # (it may have been removed while the content came)
+        return Object(aim.key, await self.gateway.change(aim.name, work, condition=condition))
 
     async def delete_object(self, asked: Asked) -> web.Response:
         """204, also where there is no such key. In a bucket with versions a marker is put, or that version goes which is named. With If-Match: 412
@@ -402,10 +486,10 @@ class Objects(Operations):
 
     async def delete(self, place: Place, condition: Condition | None = None) -> dict[str, str]:
         """Has an object go, or one version; the headers that tell of which version."""
-        if place.is_latest:
-            target = target_of(place.bucket, place.key, place.state)
-            await self.gateway.change(target.name, lambda store: store.mark(target, condition), condition=condition)
-            return {MARKER: "true", **target.told}
+        if place.version is None:
+            aim = Aim(self.gateway, place.bucket, place.key, place.state)
+            await self.gateway.change(aim.name, lambda store: store.take_away(aim.at(store), condition), condition=condition)
+            return {MARKER: "true", **aim.target.told} if aim.state else {}
         seen = list[Held]()
 
         def remove(store: Store) -> None:
@@ -433,6 +517,8 @@ class Objects(Operations):
             try:
                 async with at_once:
                     headers = await self.delete(await self.gateway.place_of(asked.bucket, key, version))
+            except ConnectionResetError:
+                raise  # (who asked has gone: no more is done)
             except Exception as fault:
                 told = error_of(fault)
                 return many("Error", *named, element("Code", told.code), element("Message", told.message))

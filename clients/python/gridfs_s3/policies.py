@@ -22,11 +22,17 @@ KIND = "policy"
 LONGEST = 20 << 10  # bytes of a policy
 SURE_FOR = 2.0  # seconds for which a policy that was seen is taken to be in force
 MOST_KNOWN = 1_000  # buckets
+GET = "s3:GetObject"
 NOBODY = "-"  # in the place of an access key, which none is
 VERSIONS = ("2012-10-17", "2008-10-17")
 RESOURCE = re.compile(r"arn:aws:s3:::([^/*?]+)/([^*?]*)(\*?)")
 # Who signs nothing asks for an object as it is: for what other words of a query would change a signature is wanted.
 OF_ANYBODY = {"x-id", "X-Amz-Credential"}
+
+
+LIST = "s3:ListBucket"
+OF_BUCKETS = {"s3:GetBucketLocation", LIST}  # actions of which a Resource is a bucket
+OF_A_LISTING = {"prefix", "delimiter", "max-keys", "marker", "list-type", "continuation-token", "start-after", "encoding-type", "fetch-owner"}
 
 
 @dataclass(frozen=True)
@@ -40,8 +46,16 @@ class Readable:
         return key.startswith(self.text) if self.is_beginning else key == self.text
 
 
-def policy_of(text: bytes, bucket: str) -> tuple[Readable, ...]:
-    """What a policy lets anybody read of the bucket. 400 MalformedPolicy; 501 NotImplemented for a policy that says anything else."""
+@dataclass(frozen=True)
+class Let:
+    """What anybody may: read these keys, and what he may of the bucket itself, by the names of actions."""
+
+    keys: tuple[Readable, ...] = ()
+    of_bucket: frozenset[str] = frozenset()
+
+
+def policy_of(text: bytes, bucket: str) -> Let:
+    """What a policy lets anybody do. 400 MalformedPolicy; 501 NotImplemented for a policy that says anything else."""
     try:
         found = json.loads(text.decode())
         statements = found["Statement"] if isinstance(found["Statement"], list) else [found["Statement"]]
@@ -51,18 +65,22 @@ def policy_of(text: bytes, bucket: str) -> tuple[Readable, ...]:
         raise S3Error("MalformedPolicy") from None
     if others := found.keys() - {"Version", "Id", "Statement"}:
         raise S3Error("MalformedPolicy", f"A policy has no {min(others)}.")
-    return tuple(each for statement in statements for each in readable_by(statement, bucket))
+    every = [let_by(statement, bucket) for statement in statements]
+    return Let(tuple(each for let in every for each in let.keys), frozenset[str]().union(*(let.of_bucket for let in every)))
 
 
-def readable_by(statement: dict[str, Any], bucket: str) -> list[Readable]:
+def let_by(statement: dict[str, Any], bucket: str) -> Let:
     if others := statement.keys() - {"Sid", "Effect", "Principal", "Action", "Resource"}:
         raise S3Error("NotImplemented", f"A statement with {min(others)} is not taken here.")
-    if statement.get("Effect") != "Allow" or statement.get("Principal") not in ("*", {"AWS": "*"}, {"AWS": ["*"]}) or several(statement, "Action") != ["s3:GetObject"]:
-        raise S3Error("NotImplemented", "All that a policy says here is that anybody may read objects: Effect Allow, Principal *, Action s3:GetObject.")
-    found = [RESOURCE.fullmatch(each) for each in several(statement, "Resource")]
-    if not found or not all(each and each[1] == bucket for each in found):
-        raise S3Error("MalformedPolicy", f"A Resource is arn:aws:s3:::{bucket}/KEY, or the beginning of keys and a *.")
-    return [Readable(each[2], bool(each[3])) for each in found if each]
+    actions = set(several(statement, "Action"))
+    if statement.get("Effect") != "Allow" or statement.get("Principal") not in ("*", {"AWS": "*"}, {"AWS": ["*"]}) or not actions or actions - OF_BUCKETS - {GET}:
+        raise S3Error("NotImplemented", f"All that a policy says here is what anybody may: Effect Allow, Principal *, Action {GET}, {', '.join(sorted(OF_BUCKETS))}.")
+    named = several(statement, "Resource")
+    of_bucket, keys = [each for each in named if each == f"arn:aws:s3:::{bucket}"], [RESOURCE.fullmatch(each) for each in named]
+    found = [Readable(each[2], bool(each[3])) for each in keys if each and each[1] == bucket]
+    if len(of_bucket) + len(found) < len(named) or bool(of_bucket) != bool(actions & OF_BUCKETS) or bool(found) != (GET in actions):
+        raise S3Error("MalformedPolicy", f"A Resource is arn:aws:s3:::{bucket}/KEY, or the beginning of keys and a *; of the bucket's own actions arn:aws:s3:::{bucket}.")
+    return Let(tuple(found), frozenset(actions & OF_BUCKETS))
 
 
 def several(statement: dict[str, Any], name: str) -> list[str]:
@@ -77,7 +95,7 @@ def several(statement: dict[str, Any], name: str) -> list[str]:
 class Policies(Operations):
     def __init__(self, gateway: Gateway, given: Given):
         super().__init__(gateway)
-        self.given, self.known = given, dict[str, tuple[float, tuple[Readable, ...]]]()
+        self.given, self.known = given, dict[str, tuple[float, Let]]()
         self.asking = asyncio.Lock()  # (whoever reads has signed nothing: one bucket at a time is looked for)
 
     async def put_bucket_policy(self, asked: Asked) -> web.Response:
@@ -110,32 +128,35 @@ class Policies(Operations):
         self.known.pop(asked.bucket, None)
         return answer(status=204)
 
-    async def in_force(self, bucket: str) -> tuple[Readable, ...]:
-        """What anybody may read of a bucket, as it was two seconds ago at the earliest; nothing where there is no such bucket."""
-        until, found = self.known.get(bucket, (0.0, ()))
+    async def in_force(self, bucket: str) -> Let:
+        """What anybody may, of a bucket, as it was two seconds ago at the earliest; nothing where there is no such bucket."""
+        until, found = self.known.get(bucket, (0.0, Let()))
         if until > time.monotonic():
             return found
         try:
             made, _ = await self.given.made(bucket)
             told = await self.given.find(bucket, made, KIND)
-            found = policy_of(told[1], bucket) if told else ()
+            found = policy_of(told[1], bucket) if told else Let()
         except S3Error as fault:
             if fault.status >= 500 and fault.code != "NotImplemented":
                 raise
-            found = ()
+            found = Let()
         if len(self.known) > MOST_KNOWN:
             self.known.clear()
         self.known[bucket] = time.monotonic() + SURE_FOR, found
         return found
 
     async def let_in(self, asked: Asked) -> None:
-        """Lets in who signs nothing and reads an object that anybody may: from then on he is one who may read this bucket alone. 403 AccessDenied. 400
-        InvalidRequest for words of a query, which want a signature."""
+        """Lets in who signs nothing and reads an object that anybody may, or lists the bucket, or asks where it is: from then on he is one who may read this bucket
+        alone. 403 AccessDenied. 400 InvalidRequest for words of a query, which want a signature."""
         async with self.asking:
             found = await self.in_force(asked.bucket)
-        if not any(each.has(asked.key) for each in found):
+        action = GET if asked.key else "s3:GetBucketLocation" if "location" in asked.query else LIST
+        if not (any(each.has(asked.key) for each in found.keys) if asked.key else action in found.of_bucket):
             raise S3Error("AccessDenied", "The request is not signed.")
-        if words := sorted(asked.query.keys() - OF_ANYBODY):
+        known = {GET: set[str](), LIST: OF_A_LISTING}.get(action, {"location"})
+        if words := sorted(asked.query.keys() - OF_ANYBODY - known):
             raise S3Error("InvalidRequest", f"A request with {words[0]} is signed.")
+        asked.is_anybodys = True
         key = Key(NOBODY, "", True, frozenset([asked.bucket]))
         asked.signed = Signed(key, UNSIGNED, "", Signer("", self.gateway.region), "")

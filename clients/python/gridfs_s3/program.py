@@ -3,6 +3,7 @@
 import argparse
 import asyncio
 import os
+import resource
 import signal
 import socket
 import sqlite3
@@ -18,6 +19,9 @@ from .several import run_all
 
 if TYPE_CHECKING:
     from .routes import Endpoint
+
+
+DESCRIPTORS = 8_192  # of connections, files and sockets that a gateway may have open
 
 
 class Listener:
@@ -117,6 +121,14 @@ async def serve(asked: argparse.Namespace) -> None:
     os._exit(0)
 
 
+def raise_descriptors() -> None:
+    """Lets a gateway have as many connections and files as it may: a shell's 1,024 are few."""
+    few, most = resource.getrlimit(resource.RLIMIT_NOFILE)
+    wanted = DESCRIPTORS if most == resource.RLIM_INFINITY else min(DESCRIPTORS, most)
+    if few != resource.RLIM_INFINITY and few < wanted:
+        resource.setrlimit(resource.RLIMIT_NOFILE, (wanted, most))
+
+
 async def drained(endpoint: "Endpoint", seconds: float) -> None:
     """Waits until what is under way has been answered, but no longer than that."""
     endpoint.is_ending = True
@@ -134,6 +146,7 @@ def main(words: Sequence[str] | None = None) -> None:
     if missing := config.missing():
         raise SystemExit(f"gridfs-s3: not there: {' '.join(missing)} (as root on Debian: apt-get install {' '.join(missing)})")
     keep_for_chunks()
+    raise_descriptors()
     if asked.several:
         run_all(asked.several, lambda each: asyncio.run(serve(each)))
     else:

@@ -3,14 +3,14 @@
 import hashlib
 from collections.abc import Callable, Generator, Iterable, Iterator, Sequence
 from contextlib import closing
-from dataclasses import dataclass
+from dataclasses import dataclass, field, replace
 from itertools import groupby
 
 from gridfs_client.answers import Row
 from gridfs_client.buckets import Bucket, Held, held_of
-from gridfs_client.contents import Inline, InSlots, Part, digest_in_hex
+from gridfs_client.contents import Inline, InSlots, Part, PartList
 from gridfs_client.errors import Damaged, Replaced
-from gridfs_client.in_chunks import Cut, Gone
+from gridfs_client.in_chunks import Cut, Gone, SoFar
 from gridfs_client.layout import Layout, Slot
 from gridfs_client.names import BEGINNINGS, NamedFiles, refresh, where_of
 from gridfs_client.pieces import head, without_head
@@ -18,9 +18,17 @@ from gridfs_client.sessions import Files
 from gridfs_client.ways import Ground
 
 from .looker import Looked
-from .places import VERSIONS, beside, bucket_in, version_in
+from .places import VERSIONS, beside, bucket_in, number_of, of_words, version_in
 from .shared import Shared, SharedWriter
 from .trips import Elsewhere, Trip
+
+
+@dataclass
+class Stretch:
+    """About how much of a content is read at a time, and what of it was read before."""
+
+    most: int | None = None
+    so_far: SoFar = field(default_factory=SoFar)
 
 
 @dataclass(frozen=True)
@@ -34,13 +42,21 @@ class Span:
     length: int
 
 
-def first_of(cuts: Iterable[Cut], most: int | None) -> Iterator[Cut]:
-    """The first of these, until they have so many bytes."""
-    count = 0
+def first_of(cuts: Iterable[Cut], most: int, chunk: int) -> Iterator[Cut]:
+    """What is first of these, until they have so many bytes, up to the end of a chunk."""
     for cut in cuts:
-        yield cut
-        count += cut.end - cut.first
-        if most is not None and count >= most:
+        end = min(cut.end, -(-(cut.first + most) // chunk) * chunk)
+        yield replace(cut, end=end)
+        most -= end - cut.first
+        if most <= 0:
+            return
+
+
+def first_pieces(pieces: Iterable[bytes], most: int | None) -> Iterator[bytes]:
+    """The same of pieces, each whole."""
+    for piece in pieces:
+        yield piece
+        if most is not None and (most := most - len(piece)) <= 0:
             return
 
 
@@ -112,18 +128,29 @@ class Reader(NamedFiles):
             if left:
                 raise Damaged(f"{held.name}: its slots don't hold it")
 
-    def content(self, held: Held, first: int, end: int, most: int | None = None) -> Generator[bytes, None, None]:
-        """The bytes from the first to before the end. Replaced where a slot has something else by now. Of a part that is read whole the last bytes are told
-        once its digest was found right. With `most` those of a content in chunks end behind the part in which so many are told."""
+    def content(self, held: Held, first: int, end: int, stretch: Stretch | None = None) -> Generator[bytes, None, None]:
+        """The bytes from the first to before the end, or the first ones of these. Replaced where a slot has something else by now. Of a part that is read whole, in
+        one stretch or by several, the last bytes are told once its digest was found right."""
         if isinstance(held.content, Inline):
             yield held.content.content[first:end]
             return
+        stretch = stretch or Stretch()
         if any(isinstance(part, InSlots) for part in held.content.parts):
-            yield from self.content_in_order(held, first, end)
+            with closing(self.content_in_order(held, first, end, stretch.so_far)) as pieces:
+                yield from first_pieces(pieces, stretch.most)
         else:
-            yield from self.in_chunks(held, held.content.parts, first, end, most)
+            yield from self.in_chunks(held, held.content.parts, first, end, stretch)
 
-    def content_in_order(self, held: Held, first: int, end: int) -> Generator[bytes, None, None]:
+    def sizes_of_parts(self, held: Held) -> list[int]:
+        """The sizes of the parts in which an object was uploaded, or its own; nothing where they are not told apart, as where one of them is empty."""
+        count, parts = number_of(of_words(held.words), "n"), held.content.parts
+        if not count:
+            return [held.content.size]
+        if any(isinstance(part, PartList) for part in parts):
+            parts = tuple(self.chunk_contents(held.name).without_lists(parts))
+        return [part.size for part in parts] if len(parts) == count else []
+
+    def content_in_order(self, held: Held, first: int, end: int, so_far: SoFar) -> Generator[bytes, None, None]:
         """The same of a content of which some parts are in slots: parts in chunks, and between them those that are in slots together."""
         begin = 0
         for is_in_slots, parts in groupby(held.content.parts, lambda part: isinstance(part, InSlots)):
@@ -131,36 +158,34 @@ class Reader(NamedFiles):
             behind = begin + sum(part.size for part in some)
             if begin < end and behind > first:
                 if is_in_slots:
-                    yield from self.in_slots_between(held, max(begin, first), min(behind, end))
+                    yield from self.in_slots_between(held, max(begin, first), min(behind, end), so_far)
                 else:
-                    yield from self.in_chunks(held, some, first - begin, end - begin)
+                    yield from self.in_chunks(held, some, first - begin, end - begin, Stretch(None, so_far))
             begin = behind
 
-    def in_chunks(self, held: Held, parts: Sequence[Part], first: int, end: int, most: int | None = None) -> Generator[bytes, None, None]:
+    def in_chunks(self, held: Held, parts: Sequence[Part], first: int, end: int, stretch: Stretch) -> Generator[bytes, None, None]:
         contents = self.chunk_contents(held.name)
+        cuts: Iterable[Cut] = contents.cuts(parts, first, end)
+        if stretch.most is not None:
+            cuts = first_of(cuts, stretch.most, contents.most)
         try:
-            with closing(contents.read_cuts(first_of(contents.cuts(parts, first, end), most))) as found:
+            with closing(contents.read_cuts(cuts, stretch.so_far)) as found:
                 yield from found
         except Gone:
             raise Replaced(f"{held.name}: replaced while it was read") from None
         except Damaged as fault:
             raise Damaged(f"{held.name}: {fault}") from None
 
-    def in_slots_between(self, held: Held, first: int, end: int) -> Generator[bytes, None, None]:
-        digest, seen = hashlib.sha256(), 0
+    def in_slots_between(self, held: Held, first: int, end: int, so_far: SoFar) -> Generator[bytes, None, None]:
+        begin_of_part = 0
         for span in self.spans(held):
+            begin_of_part = begin_of_part if span.place else span.begin
             if span.begin >= end or span.begin + span.length <= first:
                 continue
             data = without_head(held.version.session, span.part.put, span.place, self.session.read(span.slot.volume, span.slot.file).content)
             if data is None:
                 raise Replaced(f"{held.name}: replaced while it was read")
-            if len(data) != span.length:
-                raise Damaged(f"{held.name}: its slots don't hold it")
-            if not span.place:
-                digest, seen = hashlib.sha256(), 0
-            digest.update(data)
-            seen += len(data)
-            if seen == span.part.size and digest.hexdigest() != digest_in_hex(span.part.digest):
+            if len(data) != span.length or not so_far.is_right(span.part, span.begin - begin_of_part, data):
                 raise Damaged(f"{held.name}: its slots don't hold it")
             yield data[max(0, first - span.begin) : end - span.begin]
 
@@ -172,7 +197,12 @@ class Reader(NamedFiles):
         return bool(line and line.content == held.content)
 
     def read(
-        self, name: str, choose: Callable[[Held | None], tuple[int, int]], is_latest: bool = False, most: int | None = None, looked: Looked | None = None
+        self,
+        name: str,
+        choose: Callable[[Held | None], tuple[int, int]],
+        is_latest: bool = False,
+        looked: Looked | None = None,
+        stretch: Stretch | None = None,
     ) -> tuple[Held, Generator[bytes, None, None], bytes]:
         """What a name holds, or the latest version of the object of this name; its bytes in the range that is chosen by that, as `content` has them, and before them
         the first ones, which are there for sure. At first it is looked by these rows, where there are any."""
@@ -182,7 +212,7 @@ class Reader(NamedFiles):
             assert held
             if held.version.grid != self.grid:
                 raise Elsewhere(held.version.grid)
-            parts = self.content(held, first, end, most)
+            parts = self.content(held, first, end, stretch)
             try:
                 return held, parts, next(parts, b"")
             except Replaced:

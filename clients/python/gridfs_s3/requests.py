@@ -16,6 +16,7 @@ from .errors import S3Error
 from .places import Object
 
 SERVER = "gridfs-s3"
+MOST_WORDS = 200  # of a query
 
 
 def iso(ms: int) -> str:
@@ -53,6 +54,8 @@ class Asked:
         self.ids = {"x-amz-request-id": self.id, "x-amz-id-2": self.id}  # (clients look for both)
         self.path, _, self.raw_query = request.raw_path.partition("?")
         self.headers = {name.lower(): value for name, value in request.headers.items()}
+        if self.raw_query.count("&") >= MOST_WORDS:
+            raise S3Error("InvalidURI", f"A query has at most {MOST_WORDS} words.")
         self.pairs = signing.pairs_of(self.raw_query)
         self.query = dict(self.pairs)
         try:
@@ -70,6 +73,7 @@ class Asked:
         self.is_expecting = self.headers.get("expect", "").lower() == "100-continue"
         self.signed: signing.Signed
         self.by_anybody = self.query.get(f"{signing.IN_QUERY}Signature", "")  # the signature of a URL, or of a form, which anybody may have
+        self.is_anybodys = False  # by nobody's signature
         self.cors: dict[str, str] = {}  # headers of the answer, for a browser whose page is another host's
         self.elements: Mapping[str, Set[str]] = {}  # that the XML of its body may have, by the element around them
 

@@ -3,6 +3,7 @@
 import asyncio
 import time
 from collections.abc import Awaitable, Callable, Mapping, Set
+from contextlib import nullcontext, suppress
 from dataclasses import dataclass, field
 
 from aiohttp import web
@@ -32,6 +33,7 @@ from .workers import who_asks
 Operation = Callable[[Asked], Awaitable[web.StreamResponse]]
 SLOW = 10.0  # seconds from which on a request is told of on standard error
 READS = ("GET", "HEAD")
+ALIVE = ("/minio/health/live", "/minio/health/ready", "/minio/health/cluster")  # that probes and clients ask for
 # What a read may ask for that is not here. Other words that are not known mean nothing to a read.
 NOT_HERE = (
     "accelerate", "analytics", "inventory", "legal-hold", "logging", "metrics", "notification", "requestPayment", "restore", "retention", "select",
@@ -48,6 +50,11 @@ OF_A_COPY = {
     "x-amz-source-expected-bucket-owner",
 }  # fmt: skip
 BY, KIND = f"{HEADER}algorithm", f"{HEADER}type"
+# How headers begin of what many clients ask for each object: codes after which none asks again. (Some take a 501 for a fault of the moment.)
+NEVER_HAD = {
+    "x-amz-grant-": "AccessControlListNotSupported", "x-amz-server-side-encryption": "InvalidEncryptionAlgorithmError",
+    "x-amz-copy-source-server-side-encryption": "InvalidEncryptionAlgorithmError",
+}  # fmt: skip
 # The elements of the XML that a change may have, by the element around them.
 OF_BUCKETS = {"CreateBucketConfiguration": {"LocationConstraint"}}
 OF_REMOVALS = {"Delete": {"Object", "Quiet"}, "Object": {"Key", "VersionId"}}
@@ -57,6 +64,7 @@ OF_ANY_URL = {
     "x-id", "x-amz-algorithm", "x-amz-content-sha256", "x-amz-credential", "x-amz-date", "x-amz-expires", "x-amz-sdk-checksum-algorithm", "x-amz-security-token", "x-amz-signature",
     "x-amz-signedheaders", "x-amz-user-agent",
 }  # fmt: skip
+OF_A_KEY = "x-amz-server-side-encryption-customer-algorithm"
 CONDITIONS, NEVER_JUDGED = {"if-match", "if-none-match"}, {"if-modified-since", "if-range", "if-unmodified-since"}
 
 
@@ -136,6 +144,9 @@ class Endpoint:
             if "x-forwarded-for" in asked.headers:
                 raise S3Error("AccessDenied", "Metrics are for this machine alone.")
             return answer(metrics.text(self.tenant, self.gateway.grids), kind=metrics.KIND)
+        if asked.path in ALIVE and asked.method in READS:
+            asked.operation = "Health"
+            return answer(kind="text/plain")
         if asked.path == "/-" or asked.path.startswith("/-/"):
             asked.operation = "Page"
             return await self.page.show(asked)
@@ -144,12 +155,10 @@ class Endpoint:
             return await self.cors.ask_for_leave(asked)
         if is_form(asked) and not self.is_signed(asked):
             return await self.put_by_form(asked)
-        if asked.method in READS and asked.bucket and asked.key and not self.is_signed(asked):
+        if asked.method in READS and asked.bucket and not self.is_signed(asked):
             return await self.read_by_anybody(asked)
-        asked.signed = signing.check(asked.method, asked.path, asked.raw_query, asked.all_headers(), self.gateway.keys)
+        asked.signed = self.signed_by(asked)
         self.is_told_who(asked)
-        if not asked.by_anybody:
-            self.gateway.clock.is_confirmed()  # (the time of a signed URL may be days ago)
         self.expect_known(asked)
         operation = self.operation_of(asked)
         asked.operation = "".join(word.capitalize() for word in getattr(operation, "__name__").split("_"))
@@ -158,17 +167,34 @@ class Endpoint:
             asked.cors = await self.cors.headers_for(asked)
         return await operation(asked)
 
+    def signed_by(self, asked: Asked) -> signing.Signed:
+        """Who asks. What his clock says of this one is noted; but the time of a signed URL may be days ago."""
+        words = asked.method, asked.path, asked.raw_query, asked.all_headers(), self.gateway.keys
+        try:
+            signed = signing.check(*words)
+        except S3Error as fault:
+            if fault.code == "RequestTimeTooSkewed":
+                with suppress(S3Error):
+                    signing.check(*words, now=signing.seconds_of(asked.headers["x-amz-date"], fault.code))
+                    self.gateway.clock.is_refuted()  # (a key signed it, at that time)
+            raise
+        if not asked.by_anybody:
+            self.gateway.clock.is_confirmed()
+        return signed
+
     def is_signed(self, asked: Asked) -> bool:
         return "authorization" in asked.headers or "X-Amz-Signature" in asked.query or "Signature" in asked.query
 
     def is_told_who(self, asked: Asked) -> None:
-        """Whoever asks by one access key, or by one signed URL or form, has a share of the sessions."""
-        who_asks.set(f"url {asked.by_anybody}" if asked.by_anybody else f"key {asked.signed.key.access}")
+        """Whoever asks by one access key has a share of the sessions, and of that who has one URL or form that it signed."""
+        who_asks.set((asked.signed.key.access, asked.by_anybody))
 
     async def put_by_form(self, asked: Asked) -> web.StreamResponse:
         """Who sends a form signs no request: its policy is signed. 403 AccessDenied where that key may not put; the errors of Forms."""
         asked.operation = "PostObject"
-        form = await self.forms.read(asked)
+        connection = asked.request.protocol
+        with connection.unknown() if isinstance(connection, Connection) else nullcontext():
+            form = await self.forms.read(asked)
         self.is_told_who(asked)
         self.expect_known(asked)
         self.expect_headers(asked, {BY})
@@ -178,33 +204,39 @@ class Endpoint:
         return await self.forms.post_object(asked, form)
 
     async def read_by_anybody(self, asked: Asked) -> web.StreamResponse:
-        """A get or head of an object by who signs nothing. 403 AccessDenied, also where there is no such key: whether there is he is not to learn; 400
+        """A get or head of an object, or a listing, by who signs nothing. 403 AccessDenied, also where there is no such key: whether there is he is not to learn; 400
         InvalidRequest."""
-        operation = self.objects.get_object if asked.method == "GET" else self.objects.head_object
-        asked.operation = "GetObject" if asked.method == "GET" else "HeadObject"
         await self.policies.let_in(asked)
-        who_asks.set("anybody")
+        operation = self.read_of_object(asked) if asked.key else self.read_of_bucket(asked)
+        asked.operation = "".join(word.capitalize() for word in getattr(operation, "__name__").split("_"))
+        who_asks.set((asked.signed.key.access, ""))
         self.expect_known(asked)
         if "origin" in asked.headers:
             asked.cors = await self.cors.headers_for(asked)
         try:
             return await operation(asked)
-        except S3Error as fault:
-            if fault.code == "NoSuchKey":
-                raise S3Error("AccessDenied") from None
+        except (ConnectionError, RequestPayloadError):
             raise
+        except Exception as fault:
+            told = error_of(fault)
+            if told.status >= 500:
+                raise S3Error(told.code) from None  # (what is the matter with the grid is no stranger's business)
+            raise S3Error("AccessDenied") if told.code == "NoSuchKey" else told from None
 
     def expect_known(self, asked: Asked) -> None:
         """501 NotImplemented, 400 InvalidArgument, 403 AccessDenied."""
         if not all(signing.is_utf8(word) for pair in asked.pairs for word in pair):
             raise S3Error("InvalidArgument", "A parameter is not UTF-8.")
         if asked.headers.get("x-amz-acl", "private") not in ("private", "bucket-owner-full-control"):
-            raise S3Error("NotImplemented", "All is its tenant's alone here: the only ACL is private.")
+            raise S3Error("AccessControlListNotSupported")
         if asked.headers.get("x-amz-storage-class", "STANDARD") != "STANDARD":
-            raise S3Error("NotImplemented", "The only storage class is STANDARD.")
+            raise S3Error("InvalidStorageClass")
+        in_query = {name.lower(): value for name, value in asked.query.items()}
         for name in ("x-amz-expected-bucket-owner", "x-amz-source-expected-bucket-owner"):
-            if asked.headers.get(name, self.tenant) != self.tenant:
+            if any(found.get(name, self.tenant) != self.tenant for found in (asked.headers, in_query)):
                 raise S3Error("AccessDenied", "The bucket has another owner.")
+        if asked.method in READS and (OF_A_KEY in asked.headers or OF_A_KEY in in_query):
+            raise S3Error("InvalidRequest", "The object is not encrypted by a key of its own.")
 
     def operation_of(self, asked: Asked) -> Operation:
         if not asked.bucket:
@@ -272,13 +304,17 @@ class Endpoint:
                 self.expect_headers(asked, change.headers)
                 asked.elements = change.elements
                 return change.operation
+        if words == {"acl"}:
+            raise S3Error("AccessControlListNotSupported")
         raise S3Error("NotImplemented", f"There is no {asked.method} with {'?' + '&'.join(sorted(words)) if words else 'these words'} here.")
 
     def expect_headers(self, asked: Asked, known: Set[str]) -> None:
         """501 NotImplemented for a header of Amazon's that is neither among these, nor one that any change may have."""
         headers = {name for name in asked.headers if name.startswith("x-amz-") and not name.startswith("x-amz-meta-")}
         if unknown := headers - OF_ANY_CHANGE - known:
-            raise S3Error("NotImplemented", f"The header {min(unknown)} is not taken here.")
+            name = min(unknown)
+            code = next((code for begin, code in NEVER_HAD.items() if name.startswith(begin)), "NotImplemented")
+            raise S3Error(code) if code != "NotImplemented" else S3Error(code, f"The header {name} is not taken here.")
 
     # Reads
 

@@ -35,7 +35,7 @@ from .shared import Shared, Turns
 from .store import Store
 from .sweeping import Sweeps
 from .trips import Trip
-from .workers import RETRY, Lending, Turn, Wanted, Worker, who_asks
+from .workers import RETRY, Lending, Turn, Wanted, Who, Worker, who_asks
 
 Told = TypeVar("Told")
 TIDY = 30.0  # seconds
@@ -203,7 +203,7 @@ class Pool:
         """A worker: the one of this number, or any, best the preferred one."""
         if number is not None and number not in self.workers:
             raise KeyError(number)
-        if who_asks.get():
+        if any(who_asks.get()):
             self.asked = time.monotonic()
         if number is not None and self.workers[number].is_silent or all(each.is_silent for each in self.workers.values()):
             raise Unanswered(f"{self.named()}the homes of the sessions are silent")
@@ -232,8 +232,12 @@ class Pool:
         fitting = [wanted for wanted in self.waiting if wanted.number in (None, worker.number) and not wanted.future.done()]
         if fitting:
             # (the first of those who have fewest: so much as one asks for, others wait for one of his requests only)
-            has = Counter(each.who for each in self.workers.values() if each.is_busy)
-            wanted = min(fitting, key=lambda wanted: has[wanted.who] if wanted.number is None else 0)
+            has, by_key = Counter[Who](), Counter[str]()
+            for each in self.workers.values():
+                if each.is_busy:
+                    has[each.who] += 1
+                    by_key[each.who[0]] += 1
+            wanted = min(fitting, key=lambda wanted: (by_key[wanted.who[0]], has[wanted.who]) if wanted.number is None else (0, 0))
             self.waiting.remove(wanted)
             worker.is_busy, worker.who = True, wanted.who
             wanted.future.set_result(worker)

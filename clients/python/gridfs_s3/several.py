@@ -14,6 +14,7 @@ import grp
 import os
 import pwd
 import re
+import resource
 import shlex
 import signal
 import sys
@@ -29,6 +30,7 @@ from .errors import speak_for, tell
 
 SIGNALS = {signal.SIGCHLD, signal.SIGHUP, signal.SIGINT, signal.SIGTERM}
 SOON, LATEST, LASTING = 1.0, 30.0, 60.0  # seconds until one that ended is begun again, at first and at most; and from which on it had lasted
+MOST_MEMORY = 2 << 30  # bytes that a gateway may have to write into, with the stacks of its threads: it falls alone, before all of them do
 WITH_PARENT = 1  # of prctl: the signal that a process gets when its parent ends
 
 
@@ -228,6 +230,7 @@ def become(line: Line, run: Callable[[Namespace], None]) -> NoReturn:
         if os.getppid() == parent:
             os.environ.update(line.environment)
             speak_for(line.name)
+            resource.setrlimit(resource.RLIMIT_DATA, (MOST_MEMORY, MOST_MEMORY))
             signal.pthread_sigmask(signal.SIG_UNBLOCK, SIGNALS)
             run(line.asked)
             status = 0

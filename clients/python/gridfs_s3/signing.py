@@ -22,7 +22,7 @@ SKEW, LONGEST_EXPIRY = 900, 604_800  # seconds
 UNSIGNED = "UNSIGNED-PAYLOAD"
 MOST_HEADERS, MOST_SIGNED = 512, 128  # of a request, and names of those that are signed
 DIGEST = re.compile(r"[0-9a-f]{64}")
-SCOPE = re.compile(r"([^/]+)/(\d{8})/([A-Za-z0-9-]+)/s3/aws4_request")
+SCOPE = re.compile(r"([^/]+)/(\d{8})/([^/\s]{1,255})/s3/aws4_request")  # (some clients take the host for a region)
 HEADER = re.compile(rf"{ALGORITHM}\s+Credential=([^,\s]+),\s*SignedHeaders=([^,\s]+),\s*Signature=([0-9a-f]{{64}})\s*")
 IN_QUERY = "X-Amz-"
 

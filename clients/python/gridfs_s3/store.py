@@ -220,6 +220,13 @@ class Store(Reader):
         """Has an object go by a marker, as its latest version."""
         return self.change(target.name, lambda *_: Inline(b""), lambda: {**target.values, "d": "1"}, condition, about=target.about)
 
+    def take_away(self, target: Target, condition: Condition | None = None) -> None:
+        """Has an object go; where its bucket has versions, by a marker."""
+        if target.about:
+            self.mark(target, condition)
+        else:
+            self.delete(target.name, condition)
+
     def delete(self, name: str, condition: Condition | None = None, about: str | None = None) -> bool:
         """Takes a name away; whether it held something. Where it holds nothing, nothing is changed."""
 
@@ -419,7 +426,7 @@ class Store(Reader):
         """The parts of an upload in ascending order, each with where it stands."""
         return uploaded(held, self.writer.contents).all()
 
-    def complete(self, name: str, target: Target, values: Values, chosen: Sequence[At | None], condition: Condition | None) -> Held:
+    def complete(self, name: str, target: Target, values: Callable[[], Values], chosen: Sequence[At | None], condition: Condition | None) -> Held:
         """Gives the object the parts as they are, and has the upload go, in one change. Over several grids the upload stays, and has to be removed: another grid
         may still have an older line of it. (Both lines are in one page, so what one of them names stays.)"""
         besides = frozenset[str]() if self.trip else frozenset([name])
@@ -429,7 +436,7 @@ class Store(Reader):
             lists = [each for each in held.content.parts if isinstance(each, PartList)] if held else []
             return for_object([each for each in chosen if each], lists, self.writer.contents)
 
-        return self.change(target.name, placed, lambda: values, condition, besides, target.about)
+        return self.change(target.name, placed, values, condition, besides, target.about)
 
 
 def values_beside(held: Held) -> Values:

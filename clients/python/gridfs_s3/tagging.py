@@ -48,12 +48,12 @@ class Tagging(Operations):
         name = place.name
         is_settled = self.gateway.judged(name, lambda held: None)
 
-        def values(found: Object) -> Values:
+        def values(_: Store, found: Object) -> Values:
             kept = {word: value for word, value in found.values.items() if word not in tags.among(found.values)}
             return {**kept, **given, "t": str(found.time), **({"o": "{}.{}".format(*found.order)} if place.state else {})}
 
         def put(store: Store, source: Body, found: Object) -> Held:
-            return store.put_object(name, source, lambda: values(found), self.gateway.judged(name, lambda held: expect_same(held, found.held)))
+            return store.put_object(name, source, lambda: values(store, found), self.gateway.judged(name, lambda held: expect_same(held, found.held)))
 
         for _ in range(TURNS):
             try:

@@ -11,15 +11,17 @@ from gridfs_client.errors import ClientError
 from . import checksums, tags
 from .bodies import body_of
 from .checksums import HEADER, Checksum
+from .bounds import OF_COMPLETIONS
 from .copying import Copies, range_to_copy
 from .errors import S3Error, tell
 from .gateway import Operations
 from .markup import Element, document, element, many
-from .objects import LONGEST_PUT, Objects, algorithm_wanted, brought_by
+from .objects import LONGEST_PUT, MOST_PARTS, Objects, algorithm_wanted, brought_by
 from .places import Object, Part, name_of, named_in, of_words, upload_name
 from .requests import Asked, answer, iso
 from .sessions import now_ms
 from .store import Body, Store
+from .workers import who_asks
 
 UPLOAD = re.compile(r"(\d{1,2})\.[0-9a-f]{24}", re.ASCII)
 
@@ -142,25 +144,31 @@ class Uploads(Operations):
         size = asked.headers.get("x-amz-mp-object-size")
         if size is not None and not re.fullmatch(r"[0-9]{1,19}", size):
             raise S3Error("InvalidArgument", "x-amz-mp-object-size is no number.")
+        async with self.gateway.places.share(f"completions by {who_asks.get()}", OF_COMPLETIONS):
+            return await self.complete(asked, given, size)
+
+    async def complete(self, asked: Asked, given: dict[str, str], size: str | None) -> web.Response:
+        """(Few of one key's are in hand at a time: each may be long, and waits for the session of its upload.)"""
         session = self.session_of(asked)
         listed = (await self.gateway.document(asked, "CompleteMultipartUpload", is_of_content=False)).all("Part")
-        if not listed or not all(re.fullmatch(r"[0-9]{1,5}", each.told("PartNumber") or "") for each in listed):
+        if len(listed) > MOST_PARTS or not listed or not all(re.fullmatch(r"[0-9]{1,5}", each.told("PartNumber") or "") for each in listed):
             raise S3Error("MalformedXML")
         numbers = [int(each.told("PartNumber") or "") for each in listed]
         if any(one >= two for one, two in zip(numbers, numbers[1:])):
             raise S3Error("InvalidPartOrder")
         upload, place = asked.query["uploadId"], self.name_of(asked)
-        target = await self.objects.target_of(asked, upload.partition(".")[2])
-        name = target.name
-        condition = await self.gateway.condition_of(asked, name)
+        aim = await self.objects.aim_of(asked, upload.partition(".")[2])
+        condition = await self.gateway.condition_of(asked, aim.name)
 
         def finish(store: Store) -> Held:
+            target = aim.at(store)
             try:
                 held = store.own_upload(place)
             except S3Error:
-                # (asked again by who did not hear the answer)
-                if (done := store.look(name)) and of_words(done.words).get("u") == upload:
-                    return done
+                # (asked again by who did not hear the answer; it was done in another state of the bucket's versions, perhaps)
+                for name in {target.name, aim.name, aim.version_name}:
+                    if (done := store.look(name)) and of_words(done.words).get("u") == upload:
+                        return done
                 raise
             expect_key(asked, held)
             found = {part.number: (part, where) for part, where in store.uploaded(held)}
@@ -174,16 +182,16 @@ class Uploads(Operations):
             if whole := judged(asked, given, words.get("a", ""), [found[number][0] for number in numbers]):
                 values["s"] = whole.text()
             md5 = hashlib.md5(b"".join(bytes.fromhex(found[number][0].md5) for number in numbers)).hexdigest()
-            values |= {"m": md5, "n": str(len(numbers)), "u": upload, **target.values}
-            return store.complete(place, target, values, [found[number][1] for number in numbers], condition)
+            values |= {"m": md5, "n": str(len(numbers)), "u": upload}
+            return store.complete(place, target, lambda: {**values, **aim.values(store)}, [found[number][1] for number in numbers], condition)
 
-        held = await self.gateway.change(name, finish, number=session, condition=condition)
+        held = await self.gateway.change(aim.name, finish, number=session, condition=condition)
         if self.grids.map:
             await self.remove(place)
         inner = [element("Location", f"/{asked.bucket}/{asked.key}"), element("Bucket", asked.bucket), element("Key", asked.key)]
         done = Object(asked.key, held)
         inner += [element("ETag", f'"{done.etag}"'), *(done.checksum.elements() if done.checksum else [])]
-        return answer(document("CompleteMultipartUploadResult", *inner), headers=target.told)
+        return answer(document("CompleteMultipartUploadResult", *inner), headers=aim.told_of(held))
 
     async def remove(self, name: str) -> None:
         """Has an upload go whose object is there. (Where that fails it is told to whoever runs the gateway, since the completion was done.)"""

@@ -20,6 +20,10 @@ ELEMENTS = {"VersioningConfiguration": {"Status"}}
 HEADER, MARKER = "x-amz-version-id", "x-amz-delete-marker"
 
 
+class Restated(Exception):
+    """The versions of the bucket are in another state than when the place of a change was chosen. Nothing was changed."""
+
+
 @dataclass(frozen=True)
 class Place:
     """Where an object is looked for: at this name, or at that of the latest of all its versions."""

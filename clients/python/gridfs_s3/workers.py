@@ -19,7 +19,8 @@ from .peers import AllBut
 from .store import Store
 
 RETRY = 1.0  # seconds until a session whose home is silent, or a carrier that has ended, is tried again
-who_asks: ContextVar[str] = ContextVar("who_asks", default="")  # the access key or the signed URL by which something is asked for
+Who = tuple[str, str]  # an access key, and the URL or form that it signed, if it is asked by that
+who_asks: ContextVar[Who] = ContextVar("who_asks", default=("", ""))
 
 
 class Turn(Session):
@@ -70,7 +71,7 @@ class Worker:
         self.session, self.lock, self.number = session, lock, session.number
         self.store: Store
         self.is_busy, self.is_silent = False, False
-        self.who = ""  # for whom somebody works by it
+        self.who: Who = ("", "")  # for whom somebody works by it
         self.is_lent = False  # to another command of this machine, or about to be
         self.settled_when_lent: AllBut | Collection[int] = ()  # the pages into which nothing could come, until it is had again
         self.index_when_lent = 0  # which beginning of the index had them
@@ -112,5 +113,5 @@ class Lending:
 class Wanted:
     """Somebody who waits for a worker: for this one, or for any; and for whom."""
 
-    def __init__(self, number: int | None, future: "asyncio.Future[Worker]", who: str):
+    def __init__(self, number: int | None, future: "asyncio.Future[Worker]", who: Who):
         self.number, self.future, self.who = number, future, who
