@@ -20,6 +20,7 @@ FAULTS = {
     "anybody of the grid may stand at a node's address": ("who_is_dialed", "links.c", "if (link->host && strcmp(name, link->host->name))", "if (false)", "stream.c", "&& SSL_set1_host(it->ssl, host)", ""),
     "a part of a line is given": ("lines_are_whole", "links.c", "    if (stream->paused) paused--;", "    if (link->held && link->peer) lines(link, link->part, link->held);\n    if (stream->paused) paused--;", "links.c", "/* The end of a link */", "static void lines(struct link *link, const char *text, size_t length);"),
     "a line that is too long is given": ("lines_are_whole", "node.c", "strlen(queue->head) + body > longest", "false"),
+    "a line that came with the handshake waits for the next one": ("a_first_line_behind_a_handshake", "stream.c", "    if (it->state == OPEN && !it->paused) it->readable(it);     /* (all may", "    /* (all may"),
     "what waits within TLS is forgotten": ("lines_are_whole", "links.c", "if (stream->more && !link->is_later)", "if (false)"),
     "an answer goes to all connections": ("answers_go_home", "links.c", "    if (session) only = peer->by_session[session];\n", "    (void)session;\n"),
     "an answer about a chunk goes to whom its session asked last": ("chunks_go_home", "links.c", "struct link *only = request && !of_room ? who_asked(peer, request) : NULL;", "struct link *only = NULL;\n    (void)who_asked;", "links.c", "(request && !of_room && !only && memcmp(body, \"refused \", 8))", "false"),

@@ -165,12 +165,12 @@ class Commands:
         skipped = "gridfs-client: skipped tree/link: a symbolic link is not followed\ngridfs-client: 1 skipped\n"
         self.held("a link", (status, told, why), (6, b"", skipped))
         self.refused("a prefix of no name", ["mirror", "grid:bakc", "backup"], 1, "grid:bakc/: no name begins so")
-        self.refused("a folder that is not there", ["mirror", "nowhere", "grid:"], 6, "nowhere: No such file")
+        self.refused("a folder that is not there", ["mirror", "nowhere", "grid:"], 9, "nowhere: No such file")
         for words in (["a", "b"], ["grid:a", "grid:b"], ["", "grid:a"]):
             self.refused(f"mirror {words}", ["mirror", *words], 2, "mirror wants a folder and grid:PREFIX")
         self.refused("a prefix that has no form", ["mirror", "tree", "grid:/a"], 2, "no / at an end")
         os.mkdir("hollow")
-        self.refused("an empty source", ["mirror", "--delete", "hollow", "grid:back"], 6, "hollow: no file is there, so no name is removed")
+        self.refused("an empty source", ["mirror", "--delete", "hollow", "grid:back"], 9, "hollow: no file is there, so no name is removed")
         self.told("rm of it", ["rm", "back/a", "back/b/c/empty", "back/b/ä b", "other"], b"")
 
     def whole_prefixes(self):
@@ -229,21 +229,28 @@ class Commands:
             self.refused(f"put of the name {name!r:.9}", ["put", "-", name], 2, why)
         for word in ("get", "rm", "stat"):
             self.refused(f"{word} of a name that is none", [word, "a/"], 2, "no / at an end")
-        self.refused("a file that is not there", ["put", "nothing", "x"], 6, "nothing: No such file")
-        self.refused("a folder in place of a file", ["put", ".", "x"], 6, ".: Is a directory")
+        self.refused("a file that is not there", ["put", "nothing", "x"], 9, "nothing: No such file")
+        self.refused("a folder in place of a file", ["put", ".", "x"], 9, ".: a folder: mirror takes it")
         self.told("a name for what follows", ["put", "-", "here"], b"", given=b"here")
-        self.refused("a target in no folder", ["get", "here", "no/copy"], 6, "no/copy: No such file")
+        self.refused("a target in no folder", ["get", "here", "no/copy"], 9, "no/copy: No such file")
         os.makedirs("folder", exist_ok=True)
         before = set(os.listdir("."))
-        self.refused("a target that is a folder", ["get", "here", "folder"], 6, "Is a directory")
+        self.told("a target that is a folder", ["get", "here", "folder"], b"")
+        with open("folder/here", "rb") as file:
+            self.held("what is in it", file.read(), b"here")
+        os.unlink("folder/here")
         self.refused("a target for no name", ["get", "nowhere", "new"], 1, "no such name")
         self.held("nothing half written is left", set(os.listdir(".")), before)
         if os.getuid():
             os.makedirs("closed", 0o500, exist_ok=True)
-            self.refused("a target that can't be written", ["get", "here", "closed/copy"], 6, "closed/copy: Permission denied")
-        self.told("rm of it", ["rm", "here"], b"")
+            self.refused("a target that can't be written", ["get", "here", "closed/copy"], 9, "closed/copy: Permission denied")
         words = self.run("put", "x")
         self.held("words that are no request", (words[0], words[1]), (2, b""))
+        self.held("options before the word and behind it", [json.loads(self.run(*words)[1])["size"] for words in (["--json", "stat", "here"], ["stat", "here", "--json", "--timeout", "20"])], [4, 4])
+        self.told("rm of it", ["rm", "here"], b"")
+        self.held("help of a word", (self.run("help", "put")[:2], self.run("help")[:2]), (self.run("put", "--help")[:2], self.run("--help")[:2]))
+        self.refused("no settings", ["ls"], 2, "no settings: name a file of them by --config", **dict.fromkeys(("GRIDFS_CONFIG", *(f"GRIDFS_{word.upper()}" for word in self.settings)), ""), HOME=os.getcwd())
+        self.refused("a grid that does not run", ["ls"], 6, "no grid runs in folder (./grid starts one): folder/socket: No such file", GRIDFS_SOCKET="folder/socket")
         self.held("--help", (self.run("--help")[0], b"may a change still take effect?" in self.run("--help")[1]), (0, True))
         self.refused("a file of settings that is not there", ["ls"], 2, "grid/nobody.ini: no such file", tenant="nobody")
         self.refused("a tenant that has no form", ["ls"], 2, "tenant: 'Ann'", GRIDFS_TENANT="Ann")
@@ -402,6 +409,18 @@ class Commands:
         self.told("rm of all", ["rm", "long", "small"], b"", GRIDFS_SESSION="1")
         self.held("used at last", self.used(), [0, 0])
 
+    def library(self):
+        """A program that has names by `gridfs_client.open`, beside commands."""
+        program = subprocess.Popen([PYTHON, "-B", os.path.join(TOP, "examples", "files.py"), "grid/ann.ini"], stdout=subprocess.PIPE, stderr=subprocess.PIPE, env=self.environment(PYTHONPATH=os.path.join(TOP, "clients", "python")))
+        beside = [self.run("put", "-", f"beside{number}", given=b"beside")[0] for number in range(3)]
+        told, why = program.communicate(timeout=SECONDS)
+        small = ", ".join(f"('example/{number}', 1)" for number in range(4))
+        wanted = f"hello\n2560000 bytes\n[0, 1, 2, 3]\nthe same\n[{small}, ('example/greeting', 5), ('example/long', 2560000)] True\nexample/greeting: no such name 1\n"
+        self.held("the example", (program.returncode, told.decode(), why.decode()), (0, wanted, ""))
+        self.held("commands beside it", beside, [0, 0, 0])
+        self.told("rm of these", ["rm", *(f"beside{number}" for number in range(3))], b"")
+        self.held("used behind it", self.used(), [0, 0])
+
     def interrupted(self, content, write):
         """A put by session 1, which is interrupted in place of the answer to its first write, of the journal, or to its second one, of the page."""
         ended = self.run("put", "-", "ended", given=content, GRIDFS_VIA=shlex.join([PYTHON, "-B", ENDING, "grid/socket", str(write)]), GRIDFS_SESSION="1")
@@ -498,7 +517,7 @@ PARTS = (
     ["names", "numbered_files", "full", "carriers", "sessions"],
     ["bad_input", "streams", "carried_by_another_put", "interrupts"],
     ["status", "mirror", "whole_prefixes", "terminal"],
-    ["room_that_is_given_back"],
+    ["room_that_is_given_back", "library"],
 )
 
 

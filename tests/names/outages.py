@@ -78,7 +78,7 @@ def try_outages(program):
     try:
         commands.told("put", ["put", "-", "a"], b"", given=b"hello")
         status, told, _ = commands.run("status", tenant="bob")
-        commands.held("status of a tenant without names", (status, b"left out: all volumes have one shape" in told), (0, True))
+        commands.held("status of a tenant without names", (status, b"left out: the tenant keeps no names by this plan" in told), (0, True))
         kill(nodes, 3)
         one_is_down(commands)
         kill(nodes, 2)

@@ -4,10 +4,13 @@ import argparse
 import contextlib
 import io
 import os
+import signal
 import socket
+import subprocess
 import sys
 import tempfile
 import unittest
+from unittest import mock
 
 sys.path.insert(0, os.path.dirname(os.path.abspath(__file__)))
 import histories  # (which finds the packages)  # noqa: F401
@@ -15,6 +18,7 @@ import histories  # (which finds the packages)  # noqa: F401
 from gridfs_grid import command
 from gridfs_grid.one_machine import NotStarted, keep_way
 from gridfs_grid.options import OF_GRID, OF_S3, expect_free, keep_options
+from gridfs_grid.planned import in_words
 
 
 def asked_for(*words):
@@ -79,6 +83,24 @@ class Options(unittest.TestCase):
         with open(os.path.join(self.grid, "grid", "plan"), "w"):
             pass
         asked_for(self.grid)
+
+    def test_a_node_that_is_killed(self):
+        """It is found by its journal, and no other process with such words is."""
+        journal, told = os.path.join(self.grid, "node2.journal"), io.StringIO()
+        words = [["node", "2", "--journal", journal], ["node", "22", "--journal", journal], ["node", "2", "--journal", journal + "s"], ["-c", f"node 2 --journal {journal}"]]
+        nodes = [subprocess.Popen([sys.executable, "-c", "input()", *each], executable=sys.executable, stdin=subprocess.PIPE) for each in words]
+        # (the words of a node stand behind its program's)
+        with mock.patch("gridfs_grid.one_machine.FIRST_WORDS", 3), contextlib.redirect_stderr(told):
+            self.assertEqual((command.run(["--kill", "3", self.grid]), command.run(["--kill", "2", self.grid])), (1, 0))
+        self.assertEqual(nodes[0].wait(10), -signal.SIGKILL)
+        for node in nodes[1:]:
+            self.assertIsNone(node.poll())
+            node.communicate(b"\n")
+        self.assertEqual(told.getvalue(), f"grid: {self.grid}: no node 3 runs there\ngrid: node 2 is killed\n")
+
+    def test_a_plan_that_is_none(self):
+        for fault, told in (("README.md: line 1: form", "README.md: no plan: line 1 is not `grid ROWS COLUMNS`"), ("empty: line 1: end", "empty: no plan: it is empty"), ("a: line 3: zeroshare",) * 2):
+            self.assertEqual(in_words(fault), told)
 
     def test_ports(self):
         with socket.create_server(("127.0.0.1", 0)) as other:

@@ -241,7 +241,7 @@ class Skipping(Mirrors):
             "out": "a symbolic link is not followed",
             "link": "a symbolic link is not followed",
         })  # fmt: skip
-        self.assertEqual(report.status, 6)  # (of the first one: links and pipes are met before names are made)
+        self.assertEqual(report.status, 9)  # (of the first one: links and pipes are met before names are made)
         self.assertIn(f"skipped '{self.folder}/b\\nc': a name has no control characters", self.told)
 
     def test_names_of_what_is_skipped_are_kept(self):
@@ -259,7 +259,7 @@ class Skipping(Mirrors):
         with mock.patch("os.scandir", scandir):
             report = self.up(removes=True)
         self.assertEqual((set(report.removed), set(self.held())), ({"linked", "lock"}, {"a", "link", "link/x", "locked/x"}))
-        self.assertEqual((report.skipped[os.path.join(self.folder, "locked")], report.status), ("Permission denied", 6))
+        self.assertEqual((report.skipped[os.path.join(self.folder, "locked")], report.status), ("Permission denied", 9))
 
     def test_names_that_can_be_no_files(self):
         bad = ("../x", "a/../../x", "a//b", "./x", "x/.", "y/..", ".gridfs-client.x")
@@ -283,7 +283,7 @@ class Skipping(Mirrors):
         report = self.down()
         self.assertEqual({os.path.relpath(each, self.other) for each in report.skipped}, {"out/x", "link", "alike", "file/x", "folder"})
         self.assertEqual(report.skipped[os.path.join(self.other, "alike")], "a symbolic link is not followed")
-        self.assertEqual((self.read_all(outside), report.moved, report.status), ({"x": b"kept"}, ["good"], 6))
+        self.assertEqual((self.read_all(outside), report.moved, report.status), ({"x": b"kept"}, ["good"], 9))
         self.assertEqual(os.readlink(os.path.join(self.other, "link")), os.path.join(outside, "x"))
         with open(os.path.join(self.other, "file"), "rb") as file:
             self.assertEqual(file.read(), b"kept")

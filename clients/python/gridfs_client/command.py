@@ -71,9 +71,10 @@ status  meaning                                                                 
      3  no room is left, or a node refuses: no such volume or file, too long       no
      4  no answer in time, or for `status` no row or no column that is wholly up   yes
      5  a file has not what such a client wrote into it                            if it was found in the middle of the change
-     6  no broker, a wrong password or certificate; a fault of a file here         if the connection ended in the middle
+     6  no grid there, no broker, a wrong password or certificate                  if the connection ended in the middle
      7  another client uses the session                                            yes
      8  the content was replaced each time while it was read
+     9  a file or folder here is not there, is in the way, or can't be read or written
    130  interrupted (143: by SIGTERM)                                              yes
    141  whoever read the answer has gone
 
@@ -222,6 +223,15 @@ def number_of(word: str) -> int:
     return int(word)
 
 
+def add_options(to: argparse.ArgumentParser, is_shown: bool) -> None:
+    """Those that stand before the word or behind it. (One that is not there leaves what the other place has.)"""
+    flag: dict[str, Any] = dict(action="store_true", default=argparse.SUPPRESS)
+    to.add_argument("--json", help="the answer as JSON, one value", **flag)
+    to.add_argument("--quiet", "-q", help="no progress at a terminal, and of mirror and rm -r no lines of what is done", **flag)
+    for key, takes, meaning in [("config", "FILE", "the file of settings"), *((key, it.takes, it.meaning + (f" ({it.default})" if it.default else "")) for key, it in SETTINGS.items())]:
+        to.add_argument(f"--{key}", metavar=takes, default=argparse.SUPPRESS, help=meaning if is_shown else argparse.SUPPRESS)
+
+
 def parser() -> argparse.ArgumentParser:
     main = argparse.ArgumentParser(
         prog="gridfs-client",
@@ -231,12 +241,9 @@ def parser() -> argparse.ArgumentParser:
         allow_abbrev=False,
     )
     main.add_argument("--version", action="version", version=f"%(prog)s {__version__}")
-    main.add_argument("--config", metavar="FILE", help="the file of settings")
-    for key, setting in SETTINGS.items():
-        main.add_argument(f"--{key}", metavar=setting.takes, help=setting.meaning + (f" ({setting.default})" if setting.default else ""))
+    add_options(main, is_shown=True)
     shared = argparse.ArgumentParser(add_help=False)
-    shared.add_argument("--json", action="store_true", help="the answer as JSON, one value")
-    shared.add_argument("--quiet", action="store_true", help="no progress at a terminal, and of mirror and rm -r no lines of what is done")
+    add_options(shared, is_shown=False)
     words = main.add_subparsers(dest="word", required=True, metavar="COMMAND")
 
     def word(word_name: str, call: Callable[[Any, argparse.Namespace], None], meaning: str, /, **arguments: dict[str, Any]) -> None:
@@ -314,7 +321,12 @@ def get(opened: Opened | OpenedFleet, args: argparse.Namespace) -> None:
         start = place_to_cut(target)
         return opened.by_sessions(lambda names: names.get_to(args.name, target), nothing if start is None else partial(cut, target, start))
 
-    tell(args, told_of(to_target(args.path, get_to)))
+    tell(args, told_of(to_target(in_folder(args.path, args.name), get_to)))
+
+
+def in_folder(path: str, name: str) -> str:
+    """The file for a name's content: in a folder the one that has the name's last part."""
+    return os.path.join(path, name.rpartition("/")[2]) if path != "-" and os.path.isdir(path) else path
 
 
 def told_of(entry: Entry) -> dict[str, object]:
@@ -575,7 +587,8 @@ def status_of_grid(grids: OpenGrids, grid: str) -> tuple[dict[str, Any], list[st
 
 
 def run(words: list[str]) -> None:
-    args = parser().parse_args(words)
+    args = parser().parse_args([*words[1:2], "--help"] if words[:1] == ["help"] else words)
+    args.json, args.quiet = "json" in args, "quiet" in args
     if args.call in (put, get, mirror, renew):
         keep_for_chunks()
     settings = Settings.gather({key.replace("_", "-"): value for key, value in vars(args).items() if isinstance(value, str)}, os.environ)
@@ -642,6 +655,6 @@ def main(words: list[str] | None = None) -> int:
         return 141
     except OSError as fault:
         complain(f"{fault.filename or 'a file'}: {fault.strerror or fault}")
-        return ClientError.status
+        return BadFile.status
     except KeyboardInterrupt:
         return 130

@@ -15,6 +15,8 @@ from itertools import islice
 from pathlib import Path
 from typing import IO, TextIO, TypeVar, cast
 
+from .errors import BadFile
+
 Result = TypeVar("Result")
 INPUT, OUTPUT = "standard input", "standard output"
 SHORT = 1 << 20  # bytes of a stream that is kept in memory
@@ -47,6 +49,8 @@ def content_of(path: str) -> Iterator[IO[bytes]]:
         with faults_of(INPUT):
             yield standard(sys.stdin, INPUT)
     else:
+        if os.path.isdir(path):
+            raise BadFile(f"{path}: a folder: mirror takes it")
         with faults_of(path), open(path, "rb") as file:
             yield file
 

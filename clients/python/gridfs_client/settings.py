@@ -170,6 +170,8 @@ class Settings:
         return Settings(self.values | {"session": str(number)})
 
     def need(self, key: str) -> str:
+        if key == "tenant" and not {"tenant", "hosts", "socket", "broker", "via"} & self.values.keys():
+            raise BadSettings("no settings: name a file of them by --config or GRIDFS_CONFIG, as ./grid writes FOLDER/NAME.ini (tenant is not set)")
         if key not in self.values:
             raise BadSettings(f"{key} is not set: {SETTINGS[key].meaning}")
         return self.values[key]

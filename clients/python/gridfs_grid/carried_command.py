@@ -11,6 +11,7 @@ from gridfs_grid.carrier import journal_of
 from gridfs_grid.one_machine import STAY_DOWN, NotStarted, end, how_ended, how_many_are_up, is_ready, keep_way, look_at, tell, way_out
 from gridfs_grid.options import OF_GRID, expect_free, keep_options
 from gridfs_grid.places import CARRIERS, CLIENT, PLAN, folder_to_start
+from gridfs_grid.planned import planned
 
 TRIES = 3  # starts of a node that ends with status 1 before it is ready: its journal may be in use by a process that is about to end
 DAY = 86_400  # seconds
@@ -55,6 +56,12 @@ class CarriedCommand:
     def tenants(self, grid):
         raise NotImplementedError
 
+    def tenant_of_names(self, grid):
+        """One who has room for chunks, and so most likely names; else the last one."""
+        with open(grid.plan, encoding="latin1") as file:
+            found = [line.split()[0] for line in file if line.split()[1:2] == ["chunks"]]
+        return found[0] if found else self.tenants(grid)[-1]
+
     # The start
 
     def built(self):
@@ -78,6 +85,9 @@ class CarriedCommand:
             os.makedirs(grid.folder, exist_ok=True)
             grid.take()
             before = text_of(grid.plan)
+            if asked.plan:
+                with open(asked.plan, encoding="latin1") as file:
+                    planned(grid.program, file.read(), asked.plan)
             if asked.plan or before is None:
                 shutil.copy(asked.plan or PLAN, grid.plan)
         except OSError as error:
@@ -198,7 +208,7 @@ class CarriedCommand:
                 self.tell_end_of_certificates(grid)
                 up = sum(number in grid.processes for number in grid.nodes)
                 tell(f"{how_many_are_up(up, grid.count)}, in {grid.folder}. Now for instance:")
-                print(f"{os.path.relpath(CLIENT)} --config {os.path.join(grid.folder, f'{self.tenants(grid)[-1]}.ini')} plan", flush=True)
+                print(f"{os.path.relpath(CLIENT)} --config {os.path.join(grid.folder, f'{self.tenant_of_names(grid)}.ini')} status", flush=True)
                 self.look_after(grid)
             except NotStarted as fault:
                 tell(fault)

@@ -12,6 +12,7 @@
     --plan FILE       the plan of a first start: who may store how much. Without it tenants ann, bob and carol, who has 10 GiB
                       on disk. Later a plan that goes on from the last one (docs/OPERATING.md, Grow)
     --replace N       node N was lost with its journal: a new node, N + 64, takes its place (docs/FAULTS.md)
+    --kill N          kills node N of the grid that runs in the folder (kill -9), to see what comes of it
     --program FILE    the program `gridfs` ($GRIDFS, or else the one of this checkout, which is built at first, in two to four minutes)
 
     over pipes        --lines takes requests from standard input too (the line `help` tells their forms); --serve takes none, as without it
@@ -22,7 +23,7 @@
     over mqtt         --tls WHERE it ends: front (nginx), broker or none; --rate BYTES that a connection may send a second (2m)
     with --s3         --listen ADDRESS:PORT of the endpoint (127.0.0.1:9000); --gateways N for each tenant (1)
 
-FOLDER remembers these options, but for --plan, --replace, --program and --lines: a later start without one takes what the last one had.
+FOLDER remembers these options, but for --plan, --replace, --kill, --program and --lines: a later start without one takes what the last one had.
 
 FOLDER gets NAME.ini for each tenant: the settings of clients/python/gridfs-client. With --s3 these are in FOLDER/grid, unless the grid was there
 before, and FOLDER/s3 has the access keys, and settings of s3cmd and rclone. One grid at a time runs in a folder. Over links and mqtt, and with S3,
@@ -33,10 +34,11 @@ or all was shown or answered; 1: something did not start, was not answered, or a
 import argparse
 import os
 import re
+import signal
 import sys
 
 from gridfs_grid import links, mqtt, pipes
-from gridfs_grid.one_machine import NotStarted, begin, kept_way, tell
+from gridfs_grid.one_machine import NotStarted, begin, kept_way, processes_of, tell
 from gridfs_grid.options import OF_GRID, OF_S3, expect_own_folder, take_kept
 from gridfs_grid.places import PROGRAM, folder_of_grid
 
@@ -57,6 +59,7 @@ def parser():
     it.add_argument("--plan")
     it.add_argument("--program", default=os.environ.get("GRIDFS") or PROGRAM)
     it.add_argument("--replace", type=int)
+    it.add_argument("--kill", type=int)
     it.add_argument("--lines", action="store_true")
     it.add_argument("--serve", dest="lines", action="store_false")
     it.add_argument("--tick", type=float)
@@ -115,12 +118,23 @@ def take_all_kept(asked):
         take_kept(asked, os.path.join(asked.folder, "s3"), OF_S3)
 
 
+def kill_node(folder, number):
+    """Kills a node of the grid that runs in a folder, as a crash does; the status."""
+    pids = processes_of(folder, number)
+    for pid in pids:
+        os.kill(pid, signal.SIGKILL)
+    tell(f"node {number} is killed" if pids else f"{folder}: no node {number} runs there")
+    return 0 if pids else 1
+
+
 def run(words):
     try:
         asked = words_of(words)
     except NotStarted as fault:
         tell(fault)
         return 1
+    if asked.kill is not None:
+        return kill_node(folder_of_grid(asked.folder, asked.s3), asked.kill)
     if asked.s3:
         from gridfs_grid import s3  # (whose gateway wants more packages)
 

@@ -15,6 +15,7 @@ START, READ = 15, 1 << 21  # seconds in which a node has to be ready, and bytes 
 DAMAGED = 4  # the status of a node whose journal is damaged
 STAY_DOWN = (1, 2, DAMAGED, 125, 127)  # statuses of a node, or of what is to start it, that a further start would not mend
 KILLED = (-signal.SIGKILL, 128 + signal.SIGKILL)  # what a process ends with that is killed, and a carrier whose node is
+FIRST_WORDS = 1  # of a program, before those of its command
 SIGNALS = (signal.SIGINT, signal.SIGTERM, signal.SIGHUP)
 
 
@@ -62,6 +63,22 @@ def holders(handle):
     """The processes, but for this one, that have the folder open too."""
     pids = [int(name) for name in os.listdir("/proc") if name.isdigit() and int(name) != os.getpid()]
     return [pid for pid in pids if has_open(pid, os.fstat(handle))]
+
+
+def processes_of(folder, number):
+    """Those of a node whose journal is in this folder."""
+    wanted = os.path.realpath(journal_of(folder, number))
+    return [pid for pid in map(int, filter(str.isdigit, os.listdir("/proc"))) if runs_node(pid, number, wanted)]
+
+
+def runs_node(pid, number, journal):
+    try:
+        with open(f"/proc/{pid}/cmdline", "rb") as file:
+            words = os.fsdecode(file.read()).split("\0")
+        at = os.path.join(os.readlink(f"/proc/{pid}/cwd"), words[words.index("--journal") + 1])
+    except (OSError, ValueError, IndexError):  # (it has ended, is another user's, or no node)
+        return False
+    return words[FIRST_WORDS : FIRST_WORDS + 2] == ["node", str(number)] and os.path.realpath(at) == journal
 
 
 def has_open(pid, wanted):

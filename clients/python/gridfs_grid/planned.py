@@ -27,4 +27,10 @@ def planned(program, text, path="the plan"):
     try:
         return Planned(ask(path, by=program, text=text))
     except BadFile as fault:
-        raise NotStarted(str(fault)) from None
+        raise NotStarted(in_words(str(fault))) from None
+
+
+def in_words(fault):
+    """A fault of a plan, with what it comes to where it is of none at all."""
+    path, _, what = fault.partition(": line 1: ")
+    return {"form": f"{path}: no plan: line 1 is not `grid ROWS COLUMNS`", "end": f"{path}: no plan: it is empty"}.get(what, fault)
