@@ -536,11 +536,11 @@ class Copies(Cases):
         self.disks()
         self.copy(0)
         os.rename(os.path.join(self.folder, "copies", "0"), os.path.join(self.folder, "copies", "1"))
-        self.assertIn("it has a copy of node 0, and this is node 1", self.copy(1, 6))
+        self.assertIn("it has a copy of node 0, and this is node 1", self.copy(1, 9))
         os.unlink(os.path.join(self.folder, "copies", "1", "journal"))
-        self.assertIn("segments are there without a journal", self.copy(1, 6))
+        self.assertIn("segments are there without a journal", self.copy(1, 9))
         shutil.rmtree(os.path.join(self.folder, "2.shelf"))
-        self.assertIn("segments are missing beside", self.copy(2, 9))
+        self.assertIn("segments are missing beside", self.copy(2, 10))
 
 
 class Sums(unittest.TestCase):

@@ -409,6 +409,42 @@ class Commands:
         self.told("rm of all", ["rm", "long", "small"], b"", GRIDFS_SESSION="1")
         self.held("used at last", self.used(), [0, 0])
 
+    def more_words(self):
+        """What people type besides."""
+        content = os.urandom(1_500_000)
+        with open("long", "wb") as out:
+            out.write(content)
+        self.told("put of a long one", ["put", "long", "d/e/long"], b"")
+        self.told("put of a short one", ["put", "-", "d/short"], b"", given=b"hello\n")
+        self.told("cat", ["cat", "d/short", "d/e/long", "d/short"], b"hello\n" + content + b"hello\n")
+        for words, wanted in (("0-3", content[:4]), ("1048570-1048585", content[1_048_570:1_048_586]), ("1499990-", content[-10:]), ("1499999-1600000", content[-1:]), ("1500000-", b"")):
+            self.told(f"bytes {words}", ["get", "--range", words, "d/e/long"], wanted)
+        self.told("bytes of a short one", ["get", "d/short", "--range", "1-2"], b"el")
+        self.held("a range that is none", self.run("get", "--range", "5-2", "d/short")[0], 2)
+        self.told("cp", ["cp", "d/e/long", "copied"], b"")
+        self.told("get of it", ["get", "copied"], content)
+        self.told("mv", ["mv", "d/short", "moved"], b"")
+        self.refused("the old name", ["get", "d/short"], 1, "no such name")
+        self.refused("cp of a name to itself", ["cp", "moved", "moved"], 2, "one name")
+        self.refused("mv of no name", ["mv", "d/short", "x"], 1, "d/short: no such name")
+        lines = self.run("ls", "-l")[1].decode().splitlines()
+        now = time.time()
+        times = [time.mktime(time.strptime(line[14:33], "%Y-%m-%d %H:%M:%S")) for line in lines]
+        self.held("ls -l", ([line.split()[0] for line in lines], [line[35:] for line in lines], all(now - 300 < it < now + 60 for it in times)), (["1500000", "1500000", "6"], ["copied", "d/e/long", "moved"], True))
+        self.held("du", json.loads(self.run("du", "--json")[1]), [{"prefix": "d/", "names": 1, "bytes": 1_500_000}, {"prefix": "all", "names": 3, "bytes": 3_000_006}])
+        self.held("du of a prefix", [line.split() for line in self.run("du", "d/")[1].decode().splitlines()], [["1500000", "1", "names", "d/e/"], ["1500000", "1", "names", "d/"]])
+        told = json.loads(self.run("df", "--json")[1])
+        self.held("df", ([it["column"] for it in told], sum(it["used"] for it in told), {it["used"] + it["free"] for it in told}), ([0, 1], 3_000_000 + 4 * 512, {4 << 20}))
+        self.held("df in lines", self.run("df")[1].decode().splitlines()[0].split(), ["column", "used", "free", "allowed"])
+        self.told("rm of all", ["rm", "copied", "d/e/long", "moved"], b"")
+        for shell in ("bash", "zsh"):
+            status, told, why = self.run("completion", shell, GRIDFS_CONFIG="")
+            self.held(f"completion of {shell}", (status, b"complete -o default -F _gridfs_client gridfs-client" in told, why), (0, True, ""))
+        asked = "source <(cat); COMP_WORDS=(gridfs-client {}); COMP_CWORD={}; _gridfs_client; echo ${{COMPREPLY[@]}}"
+        for words, at, wanted in (("mir", 1, "mirror"), ("put --js", 2, "--json"), ("get --ra", 2, "--range"), ("--loc", 1, "--locks")):
+            done = subprocess.run(["bash", "-c", asked.format(words, at)], input=self.run("completion", "bash")[1], capture_output=True)
+            self.held(f"completion of {words}", done.stdout.decode().strip(), wanted)
+
     def library(self):
         """A program that has names by `gridfs_client.open`, beside commands."""
         program = subprocess.Popen([PYTHON, "-B", os.path.join(TOP, "examples", "files.py"), "grid/ann.ini"], stdout=subprocess.PIPE, stderr=subprocess.PIPE, env=self.environment(PYTHONPATH=os.path.join(TOP, "clients", "python")))
@@ -517,7 +553,7 @@ PARTS = (
     ["names", "numbered_files", "full", "carriers", "sessions"],
     ["bad_input", "streams", "carried_by_another_put", "interrupts"],
     ["status", "mirror", "whole_prefixes", "terminal"],
-    ["room_that_is_given_back", "library"],
+    ["more_words", "room_that_is_given_back", "library"],
 )
 
 

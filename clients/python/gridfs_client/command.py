@@ -14,6 +14,7 @@ from functools import cached_property, partial
 from typing import IO, Any, TypeVar
 
 from . import __version__
+from . import words as words_module
 from .answers import PlanTold
 from .asking import LAST_CALL, SILENCE, ask_plan, ask_soon, why_unanswered
 from .carriers import INTERRUPTED, Carrier
@@ -258,9 +259,17 @@ def parser() -> argparse.ArgumentParser:
     source: dict[str, Any] = dict(metavar="FILE", help="a file, or - for standard input")
     target: dict[str, Any] = dict(metavar="FILE", nargs="?", default="-", help="a file, or - for standard output, as if left out")
     word("put", put, "give a name a content", path=source, name=name)
-    word("get", get, "tell a name's content", name=name, path=target)
+    word("get", get, "tell a name's content", name=name, path=target,
+         **{"--range": dict(type=words_module.range_of, metavar="FIRST-LAST", dest="bytes", help="these bytes of it alone, from 0; FIRST- for all from there")})  # fmt: skip
     word("ls", ls, "tell names with their sizes: each was so at some moment of the call (between which ones: --json)",
-         prefix=dict(metavar="PREFIX", nargs="?", default="", help="names that begin so; all if left out"))  # fmt: skip
+         prefix=dict(metavar="PREFIX", nargs="?", default="", help="names that begin so; all if left out"),
+         **{"-l": dict(action="store_true", dest="is_long", help="with the time of each, by the clock of whoever put it")})  # fmt: skip
+    word("cat", words_module.cat, "tell contents of names, one after another", names=dict(name, nargs="+"))
+    word("cp", cp, "give a second name the content of a first one: it is got and put", source=dict(name, metavar="SOURCE"), target=dict(name, metavar="TARGET"))
+    word("mv", mv, "the same, and then remove the first one: who reads in between finds both", source=dict(name, metavar="SOURCE"), target=dict(name, metavar="TARGET"))
+    word("du", words_module.du, "tell how many bytes and names there are, of each next part of names too", prefix=dict(metavar="PREFIX", nargs="?", default="", help="names that begin so"))
+    word("df", words_module.df, "tell what the columns have room for, without a look at names")
+    word("completion", tell_completion, "tell what a shell reads to complete words: eval \"$(gridfs-client completion bash)\"", shell=dict(choices=["bash", "zsh"]))
     word("rm", rm, "take names away, one after another", names=dict(name, nargs="+"),
          **{"-f": dict(action="store_true", dest="is_forced", help="a name that is not there is all the same"),
             "-r": dict(action="store_true", dest="is_whole", help=f"of each NAME all names that begin with NAME/; of {GRID} all names"),
@@ -311,7 +320,38 @@ def put(opened: Opened | OpenedFleet, args: argparse.Namespace) -> None:
     tell(args, told_of(entry))
 
 
+def cp(opened: Opened | OpenedFleet, args: argparse.Namespace) -> None:
+    if isinstance(opened, OpenedFleet):
+        expect_no_map(args.target)
+    tell(args, told_of(words_module.copied(opened, args)))
+
+
+def mv(opened: Opened | OpenedFleet, args: argparse.Namespace) -> None:
+    if isinstance(opened, OpenedFleet):
+        expect_no_map(args.target)
+        expect_no_map(args.source)
+    tell(args, told_of(words_module.move(opened, args)))
+
+
+def get_range(opened: Opened | OpenedFleet, args: argparse.Namespace) -> None:
+    """The bytes of a range, to a target."""
+    if isinstance(opened, OpenedFleet):
+        raise BadSettings("--range is for one grid")
+    if args.json:
+        raise BadSettings("--range goes without --json")
+    here, (first, end) = opened, args.bytes
+
+    def get_to(target: IO[bytes]) -> Entry:
+        start = place_to_cut(target)
+        return here.by_sessions(lambda names: names.get_range_to(args.name, target, first, end), nothing if start is None else partial(cut, target, start))
+
+    to_target(in_folder(args.path, args.name), get_to)
+
+
 def get(opened: Opened | OpenedFleet, args: argparse.Namespace) -> None:
+    if args.bytes:
+        get_range(opened, args)
+        return
     if args.json and args.path == "-":
         content, entry = opened.by_sessions(lambda names: names.get(args.name))
         tell(args, told_of(entry) | {"content": base64.b64encode(content).decode()})
@@ -347,6 +387,8 @@ def ls(opened: Opened | OpenedFleet, args: argparse.Namespace) -> None:
         ls_over_grids(opened, args)
     elif args.json:
         out(json_of([told_of(entry) for entry in opened.by_sessions(lambda names: names.names(args.prefix))]).encode() + b"\n")
+    elif args.is_long:
+        out_lines(map(words_module.long_line_of, opened.by_sessions(lambda names: names.names(args.prefix))))
     else:
         found = opened.by_sessions(partial(skimmed, settings=opened.settings, sessions=opened.sessions, prefix=args.prefix))
         out_lines(line_of_sortable(each) for each in sorted(found))
@@ -355,7 +397,7 @@ def ls(opened: Opened | OpenedFleet, args: argparse.Namespace) -> None:
 def ls_over_grids(opened: OpenedFleet, args: argparse.Namespace) -> None:
     found = opened.names().names_told(args.prefix)
     entries, silent = [entry for entry in found.entries if entry.name != MAP_NAME], found.silent
-    tell(args, [told_of(entry) for entry in entries], *map(line_of, entries))
+    tell(args, [told_of(entry) for entry in entries], *map(words_module.long_line_of if args.is_long else line_of, entries))
     for grid, fault in silent.items():
         complain(f"names at {grid} are not told: {str(fault).removeprefix(f'{grid}: ')}")
     if silent:
@@ -583,13 +625,27 @@ def status_of_grid(grids: OpenGrids, grid: str) -> tuple[dict[str, Any], list[st
     return nodes_value(nodes) | usage_value(usage, left_out), [*nodes_lines(nodes), *usage_lines(usage, left_out)], why
 
 
+def tell_completion(_: object, args: argparse.Namespace) -> None:
+    main = parser()
+    (words,) = [action for action in main._actions if isinstance(action, argparse._SubParsersAction)]
+    out(words_module.completion(main, words.choices.items(), args.shell).encode())
+
+
 # The command
 
 
-def run(words: list[str]) -> None:
+def read_words(words: list[str]) -> argparse.Namespace:
     args = parser().parse_args([*words[1:2], "--help"] if words[:1] == ["help"] else words)
     args.json, args.quiet = "json" in args, "quiet" in args
-    if args.call in (put, get, mirror, renew):
+    return args
+
+
+def run(words: list[str]) -> None:
+    args = read_words(words)
+    if args.call is tell_completion:
+        tell_completion(None, args)
+        return
+    if args.call in (put, get, mirror, renew, cp, mv, words_module.cat):
         keep_for_chunks()
     settings = Settings.gather({key.replace("_", "-"): value for key, value in vars(args).items() if isinstance(value, str)}, os.environ)
     if "map" in settings.values:
@@ -620,7 +676,7 @@ def stop_at_signals(carriers: Carrier | OpenGrids) -> None:
 
 def run_over_grids(args: argparse.Namespace, settings: Settings) -> None:
     """A command about the names of several grids."""
-    if args.call not in (put, get, ls, rm, stat, mirror, status, sweep, renew, grow):
+    if args.call not in (put, get, ls, rm, stat, mirror, status, sweep, renew, grow, cp, mv, words_module.cat, words_module.du):
         raise BadSettings(f"{args.word} is about one grid: leave `map` out, and name the settings of that grid")
     name = vars(args).get("name") or vars(args).get("names", [""])[0]
     is_shown = sys.stderr is not None and sys.stderr.isatty() and not args.quiet

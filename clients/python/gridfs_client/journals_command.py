@@ -40,7 +40,7 @@ A journal may be that of a node that runs, or a copy: it is read as far as its b
 are read from the folder beside it, 0/journal.shelf. The journals of a whole row of nodes have all that was
 acknowledged before the first one was copied. Of fewer some of the last changes may be missing. `get` tells each name
 of which there is no whole copy, gets all others, and ends with status 10. Else the status is 0, 1 where a tenant has no
-name, 2 for wrong words, 5 where a journal is damaged or copies don't go together, 6 for other faults of files, and
+name, 2 for wrong words, 5 where a journal is damaged or copies don't go together, 9 for other faults of files, and
 that of the first name which was skipped."""
 COPY = (
     "Copies a node, which may run, into a folder: its journal, and of the folder beside it all that the journal names. "
