@@ -540,7 +540,7 @@ class Copies(Cases):
         os.unlink(os.path.join(self.folder, "copies", "1", "journal"))
         self.assertIn("segments are there without a journal", self.copy(1, 9))
         shutil.rmtree(os.path.join(self.folder, "2.shelf"))
-        self.assertIn("segments are missing beside", self.copy(2, 10))
+        self.assertIn("segments are missing beside", self.copy(2, journals_command.LACKING))
 
 
 class Sums(unittest.TestCase):
