@@ -224,7 +224,7 @@ class Reading(Cases):
         lost = sorted(self.held.keys() - whole)
         self.assertTrue({"at 1", "parts", "listed"} <= set(lost) and "at 0" in whole)
         status, found, told = self.get(0, 2)
-        self.assertEqual((status, found), (9, {name: self.held[name] for name in whole}))
+        self.assertEqual((status, found), (10, {name: self.held[name] for name in whole}))
         for name in lost:
             self.assertIn(f"/out/{name}: {name}: no copy of chunk ", told)
         self.assertIn("no journal here is of that column", told)
@@ -236,7 +236,7 @@ class Reading(Cases):
         for disk in self.disks():
             shutil.rmtree(disk.path + ".shelf")
         status, found, told = self.get(0, 1)
-        self.assertEqual(status, 9)
+        self.assertEqual(status, 10)
         self.assertEqual({"a/page", "in the journal", "slots"} - found.keys(), set())
         self.assertRegex(told, "/out/several: several: no copy of chunk .*: without segment 1 at node [01]\n")
 
@@ -251,7 +251,7 @@ class Reading(Cases):
             self.assertEqual(self.get(*order), (0, self.held, ""))
         second.turn_bytes(tuple(key))
         status, found, told = self.get(0, 1, 2, 3)
-        self.assertEqual((status, found), (9, {"other": LONG}))
+        self.assertEqual((status, found), (10, {"other": LONG}))
         both = f"damaged at node {column}; damaged at node {2 + column}"
         self.assertIn(f": name: no copy of chunk {key[1]} of session 1 at column {column}: {both}\n", told)
 
@@ -536,11 +536,11 @@ class Copies(Cases):
         self.disks()
         self.copy(0)
         os.rename(os.path.join(self.folder, "copies", "0"), os.path.join(self.folder, "copies", "1"))
-        self.assertIn("it has a copy of node 0, and this is node 1", self.copy(1, 6))
+        self.assertIn("it has a copy of node 0, and this is node 1", self.copy(1, 9))
         os.unlink(os.path.join(self.folder, "copies", "1", "journal"))
-        self.assertIn("segments are there without a journal", self.copy(1, 6))
+        self.assertIn("segments are there without a journal", self.copy(1, 9))
         shutil.rmtree(os.path.join(self.folder, "2.shelf"))
-        self.assertIn("segments are missing beside", self.copy(2, 9))
+        self.assertIn("segments are missing beside", self.copy(2, journals_command.LACKING))
 
 
 class Sums(unittest.TestCase):

@@ -1,13 +1,16 @@
 """What deploy/links/operate does, on a machine of folders of its own, as bare.py has it: four nodes there are set up, restarted one after another with a
 later plan, and looked at; systemctl is a script that starts their units' words."""
 
+import glob
 import json
 import os
+import re
 import shlex
 import shutil
 import stat
 import subprocess
 import sys
+import time
 
 from bare import Machine, wrong_in_namespace
 from carrying import DEPLOY, HERE, check
@@ -17,7 +20,8 @@ from gridfs_grid.places import CLIENT
 TOP = os.path.join(HERE, "..", "..")
 JOURNALS = os.path.join(os.path.dirname(CLIENT), "gridfs-journals")
 NODES = ("0", "1", "2", "3")
-PLAN = "grid 2 2\nblocks 4096\ntenant ann 2000 4 1000\ngo\n" + "ann open 16 16\n" * 4 + "ann open 64 4\n"
+OPENED = "ann open 16 16\n" * 4 + "ann open 64 4\nann chunks 20000\n"
+PLAN = f"grid 2 2\nblocks 4096\ntenant ann 2000 4 1000\ngo\n{OPENED}"
 LATER = PLAN.replace("go\n", "tenant bob 1000 4 1000\ngo\n") + "bob open 8 16\n" * 2 + "bob open 16 4\n"
 WRONG = PLAN.replace("ann 2000 4", "ann 2000 5")
 # It starts, ends and reloads what is in /run/words, and notes what it was asked.
@@ -26,7 +30,20 @@ echo "$@" >>/run/asked
 node=${2#gridfs-linked@}
 is_there() { [ -f /run/pid.$node ] && kill -0 "$(cat /run/pid.$node)" 2>/dev/null; }
 case $1 in
-daemon-reload | enable) exit ;;
+daemon-reload) exit ;;
+enable) [ "$2" != --now ] && exit; node=${3#gridfs-linked@} ;;
+disable)
+    node=${3#gridfs-linked@}
+    kill "$(cat /run/pid.$node)"
+    while is_there; do sleep 0.05; done
+    exit
+    ;;
+stop)
+    kill "$(cat /run/pid.$node)"
+    while is_there; do sleep 0.05; done
+    exit
+    ;;
+start) is_there && exit ;;
 reload | reload-or-restart) is_there && exec kill -HUP "$(cat /run/pid.$node)" ;;
 esac
 if is_there; then
@@ -36,9 +53,13 @@ fi
 setsid sh /run/words.$node </dev/null >>/run/log.$node 2>&1 &
 echo $! >/run/pid.$node
 """
+# The machine 127.0.0.2 has folders of its own.
 RUN = """#!/bin/sh
-exec sh -c "$(printf %s "$1" | sed 's|tar -C / |tar -C /run/root |')"
+bound="mount --bind /run/other/lib /var/lib/gridfs && mount --bind /run/other/etc /etc/gridfs"
+[ "$1" != 127.0.0.2 ] || exec unshare -m sh -c "$bound && $2"
+exec sh -c "$(printf %s "$2" | sed 's|tar -C / |tar -C /run/root |')"
 """
+MOVED = "2"
 
 
 def asked(*words):
@@ -94,7 +115,9 @@ def bundles_are_whole():
     for text, told in ("[operate]\n[later]\n", "[later] is not known"), ("[operate]\nran = x\n", "there is no ran"), ("[operate]\nx\n", "line 2: 'x' is no"):
         write("desk/operate.ini", text)
         refuses(1, f"desk/operate.ini: {told}", "bundles", "desk", "plan")
-    write("desk/operate.ini", f"[operate]\nrun = {os.path.abspath('run')} {{command}}\nthere = /run/bundle\ncustomer = {os.path.abspath('desk/tenants')}\n")
+    run, customer = os.path.abspath("run"), os.path.abspath("desk/tenants")
+    settings = f"run = {run} {{host}} {{command}}\nthere = /run/bundle\ncustomer = {customer}\n"
+    write("desk/operate.ini", f"[operate]\n{settings}")
     does("bundles", "--days", "30", "desk", "plan")
     refuses(2, "unrecognized arguments: --dayz", "bundles", "desk", "plan", "--dayz")
     for node in NODES:
@@ -189,22 +212,101 @@ def authorities_change():
 def journals_tell():
     told, wanted = json.loads(does("room", "--json", "desk")), json.loads(client("ann", "status", "--json"))
     found = told["tenants"]["ann"]
-    check(told["has_whole_row"] and {key: found[key] for key in ("names", "in_slots", "bytes")} == {key: wanted[key] for key in ("names", "in_slots", "bytes")}, f"{found}, not {wanted}")
+    alike = [(each["names"], each["in_slots"], each["bytes"]["used"]) for each in (found, wanted)]
+    check(told["has_whole_row"] and alike[0] == alike[1], f"{found}, not {wanted}")
     does("room", "--metrics", "metrics", "desk")
     with open("metrics", encoding="ascii") as file:
         check('gridfs_tenant_names{node="0,1",tenant="bob"} 1\n' in file.read(), "the metrics")
-    does("copy", "desk", "kept")
+    nodes_are_copied()
+
+
+def nodes_are_copied():
+    """While they run, with what lies beside their journals; what `operate copy` tells to type gets all of it."""
+    contents = {"name": b"hello" * 10, "long": os.urandom(3_000_000), "journal": os.urandom(9_000)}
+    for name in ("long", "journal"):
+        client("ann", "put", "-", name, given=contents[name])
+    told = does("copy", "desk", "kept")
+    check(all(f"node {node}: " in told for node in NODES), told)
+    again = does("copy", "desk", "kept")
+    came = sum(int(count) for count in re.findall(r": ([0-9]+) bytes came", again))
+    check(came < 1_000_000, f"all came again: {again}")
+    typed = re.search("gridfs-journals (get .*) reads names", again)[1]
+    words = shlex.split(typed.replace("TENANT", "ann").replace("FOLDER", "out"))
+    has_all(contents, [*words[:3], *sorted(glob.glob(words[3]))])
     for row in (("0", "1"), ("2", "3")):
-        paths = [f"kept/journal.{node}" for node in row]
-        if row == ("2", "3"):
-            os.rename("/var/lib/gridfs/0/journal", "/var/lib/gridfs/0/away")
-            status, told, why = asked("copy", "desk", "kept")
-            os.rename("/var/lib/gridfs/0/away", "/var/lib/gridfs/0/journal")
-            check(status == 0 and "row 0 is left out" in why, why)
-        done = subprocess.run([JOURNALS, "get", "ann", f"out{row[0]}", *paths], capture_output=True, text=True)
-        check(done.returncode == 0, done.stderr)
-        with open(f"out{row[0]}/name", "rb") as file:
-            check(file.read() == b"hello" * 10, "another content was kept")
+        has_all(contents, ["get", "ann", "out", *(f"kept/{node}/journal" for node in row)])
+    os.rename("/var/lib/gridfs/0/journal", "/var/lib/gridfs/0/away")
+    status, told, why = asked("copy", "desk", "kept")
+    check(status == 0 and "node 0 is left out" in why, why)
+    os.rename("/var/lib/gridfs/3/journal", "/var/lib/gridfs/3/away")
+    refuses(1, "no row of nodes is copied whole", "copy", "desk", "kept")
+    for node in (0, 3):
+        os.rename(f"/var/lib/gridfs/{node}/away", f"/var/lib/gridfs/{node}/journal")
+
+
+def has_all(contents, words):
+    shutil.rmtree("out", ignore_errors=True)
+    done = subprocess.run([JOURNALS, *words], capture_output=True, text=True)
+    check(done.returncode == 0, f"{words}: {done.stdout} {done.stderr}")
+    for name, content in contents.items():
+        with open(f"out/{name}", "rb") as file:
+            check(file.read() == content, f"{name}: another content was copied")
+
+
+def a_state_is_kept():
+    """All nodes are given up together, and a grid starts from copies of a moment in which none ran."""
+    kept = os.urandom(300_000)
+    client("ann", "put", "-", "kept", given=kept)
+    told = does("copy", "--stop", "desk", "state")
+    check("the grid was away for" in told, told)
+    client("ann", "put", "-", "later", given=b"later")
+    for node in NODES:
+        subprocess.run(["systemctl", "stop", f"gridfs-linked@{node}"], check=True)
+    for node in NODES:
+        place = f"/var/lib/gridfs/{node}"
+        shutil.rmtree(place)
+        shutil.copytree(f"state/{node}", place)
+        subprocess.run(["chown", "-R", "gridfs:gridfs", place], check=True)
+    for node in NODES:
+        subprocess.run(["systemctl", "start", f"gridfs-linked@{node}"], check=True)
+    does("bring", "desk", "0", "--without", "1", "--without", "2", "--without", "3")
+    names = client("ann", "ls")
+    check(client("ann", "get", "kept") == kept and b"later" not in names, f"another state: {names}")
+
+
+def a_node_moves():
+    """It goes on elsewhere with what was put before and meanwhile; the old machine can't be it any more."""
+    os.makedirs("/run/other/lib")
+    os.makedirs("/run/other/etc")
+    for path in ("/run/other/lib", "/run/other/etc"):
+        os.chmod(path, 0o755)
+    contents = {f"before {number}": os.urandom(300_000) for number in range(3)}
+    for name, content in contents.items():
+        client("ann", "put", "-", name, given=content)
+    refuses(1, "the plan has no node 9", "move", "desk", "9", "127.0.0.2")
+    old = f"/var/lib/gridfs/{MOVED}"
+    told = does("move", "desk", MOVED, "127.0.0.2")
+    first, last = (int(count) for count in re.findall("([0-9]+) bytes came", told))
+    check(last < first, f"all came again: {told}")
+    is_away = not os.path.exists(old) and os.path.exists(f"{old}.moved/journal")
+    check(is_away, "the original stays where it can be started")
+    with open("desk/hosts", encoding="ascii") as file:
+        check(f"\n{MOVED} 127.0.0.2:" in file.read(), "hosts")
+    with open("/etc/gridfs/denied", encoding="ascii") as here, open("desk/denied", encoding="ascii") as made:
+        check(here.read() == made.read() != "", "the old certificate is not denied")
+    contents["behind"] = os.urandom(300_000)
+    client("ann", "put", "-", "behind", given=contents["behind"])
+    check(all(client("ann", "get", name) == content for name, content in contents.items()), "another content")
+    check(os.path.exists(f"/run/other/lib/{MOVED}/journal.lock"), "it was not started at the new machine")
+    until = time.monotonic() + 100
+    while (told := json.loads(client("ann", "status", "--json")))["columns_up"] != [0, 1]:
+        check(time.monotonic() < until, f"it does not go on at the new machine: {told}")
+
+
+STEPS = [
+    bundles_are_whole, nodes_begin, plans_go_on, a_node_that_does_not_come, authorities_change, journals_tell,
+    a_state_is_kept, a_node_moves,
+]  # fmt: skip
 
 
 def is_operated(folder, program, carry):
@@ -223,7 +325,7 @@ def is_operated(folder, program, carry):
     for node in NODES:
         words_for(node)
     try:
-        for step in (bundles_are_whole, nodes_begin, plans_go_on, a_node_that_does_not_come, authorities_change, journals_tell):
+        for step in STEPS:
             step()
     finally:
         for node in NODES:

@@ -30,7 +30,7 @@ SIZES = {
 PARTS, PART_BYTES, IN_A_LIST = 300, 20_000, 256  # of an upload
 DEAD = 20 << 20  # bytes that are forgotten, so that what is beside them has to be moved
 OFTEN = "--tick", "0.1"  # so that segments go soon
-LACKING = 9  # status
+LACKING = 10  # status
 BESIDE = "beside"  # what is put meanwhile
 
 

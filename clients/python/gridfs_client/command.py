@@ -634,9 +634,14 @@ def tell_completion(_: object, args: argparse.Namespace) -> None:
 # The command
 
 
-def run(words: list[str]) -> None:
+def read_words(words: list[str]) -> argparse.Namespace:
     args = parser().parse_args([*words[1:2], "--help"] if words[:1] == ["help"] else words)
     args.json, args.quiet = "json" in args, "quiet" in args
+    return args
+
+
+def run(words: list[str]) -> None:
+    args = read_words(words)
     if args.call is tell_completion:
         tell_completion(None, args)
         return

@@ -21,7 +21,7 @@ from .status import usage_value
 from .usage import Usage, usage_of
 
 PROGRAM = "gridfs-journals"
-LACKING = 9  # the status where some names have no whole copy
+LACKING = 10  # the status where some names have no whole copy
 NOT_TOGETHER = (
     "Where nodes run, or were copied one after another, copy what has changed once more. "
     "--as-they-are takes pages as they are: names that were removed may come back"
@@ -39,8 +39,8 @@ examples, on a node's machine and for copies of the journals of nodes 0 and 1, w
 A journal may be that of a node that runs, or a copy: it is read as far as its batches are whole. Contents in chunks
 are read from the folder beside it, 0/journal.shelf. The journals of a whole row of nodes have all that was
 acknowledged before the first one was copied. Of fewer some of the last changes may be missing. `get` tells each name
-of which there is no whole copy, gets all others, and ends with status 9. Else the status is 0, 1 where a tenant has no
-name, 2 for wrong words, 5 where a journal is damaged or copies don't go together, 6 for other faults of files, and
+of which there is no whole copy, gets all others, and ends with status 10. Else the status is 0, 1 where a tenant has no
+name, 2 for wrong words, 5 where a journal is damaged or copies don't go together, 9 for other faults of files, and
 that of the first name which was skipped."""
 COPY = (
     "Copies a node, which may run, into a folder: its journal, and of the folder beside it all that the journal names. "

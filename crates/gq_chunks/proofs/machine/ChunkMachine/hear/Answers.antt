@@ -11,5 +11,5 @@ returns-in-Gives-clause-took g c =
     let m = c.args.self.now in
     let n = c.hear_content.new.self in
     subst (λ (line : PeerLine). OnOk c.hear_content.result (Takes (λ (old : Chunks) (came : List ℕ) (facts : List (List ℕ)) (told : List ℕ) (new : Chunks). SaidBy (saying_of line) old c.args.tenant c.args.from facts told new)
-        (chunks m.plan m.node m.lost m.depots.losses m.depots.depots.items (g.S.Shelf.noted m.depots.shelf)) [] c.args.facts.now.items c.hear_content.new.facts.items c.args.told.now.items c.hear_content.new.told.items
-        (chunks n.plan n.node n.lost n.depots.losses n.depots.depots.items (g.S.Shelf.noted n.depots.shelf)))) (sym c.in-Gives.is) c.hear_content.ensures.took
+    (chunks m.plan m.node m.lost m.depots.losses m.depots.depots.items (g.S.Shelf.noted m.depots.shelf)) [] c.args.facts.now.items c.hear_content.new.facts.items c.args.told.now.items c.hear_content.new.told.items
+    (chunks n.plan n.node n.lost n.depots.losses n.depots.depots.items (g.S.Shelf.noted n.depots.shelf)))) (sym c.in-Gives.is) c.hear_content.ensures.took
