@@ -710,7 +710,7 @@ class Commands(unittest.TestCase):
         self.refuse(6, "a: none: No such file or directory", "move", "0-5", "b")
         self.refuse(6, "a: none: No such file or directory", "spread")
         status, told, out = self.told(fleet_command.main, ["--map", "map", "status"])
-        self.assertEqual((status, told, out.splitlines()[0]), (6, [], "a: none: No such file or directory; 65536 slices"))
+        self.assertEqual((status, told, out.splitlines()[0]), (6, [], "a: none: No such file or directory: no grid runs there (./grid starts one); 65536 slices"))
 
     def test_wrong_maps_of_clients(self):
         client = command.main
@@ -722,7 +722,7 @@ class Commands(unittest.TestCase):
         self.told(fleet_command.main, ["--map", "map", "begin", "a", "a.ini"])
         self.refuse(6, "a: none: No such file or directory", "get", "x", call=client)
         status, told, out = self.told(client, ["--map", "map", "ls"])
-        wanted = ["gridfs-client: names at a are not told: none: No such file or directory", "gridfs-client: not all names are told: a is silent"]
+        wanted = ["gridfs-client: names at a are not told: none: No such file or directory: no grid runs there (./grid starts one)", "gridfs-client: not all names are told: a is silent"]
         self.assertEqual((status, told, out), (6, wanted, ""))
 
 

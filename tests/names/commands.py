@@ -163,7 +163,7 @@ class Commands:
         os.symlink("/etc/passwd", "tree/link")
         status, told, why = self.run("mirror", "--quiet", "tree", "grid:back")
         skipped = "gridfs-client: skipped tree/link: a symbolic link is not followed\ngridfs-client: 1 skipped\n"
-        self.held("a link", (status, told, why), (6, b"", skipped))
+        self.held("a link", (status, told, why), (9, b"", skipped))
         self.refused("a prefix of no name", ["mirror", "grid:bakc", "backup"], 1, "grid:bakc/: no name begins so")
         self.refused("a folder that is not there", ["mirror", "nowhere", "grid:"], 9, "nowhere: No such file")
         for words in (["a", "b"], ["grid:a", "grid:b"], ["", "grid:a"]):
@@ -250,7 +250,7 @@ class Commands:
         self.told("rm of it", ["rm", "here"], b"")
         self.held("help of a word", (self.run("help", "put")[:2], self.run("help")[:2]), (self.run("put", "--help")[:2], self.run("--help")[:2]))
         self.refused("no settings", ["ls"], 2, "no settings: name a file of them by --config", **dict.fromkeys(("GRIDFS_CONFIG", *(f"GRIDFS_{word.upper()}" for word in self.settings)), ""), HOME=os.getcwd())
-        self.refused("a grid that does not run", ["ls"], 6, "no grid runs in folder (./grid starts one): folder/socket: No such file", GRIDFS_SOCKET="folder/socket")
+        self.refused("a grid that does not run", ["ls"], 6, "folder/socket: No such file or directory: no grid runs there (./grid starts one)", GRIDFS_SOCKET="folder/socket")
         self.held("--help", (self.run("--help")[0], b"may a change still take effect?" in self.run("--help")[1]), (0, True))
         self.refused("a file of settings that is not there", ["ls"], 2, "grid/nobody.ini: no such file", tenant="nobody")
         self.refused("a tenant that has no form", ["ls"], 2, "tenant: 'Ann'", GRIDFS_TENANT="Ann")
@@ -286,7 +286,7 @@ class Commands:
             ("ls", ">/dev/full", "gridfs-client: standard output: No space left on device\n"),
         ):
             done = subprocess.run(["sh", "-c", f"ulimit -f 0; {self.shell(words)} {closed}"], capture_output=True, text=True, env=self.environment())
-            self.held(f"{words} {closed}", (done.returncode, done.stderr), (6, told))
+            self.held(f"{words} {closed}", (done.returncode, done.stderr), (9, told))
         self.held("nothing half written is left", [each for each in os.listdir(".") if "copied" in each], [])
         for words, closed, status in (("ls", "2>&-", 0), ("get nowhere", "2>&-", 1), ("get nowhere", "2>/dev/full", 1), ("get a/", "2>/dev/full", 2)):
             done = subprocess.run(["sh", "-c", f"{self.shell(words)} {closed}"], capture_output=True, env=self.environment())
