@@ -910,7 +910,8 @@ def linked_by_name(program, folder, name, other):
 
 def a_first_line_behind_a_handshake(program, folder):
     """A line that came with the end of the handshake is taken, though no more bytes come."""
-    carry = fresh(wrapped(program, folder, "SSL_do_handshake", "held_up"), folder)
+    set_up(folder, PLAN, "--local", str(free_ports(4)))
+    carry = Carry(wrapped(program, folder, "SSL_do_handshake", "held_up"), folder).ready()
     try:
         with come(carry, "ann") as ann:
             ann.sendall(b"first\n")
