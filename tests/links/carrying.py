@@ -271,8 +271,8 @@ def who_is_gone_is_told(program, folder):
             check(taken_of(bob, b"plan\n" * 20_000, 4) < MOST_UNREAD, "what he brings is not charged")
             ann.sendall(b"plan\n")
             carry.gets(b"0 ann plan")
-            again.settimeout(1)
-            check(not is_told_more(again), "he is told so again")
+            bob.settimeout(1)
+            check(not is_told_more(bob), "he is told so again")
     finally:
         check(carry.end() == 0, carry.told())
 
