@@ -366,7 +366,8 @@ class Commands:
         """A put by session 1 of which nodes have chunks, and which waits for more."""
         put = subprocess.Popen([PYTHON, "-B", CLIENT, "put", "-", "half"], stdin=subprocess.PIPE, stderr=subprocess.PIPE, env=self.environment(GRIDFS_SESSION="1", **more))
         with contextlib.suppress(BrokenPipeError), put:
-            put.stdin.write(os.urandom(size))
+            with contextlib.suppress(BrokenPipeError):  # (it may find no room before it has read all)
+                put.stdin.write(os.urandom(size))
             until = time.monotonic() + SECONDS
             while not any(self.used()) and time.monotonic() < until:
                 time.sleep(0.05)
