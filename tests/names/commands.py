@@ -375,6 +375,7 @@ class Commands:
 
     def room_that_is_given_back(self):
         """Whatever a command ends with, and also where it is killed, nothing stays taken but what names need."""
+        self.held("a sweep of what was removed by another session than put it", (self.run("sweep")[0], self.used()), (0, [0, 0]))
         content = os.urandom(1 << 20)
         for name in ("a", "b"):
             self.told(f"put of {name}", ["put", "-", name], b"", given=content)
