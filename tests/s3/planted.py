@@ -123,7 +123,7 @@ BUGS = {
     "a completion makes all lists anew": ("test_in_chunks.py Many.test_completed_and_read", "part_lists.py", "if listed and list(chosen", "if False and list(chosen"),
     "a list is taken that names more": ("test_in_chunks.py Many.test_some_of_them_are_chosen", "part_lists.py", "list(chosen[at : at + len(listed[1])]) == listed[1]", "True"),
     "a range reads all": ("test_in_chunks.py Through.test_ranges", "reading.py", "            with closing(contents.read_cuts(cuts, stretch.so_far)) as found:\n                yield from found\n", "            with closing(contents.read_cuts(contents.cuts(parts, 0, held.content.size), stretch.so_far)) as found:\n                yield b\"\".join(found)[first:end]\n"),
-    "a long get fills the disk": ("test_in_chunks.py Through.test_a_long_get_fills_no_disk", "reading.py", "        if most <= 0:\n            return\n", ""),
+    "a long get fills the disk": ("test_in_chunks.py Through.test_a_long_get_fills_no_disk", "reading.py", "        most -= end - cut.first\n", ""),
     "a long get ends amid a chunk": ("test_in_chunks.py Many.test_read_some_chunks_at_a_time", "reading.py", "min(cut.end, -(-(cut.first + most) // chunk) * chunk)", "min(cut.end, cut.first + most)"),
     "a long get is not judged at its end": ("test_in_chunks.py Many.test_read_some_chunks_at_a_time", "reading.py", "contents.read_cuts(cuts, stretch.so_far)", "contents.read_cuts(cuts)"),
     "who holds much leaves nothing to others": ("test_forms.py Room.test_disk", "bounds.py", "    return LEFT if held <= OWN else", "    return LEFT if True else"),

@@ -524,7 +524,7 @@ class Room(Case):
         gateway, under_way = types.SimpleNamespace(in_memory=0, tenant="carol"), list[int]()
 
         async def answer(end, is_in_file):
-            get = Get(gateway, types.SimpleNamespace(), types.SimpleNamespace(name="bucket/key", is_latest=True))
+            get = Get(gateway, types.SimpleNamespace(query={}), types.SimpleNamespace(name="bucket/key", is_latest=True))
 
             async def look(*_):
                 under_way.append(get.most_in_memory)

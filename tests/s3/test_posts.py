@@ -180,7 +180,7 @@ class Posts(unittest.TestCase):
 
     def test_what_is_not_here(self):
         self.fails("AccessControlListNotSupported", self.form("b", {"acl": "public-read"}))
-        self.fails("NotImplemented", self.form("b", {"x-amz-storage-class": "GLACIER"}))
+        self.fails("InvalidStorageClass", self.form("b", {"x-amz-storage-class": "GLACIER"}))
         self.fails("InvalidEncryptionAlgorithmError", self.form("b", {"x-amz-server-side-encryption": "AES256"}))
         self.fails("NotImplemented", self.form("b"), path="/some?uploads")
         self.fails("NotImplemented", self.form("b"), headers={"If-None-Match": "*"})
