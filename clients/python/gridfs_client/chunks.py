@@ -544,21 +544,20 @@ class Chunks:
 
     def get(self, wanted: Iterable[Wanted]) -> Generator[bytes | None, None, None]:
         """The bytes that are wanted of these chunks, in their order; None for one that was forgotten. Damaged where no node has one sound; Unanswered."""
-        left, ended = iter(wanted), False
+        left = iter(wanted)
         under_way: deque[Getting] = deque()
         known: dict[tuple[int, int], Getting] = {}
         box, ahead, window = self.carrier.attach_chunks(known), 0, Window(self.pace)
         try:
+            coming = next(left, None)
             while True:
-                while not ended and len(under_way) < window.count and self.ahead.has_room(len(under_way)):
-                    each = next(left, None)
-                    if each is None:
-                        ended = True
-                        break
-                    under_way.append(Getting(self, each, window))
-                    known[each.place[1:]] = under_way[-1]
-                    ahead += each.length
-                    self.ahead.add(each.length)
+                # (A chunk that is wanted twice is asked for anew once the first was told: an answer names the chunk alone.)
+                while coming and coming.place[1:] not in known and len(under_way) < window.count and self.ahead.has_room(len(under_way)):
+                    under_way.append(Getting(self, coming, window))
+                    known[coming.place[1:]] = under_way[-1]
+                    ahead += coming.length
+                    self.ahead.add(coming.length)
+                    coming = next(left, None)
                 if not under_way:
                     return
                 if under_way[0].is_told():
