@@ -15,18 +15,19 @@ import sys
 sys.dont_write_bytecode = True
 TOP = os.path.dirname(os.path.dirname(os.path.abspath(__file__)))
 sys.path[:0] = [f"{TOP}/tools"]
-from record import commit, digest_of_file, digests, kept_record, kit
+from record import PROGRAMS, commit, digest_of_file, digests, kept_record, kit
 
 
 def _program(command: list[str]) -> str:
     """What is known of the program that the command names."""
     named = [word for word in command[1:] if os.path.isfile(word) and os.access(word, os.X_OK)]
-    record = kept_record()
     if not named:
         return "the one that the bench takes by itself"
-    if record and digest_of_file(named[-1]) == record["program"]:
-        of_now = digests(record["kit"])["gridfs"] == record["sources"]
-        return f"proved on {record['date']}" + ("" if of_now else f", of commit {record['commit']}")
+    for program in PROGRAMS:
+        record = kept_record(program)
+        if record and digest_of_file(named[-1]) == record["program"]:
+            of_now = digests(record["kit"], program)[program] == record["sources"]
+            return f"proved on {record['date']}" + ("" if of_now else f", of commit {record['commit']}")
     return "nothing is proved of it"
 
 

@@ -184,7 +184,7 @@ def starts(program, mib, turns, sha):
                 break
 
 
-def report(program, turns, mib):
+def report(program, node, turns, mib):
     with room() as folder, tempfile.TemporaryDirectory() as built:
         coder = os.path.join(built, "coder")
         subprocess.run([os.environ.get("CC", "cc"), "-O2", "-x", "c", "-o", coder, "-"], input=CODER.encode(), check=True)
@@ -198,7 +198,7 @@ def report(program, turns, mib):
             for size, (one, writes, reads) in paths.items():
                 for name, path in ("one", one), ("writes", writes), ("reads", reads):
                     taken[name, size].append(spent([program, "run"], path))
-                for kind, found in zip(("write", "read"), at_nodes(program, size, AT_NODES[size])):
+                for kind, found in zip(("write", "read"), at_nodes(node, size, AT_NODES[size])):
                     taken[kind, size].append(found)
             taken["sha"].append(spent(["sha256sum"], plain))
             taken["coded"].append(spent([coder], plain))
@@ -215,4 +215,4 @@ def report(program, turns, mib):
                 f"four nodes {size / clock / MIB:.2f} MiB a second by the clock, {clock * 1000:.1f} ms, and of the processors {used * 1000:.1f} ms, {size / used / sha:.3f} of sha256sum",
                 flush=True,
             )
-    starts(program, mib, turns, sha)
+    starts(node, mib, turns, sha)

@@ -1,7 +1,7 @@
-"""What was proved: digests of the sources, and the record that a build leaves beside the program.
+"""What was proved: digests of the sources, and the record that a build leaves beside a program: that of a node, or the reference.
 
 A crate's digest is of the kit, of the file HANDLES, of the crate's line in crates.txt, of its files in src/, specs/ and proofs/, and of the digests
-of the crates below it. So two trees with one digest of the program are proved alike. The record is crates/gridfs/out/gridfs.proved: lines of a word
+of the crates below it. So two trees with one digest of a program are proved alike. The record is crates/PROGRAM/out/PROGRAM.proved: lines of a word
 and a value, which `./gridfs --version` compares with the tree and the program.
 """
 
@@ -12,9 +12,20 @@ import subprocess
 
 from progress import TOP, crates_below
 
-PROGRAM = "gridfs"
-RECORD = f"{TOP}/crates/{PROGRAM}/out/{PROGRAM}.proved"
+NODE = "gridfs_node"
+REFERENCE = "gridfs"
+PROGRAMS = (NODE, REFERENCE)
 PARTS = ("src", "specs", "proofs")
+
+
+def built(program: str) -> str:
+    """Where a build leaves the program."""
+    return f"{TOP}/crates/{program}/out/{program}"
+
+
+def record_of(program: str) -> str:
+    """Where the record of its proof is."""
+    return f"{built(program)}.proved"
 
 
 def digest_of_file(path: str) -> str:
@@ -50,7 +61,7 @@ def own_digest(crate: str, line: str, by: str) -> str:
     return digest.hexdigest()
 
 
-def digests(by: str, program: str = PROGRAM) -> dict[str, str]:
+def digests(by: str, program: str) -> dict[str, str]:
     """The digests of the crates that a program stands on and of the program, with this kit."""
     below = crates_below(program)
     with open(f"{TOP}/crates.txt") as listed:
@@ -68,31 +79,31 @@ def digests(by: str, program: str = PROGRAM) -> dict[str, str]:
     return found
 
 
-def keep_record(sources: str, by: str, of_commit: str) -> None:
+def keep_record(program: str, sources: str, by: str, of_commit: str) -> None:
     """Says beside the program that its whole build and all proofs were run on sources of this digest, by this kit."""
     values = {
         "sources": sources,
-        "program": digest_of_file(f"{TOP}/crates/{PROGRAM}/out/{PROGRAM}"),
+        "program": digest_of_file(built(program)),
         "kit": by,
         "commit": of_commit,
         "date": datetime.datetime.now(datetime.timezone.utc).strftime("%Y-%m-%d"),
     }
-    with open(f"{RECORD}.new", "w") as out:
+    with open(f"{record_of(program)}.new", "w") as out:
         out.writelines(f"{name} {value}\n" for name, value in values.items())
-    os.replace(f"{RECORD}.new", RECORD)
+    os.replace(f"{record_of(program)}.new", record_of(program))
 
 
-def kept_record() -> dict[str, str]:
+def kept_record(program: str) -> dict[str, str]:
     """The values of the record; none where there is no whole one."""
     try:
-        with open(RECORD) as lines:
+        with open(record_of(program)) as lines:
             values = dict(line.rstrip("\n").split(" ", 1) for line in lines)
     except (OSError, ValueError):
         return {}
     return values if {"sources", "program", "kit", "commit", "date"} <= values.keys() else {}
 
 
-def is_of(record: dict[str, str], sources: str) -> bool:
+def is_of(program: str, record: dict[str, str], sources: str) -> bool:
     """Whether the program that is there is the one of the record, of sources of this digest."""
-    program = f"{TOP}/crates/{PROGRAM}/out/{PROGRAM}"
-    return bool(record) and record["sources"] == sources and os.path.isfile(program) and digest_of_file(program) == record["program"]
+    path = built(program)
+    return bool(record) and record["sources"] == sources and os.path.isfile(path) and digest_of_file(path) == record["program"]

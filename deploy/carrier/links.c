@@ -31,6 +31,7 @@ enum {
     NEWCOMERS = 100,            /* connections that a listener takes in a second; twice as many at once */
     CHAIN = 16384,              /* bytes of certificates that the other end may show */
     AGAIN = 60,                 /* seconds until it is told once more that a number is held twice */
+    BEGUN = 8192,               /* sessions of which it is known how far they came; of one node 1,024 at most */
     ENDED = 60,                 /* seconds between two looks for certificates that have ended */
     SOON = 30,                  /* days before its end from which on a certificate is reported */
     READ = 16384,               /* bytes of a read: a TLS record */
@@ -71,6 +72,7 @@ struct host {                   /* another node, as the file of hosts has it */
     long seconds;               /* how often somebody else held it */
     char told[120];
     bool is_there;              /* its line is in the file */
+    bool is_older;              /* it went on from a journal that is older than its last write */
     bool is_looked_up;          /* by a thread, now */
     unsigned failures;          /* attempts at its addresses; the next one after each is tried */
 };
@@ -204,6 +206,7 @@ static const char *name_of(struct link *link, char *name, size_t room) {
     if (link->host && strcmp(name, link->host->name)) return "another node is there";
     if (link->listener && link->listener->for_nodes == is_tenant(name)) return "at the wrong port";
     struct host *host = is_tenant(name) ? NULL : known_host(name);
+    if (host && host->is_older) return "its journal is older than its last write";
     if (host && !is_latest(link, host, began)) return "its number has another one with a later certificate";
     return NULL;
 }
@@ -371,6 +374,66 @@ static bool only_asks(const char *line, size_t length) {
 
 static bool put(struct link *link, const char *body, size_t length);
 
+/* A node that went on from an older journal. Operations of its sessions have numbers that rise, also over a start, which goes on above all that the journal has
+   reserved; and a link brings lines in their order. So a letter of a lesser number than was heard before shows that the journal lacks what it had. A node reserves
+   1,024 at a time: so an older journal is found where more were begun since, or where the node was started since. */
+
+static struct begun { char node[NAME + 1], tenant[NAME + 1]; uint64_t session, operation; } begun[BEGUN];
+
+static const char *number_in(const char *at, const char *end, uint64_t *number) {
+    const char *first = at;
+    for (*number = 0; at < end && *at >= '0' && *at <= '9' && at < first + 10; at++) *number = 10 * *number + (uint64_t)(*at - '0');
+    return at > first && at < end && *at == ' ' ? at + 1 : NULL;
+}
+
+/* Whether a line is a letter of a home to a server: `T S OP ROUND V F ask ..`, `store` or `confirm`. */
+static bool is_letter(const char *line, const char *end, struct begun *it) {
+    static const char *const verbs[] = {"ask", "store ", "confirm "};
+    uint64_t other[3];
+    size_t name = 0;
+    while (name < NAME && line + name < end && line[name] >= 'a' && line[name] <= 'z') name++;
+    if (!name || line + name == end || line[name] != ' ') return false;
+    const char *at = number_in(line + name + 1, end, &it->session);
+    at = at ? number_in(at, end, &it->operation) : NULL;
+    for (size_t i = 0; i < 3; i++) at = at ? number_in(at, end, &other[i]) : NULL;
+    memcpy(it->tenant, line, name), it->tenant[name] = 0;
+    for (size_t i = 0; at && i < 3; i++)
+        if (strlen(verbs[i]) <= (size_t)(end - at) && !memcmp(at, verbs[i], strlen(verbs[i]))) return true;
+    return false;
+}
+
+/* What is known of a session, or the place for it; NULL where there is none. */
+static struct begun *begun_of(const struct begun *it) {
+    uint64_t sum = 14695981039346656037u + it->session;
+    for (const char *text = it->node; *text; text++) sum = (sum ^ (unsigned char)*text) * 1099511628211u;
+    for (const char *text = it->tenant; *text; text++) sum = (sum ^ (unsigned char)*text) * 1099511628211u;
+    for (size_t i = 0; i < BEGUN; i++) {
+        struct begun *at = &begun[(sum + i) % BEGUN];
+        if (!*at->node || (at->session == it->session && !strcmp(at->node, it->node) && !strcmp(at->tenant, it->tenant))) return at;
+    }
+    return NULL;
+}
+
+/* Whether these lines of a node show an older journal. Then nothing more is taken of it, until files are read again. */
+static bool shows_older(struct link *link, const char *text, size_t length) {
+    struct host *host = known_host(link->peer->name);
+    struct begun it;
+    const char *end = text + length;
+    snprintf(it.node, sizeof it.node, "%s", link->peer->name);
+    for (const char *line = text, *stop; host && line < end; line = stop + 1) {
+        if (!(stop = memchr(line, '\n', (size_t)(end - line)))) stop = end;
+        struct begun *known = is_letter(line, stop, &it) ? begun_of(&it) : NULL;
+        if (known && *known->node && it.operation < known->operation) {
+            say("node %s goes on from an older journal: session %llu of %s is at operation %llu, and was at %llu", it.node, (unsigned long long)it.session, it.tenant,
+                (unsigned long long)it.operation, (unsigned long long)known->operation);
+            host->is_older = true, close_stream(&link->stream, "its journal is older than its last write");
+            return true;
+        }
+        if (known) *known = it;
+    }
+    return false;
+}
+
 /* Who is gone by the plan is told so once, and what he brings is charged as a tenant's lines are: so it costs others no more than these do. */
 static void turn_away(struct link *link, const char *text, size_t length) {
     charge(link->peer->queue, length + PRICE_OF_GONE * (1 + count_lines(text, length)), now());
@@ -396,7 +459,7 @@ static void lines(struct link *link, const char *text, size_t length) {
             if (session) peer->by_session[session] = link;
         }
     }
-    for_node(peer->queue, text, length);
+    if (is_tenant(peer->name) || !shows_older(link, text, length)) for_node(peer->queue, text, length);
 }
 
 /* Keeps the beginning of a line that has not come whole yet. */
@@ -425,12 +488,14 @@ static void take_text(struct link *link, const char *text, size_t length) {
     if (first) {
         if (!link->skipping && !keep(link, text, (size_t)(first - text))) return;
         if (!link->skipping) lines(link, link->part, link->held);
+        if (!link->peer) return;        /* (it was ended for what it said) */
         if (link->room > READ) free(link->part), link->part = NULL, link->room = 0;
         link->held = 0, link->skipping = false;
         length -= (size_t)(first + 1 - text), text = first + 1;
     }
     if (last && last >= text) {
         lines(link, text, (size_t)(last - text));
+        if (!link->peer) return;
         length -= (size_t)(last + 1 - text), text = last + 1;
     }
     if (length && !link->skipping) keep(link, text, length);
@@ -844,6 +909,7 @@ void engine_hangup(void) {
     memcpy(before, own_ports, sizeof before);
     if (made) SSL_CTX_free(context), context = made;
     read_denied(), check_links(true);
+    for (size_t i = 0; i < hosts_many; i++) hosts[i].is_older = false;
     if (read_hosts() && memcmp(before, own_ports, sizeof before)) say("%s: node %s has other ports there: it takes them at its next start", hosts_file, me);
     memcpy(own_ports, before, sizeof before);
 }
@@ -918,6 +984,12 @@ static void tell_seconds(void) {
         if (it->is_there) sample("peer", it->name, (double)it->seconds);
 }
 
+static void tell_older(void) {
+    metric("carrier_journal_older", "gauge", "1 where that node went on from an older journal, and is not heard.");
+    for (struct host *it = hosts; it < hosts + hosts_many; it++)
+        if (it->is_there) sample("peer", it->name, it->is_older);
+}
+
 static void tell_links(void) {
     metric("carrier_link_up", "gauge", "1 where this node is linked to that node of the file of hosts.");
     for (struct host *it = hosts; it < hosts + hosts_many; it++) {
@@ -930,6 +1002,7 @@ void engine_metrics(void) {
     struct tm end;
     tell_links();
     tell_seconds();
+    tell_older();
     single("carrier_tenant_connections", "gauge", "Connections of tenants.", (double)links_of(true));
     single("carrier_refused_total", "counter", "Newcomers that were refused.", (double)refused);
     single("carrier_cut_off_total", "counter", "Connections that were ended since the other end took nothing.", (double)slow_links);

@@ -16,6 +16,7 @@
 #include <sys/stat.h>
 #include <sys/syscall.h>
 #include <sys/wait.h>
+#include <time.h>
 #include <unistd.h>
 
 enum {
@@ -381,6 +382,19 @@ static void asks_peer(const char *name, const char *body, size_t length) {
     if (has_word(body, length, 1, chunks)) lacks_until = last_line + LACKS;
 }
 
+/* An answer `plan`, with what this machine's clock says: so clients can tell whether age goes by theirs. */
+static void carry_plan(const char *name, size_t name_length, const char *body, size_t length) {
+    char word[32], *both = malloc(length + sizeof word);
+    int more = snprintf(word, sizeof word, " clock=%lld", (long long)time(NULL));
+    if (!both) {
+        memory_refused();
+        return;
+    }
+    memcpy(both, body, length), memcpy(both + length, word, (size_t)more);
+    engine_carry(name, name_length, both, length + (size_t)more);
+    free(both);
+}
+
 static void take_line(const char *text, size_t length) {
     const char *space = memchr(text, ' ', length);
     size_t name = space ? (size_t)(space - text) : 0, head = name + own + 2;
@@ -395,7 +409,8 @@ static void take_line(const char *text, size_t length) {
     else if (name == own && !memcmp(text, me, own)) for_node(mine, text + head, length - head);
     else {
         if (!is_tenant(text)) hear_form(me, text + head, length - head), asks_peer(text, text + head, length - head);
-        engine_carry(text, name, text + head, length - head);
+        bool of_plan = is_tenant(text) && length > head + 5 && !memcmp(text + head, "plan ", 5);
+        (of_plan ? carry_plan : engine_carry)(text, name, text + head, length - head);
     }
 }
 

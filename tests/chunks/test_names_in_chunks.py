@@ -9,6 +9,7 @@ import random
 import unittest
 from dataclasses import replace
 from types import SimpleNamespace
+from unittest import mock
 
 from memory_with_chunks import SHORT, Killed, World
 
@@ -198,6 +199,15 @@ class Names(unittest.TestCase):
         swept = self.world.client(1, others=(2,)).sweep()
         self.assertEqual((swept.chunks, swept.silent), (2, (3,)))
         self.servers.at[3].is_up = True
+        self.swept()
+
+    def test_a_sweep_that_a_node_refuses(self):
+        """It is told, and what the node has stays for a later one."""
+        self.world.client(1).put("name", LONG)
+        self.servers.at[3].chunks[1, 7] = b"orphan"
+        with mock.patch.object(self.servers.at[3], "forget", lambda *_: b"refused bad"):
+            swept = self.world.client(1, others=(2,)).sweep()
+        self.assertEqual((swept.silent, swept.refusing, self.servers.at[3].chunks[1, 7]), ((3,), (3,), b"orphan"))
         self.swept()
 
     def in_slots(self, room=None, **contents):

@@ -383,10 +383,16 @@ class Copies(Cases):
 
     def by_stream(self, number, had=True):
         """The bytes that went to a copy; what is told where it is refused."""
-        target, stream = self.at(f"copies/{number}"), io.BytesIO()
-        copies.write_stream(self.at(number), stream, segments_in(f"{target}/journal.shelf") if had else {})
-        stream.seek(0)
+        target = self.at(f"copies/{number}")
+        stream = self.stream_of(number, segments_in(f"{target}/journal.shelf") if had else {})
         return copies.take_stream(stream, target)
+
+    def stream_of(self, number, had):
+        stream = io.BytesIO()
+        with contextlib.closing(shelves.NodeFiles(self.at(number))) as files:
+            copies.write_stream(files, stream, had)
+        stream.seek(0)
+        return stream
 
     def test_streams(self):
         """A stream makes the same copy, a later one brings what is new, and one that ends early leaves a copy that
@@ -400,9 +406,7 @@ class Copies(Cases):
             disk.move()
             disk.keep((2, 90), b"z" * SHORT)
         self.assertLess(self.by_stream(0), 2 * first[0])
-        stream = io.BytesIO()
-        copies.write_stream(self.at(1), stream, segments_in(self.at("copies/1/journal.shelf")))
-        whole = stream.getvalue()
+        whole = self.stream_of(1, segments_in(self.at("copies/1/journal.shelf"))).getvalue()
         before = self.get(*[f"copies/{number}/journal" for number in (2, 3)])
         self.assertEqual(before, (0, self.held, ""))
         base, tried = (os.path.join(self.folder, folder, "1") for folder in ("copies", "tried"))
@@ -410,9 +414,7 @@ class Copies(Cases):
             shutil.copytree(base, tried)
             with self.assertRaisesRegex(BadFile, "the stream "):
                 copies.take_stream(io.BytesIO(whole[:length]), tried)
-            rest = io.BytesIO()
-            copies.write_stream(os.path.join(self.folder, "1"), rest, segments_in(f"{tried}/journal.shelf"))
-            copies.take_stream(io.BytesIO(rest.getvalue()), tried)
+            copies.take_stream(self.stream_of(1, segments_in(f"{tried}/journal.shelf")), tried)
             self.assertEqual(self.get("copies/0/journal", "tried/1/journal"), (0, self.held, ""))
             shutil.rmtree(tried)
 
@@ -481,6 +483,37 @@ class Copies(Cases):
                 copied = self.at(f"copies/{disk.number}/journal.shelf/{name}")
                 self.assertTrue(filecmp.cmp(f"{disk.path}.shelf/{name}", copied, shallow=False))
 
+    def test_copies_of_different_times(self):
+        """They are no state, which is why nodes are held together (holding.py): an earlier one has the page, and of the
+        chunks that it names a later one has forgotten them. The name was there before the first copy, and is there in
+        copies of each of both times.
+        """
+        self.put_to(1, "name", LONG)
+        self.disks()
+        for number in range(4):
+            self.copy(number)
+        self.assertEqual(self.from_copies(0, 1), (0, self.held, ""))
+        for number in range(4):
+            os.unlink(self.at(number))
+            shutil.rmtree(self.at(f"{number}.shelf"))
+        shutil.rmtree(self.at("copies/1"))
+        shutil.rmtree(self.at("copies/3"))
+        before = self.chunks_of("name")
+        files = self.world.client(1)
+        files.put("name", LONG[::-1])
+        files.close()
+        self.assertFalse(set(before) & set(self.chunks_of("name")))
+        self.disks()
+        for number in (1, 3):
+            self.copy(number)
+        status, found, told = self.from_copies(0, 1, 2, 3)
+        self.assertEqual((status, found), (journals_command.LACKING, {}))
+        self.assertRegex(told, "name: no copy of chunk .* at column 1: not at node 1 and 3")
+        shutil.rmtree(self.at("copies"))
+        for number in range(4):
+            self.copy(number)
+        self.assertEqual(self.from_copies(0, 1), (0, {"name": LONG[::-1]}, ""))
+
     def test_where_nothing_can_be_shared(self):
         self.put_all_forms()
         self.disks()
@@ -540,7 +573,7 @@ class Copies(Cases):
         os.unlink(os.path.join(self.folder, "copies", "1", "journal"))
         self.assertIn("segments are there without a journal", self.copy(1, 9))
         shutil.rmtree(os.path.join(self.folder, "2.shelf"))
-        self.assertIn("segments are missing beside", self.copy(2, journals_command.LACKING))
+        self.assertIn("segments are missing, 2 of node 2", self.copy(2, journals_command.LACKING))
 
 
 class Sums(unittest.TestCase):

@@ -46,8 +46,8 @@ def is_later(room):
         text = file.read()
     with open(path, "w", encoding="utf-8") as out:
         out.write(text.replace("\nVersion: ", "\nVersion: 1:"))
-    if os.path.exists(f"{room}/usr/bin/gridfs"):
-        with open(f"{room}/usr/bin/gridfs", "ab") as out:
+    if os.path.exists(f"{room}/usr/bin/gridfs-node"):
+        with open(f"{room}/usr/bin/gridfs-node", "ab") as out:
             out.write(b"later")
 
 
@@ -86,11 +86,12 @@ def says_proved(program, folder, _):
     """In a copy of the sources whose program has a record of a proof: that is told, and it is in the package. Without one nothing is made."""
     copy = f"{folder}/copy"
     shutil.copytree(TOP, copy, symlinks=True, ignore=shutil.ignore_patterns("out", ".git", ".unproved", ".build*", "__pycache__", "store", "shop"))
-    os.makedirs(f"{copy}/crates/gridfs/out")
-    shutil.copy(program, f"{copy}/crates/gridfs/out/gridfs")
+    for name in ("gridfs_node", "gridfs"):
+        os.makedirs(f"{copy}/crates/{name}/out")
+        shutil.copy(program, f"{copy}/crates/{name}/out/{name}")
     refused = subprocess.run([f"{copy}/tools/packages", f"{folder}/none"], capture_output=True, text=True)
     check(refused.returncode == 1 and "./gridfs --prove proves it" in refused.stderr and not os.path.exists(f"{folder}/none"), f"without a record: {refused}")
-    keep = "from record import *; by = 'rattle-kit-test logic 0'; keep_record(digests(by)[PROGRAM], by, 'c0ffee of a day')"
+    keep = "from record import *; by = 'rattle-kit-test logic 0'; [keep_record(it, digests(by, it)[it], by, 'c0ffee of a day') for it in PROGRAMS]"
     run(sys.executable, "-B", "-c", keep, cwd=f"{copy}/tools")
     with open(f"{copy}/.build.seconds", "w", encoding="ascii") as out:
         out.write("gq_memory 12.5\n")
@@ -106,7 +107,7 @@ def says_proved(program, folder, _):
         record = file.read()
     for line in ("kit rattle-kit-test logic 0", "commit c0ffee of a day", "crate gq_memory 12.5 seconds"):
         check(f"\n{line}\n" in record, f"the record has no line {line}: {record}")
-    digest = run("sha256sum", f"{folder}/unpacked/usr/bin/gridfs").split()[0]
+    digest = run("sha256sum", f"{folder}/unpacked/usr/bin/gridfs-node").split()[0]
     check(f"\nprogram {digest}\n" in record, "the record is of another program")
 
 

@@ -72,7 +72,7 @@ def appended(script, text):
 
 
 def broken(room):
-    with open(f"{room}/usr/bin/gridfs", "w", encoding="utf-8") as out:
+    with open(f"{room}/usr/bin/gridfs-node", "w", encoding="utf-8") as out:
         out.write("#!/bin/sh\nexit 2\n")
 
 

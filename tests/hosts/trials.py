@@ -155,7 +155,7 @@ def nothing_else(grid):
         grid.desk.does(f"gridfs-{command}", "--help")
     for host in grid.hosts:
         check(host.run("test", "-e", os.path.join(TOP, "README.md")).returncode, f"{host.name} has the repository")
-        found = host.run("sh", "-c", "command -v gridfs gridfs-client gridfs-carry-links rt cc-of-the-kit").stdout.split()
+        found = host.run("sh", "-c", "command -v gridfs-node gridfs-client gridfs-carry-links rt cc-of-the-kit").stdout.split()
         check(found and all(path.startswith("/usr/bin/gridfs") for path in found), f"{host.name} has {found}")
 
 
@@ -173,7 +173,7 @@ def bounds(grid):
         found = host.does("systemctl", "show", "--value", "-p", "MemoryMax", grid.unit(place)).strip()
         check(found == str(wanted), f"{host.name}: MemoryMax={found}, where the plan wants {wanted}")
     host.does("gridfs-machine", "--memory", "256M", str(grid.nodes[place]), FOLDER)
-    scrubs = lambda days: check(f" --scrub {days}" in host.does("ps", "-C", "gridfs", "-o", "args="), f"{host.name}: its shelf is not read in {days} days")
+    scrubs = lambda days: check(f" --scrub {days}" in host.does("ps", "-C", "gridfs-node", "-o", "args="), f"{host.name}: its shelf is not read in {days} days")
     scrubs(14)
     host.write(f"/etc/gridfs/{grid.nodes[place]}.node", "SCRUB=7\n")
     grid.restarts(place)
@@ -223,7 +223,7 @@ def metrics(grid):
 
 def over_a_broker(grid):
     """docs/MACHINES.md, A broker and four machines: the fifth host has the broker. A host's power fails, and it starts its node by itself."""
-    desk, begun = grid.desk, "gridfs node {0} --plan /etc/gridfs/plan --journal /var/lib/gridfs/{0}/journal --new </dev/null"
+    desk, begun = grid.desk, "gridfs-node node {0} --plan /etc/gridfs/plan --journal /var/lib/gridfs/{0}/journal --new </dev/null"
     desk.write(f"{FOLDER}/wishes", WISHES)
     desk.shell(f"""cd {FOLDER} && gridfs-plan wishes >plan && mkdir -p /etc/gridfs
         gridfs-mqtt-setup --bind 0.0.0.0 --connections many --test-authority --host broker.example /etc/gridfs/broker-folder plan
@@ -308,10 +308,10 @@ def changed(grid):
         before = host.main_pid(grid.unit(place))
         grid.install(host, "gridfs", packages=grid.later)
         check(host.main_pid(grid.unit(place)) == before, f"{host.name}: the node was restarted")
-        check("(deleted)" in host.does("sh", "-c", "readlink /proc/$(pidof gridfs)/exe"), f"{host.name}: the program is the one of before")
+        check("(deleted)" in host.does("sh", "-c", "readlink /proc/$(pidof gridfs-node)/exe"), f"{host.name}: the program is the one of before")
         grid.restarts(place)
         grid.waits_for_nodes()
-        check(host.does("sh", "-c", "readlink /proc/$(pidof gridfs)/exe") == "/usr/bin/gridfs\n", f"{host.name}: it runs another program")
+        check(host.does("sh", "-c", "readlink /proc/$(pidof gridfs-node)/exe") == "/usr/bin/gridfs-node\n", f"{host.name}: it runs another program")
     grid.desk.does("touch", "/run/load.stop")
     told, why = load.communicate(timeout=120)
     many, faults, last = json.loads(told or "[0, [], {}]")
@@ -324,7 +324,7 @@ def removed(grid):
     """A package that is removed and purged ends the node, and leaves its journal, which goes on once it is installed again."""
     host, journal = grid.machines[0], "/var/lib/gridfs/0/journal"
     host.does("dpkg", "--remove", "gridfs")
-    check(not grid.runs(host, "gridfs"), "the node runs on")
+    check(not grid.runs(host, "gridfs-node"), "the node runs on")
     before = host.does("sha256sum", journal)
     check("/var/lib/gridfs stays" in host.does("dpkg", "--purge", "gridfs"), "a purge does not tell what stays")
     check(host.does("sha256sum", journal) == before and host.run("test", "-e", "/etc/gridfs/secret/0.key").returncode == 0, "journal or keys are gone")

@@ -56,9 +56,9 @@ def is_bare(folder, program, carry):
     links = os.path.join(folder, "links")
     shutil.copy(os.path.join(folder, "plan"), links)
     refuses(["0", "none"], 1, "none/plan: there is none")
-    refuses(["--new", "0", links], 1, "/usr/local/bin/gridfs: there is none")
+    refuses(["--new", "0", links], 1, "/usr/local/bin/gridfs-node: there is none")
     check(not os.path.exists("/etc/gridfs"), "something was made")
-    for path, name in ((program, "gridfs"), (carry, "gridfs-carry-links")):
+    for path, name in ((program, "gridfs-node"), (carry, "gridfs-carry-links")):
         os.makedirs("/usr/local/bin", exist_ok=True)
         shutil.copy(path, f"/usr/local/bin/{name}")
         os.chmod(f"/usr/local/bin/{name}", 0o755)
@@ -93,12 +93,16 @@ def is_bare(folder, program, carry):
         machine.end()
 
 
-def wrong_in_namespace(words):
-    """What is wrong with a program in the current folder, where folders there stand in place of /etc, /var/lib, /usr/local and /run."""
-    folders = [os.path.join(HERE, *names) for names in ((), ("..",), ("..", "nodes"), ("..", "..", "clients", "python"))]
+def in_namespace(words):
+    """A program in the current folder, where folders there stand in place of /etc, /var/lib, /usr/local and /run."""
     mounts = ["cp -a /etc etc", "mkdir lib local", "mount --bind etc /etc", "mount --bind lib /var/lib", "mount --bind local /usr/local", "mount -t tmpfs none /run"]
-    inside = ["unshare", "--mount", "--pid", "--fork", "--kill-child", "sh", "-ec", "; ".join([*mounts, '"$@"; exit $?']), "sh", *words]
-    done = subprocess.run(inside, env={**os.environ, "PYTHONPATH": os.pathsep.join(folders)}, capture_output=True, text=True)
+    return ["unshare", "--mount", "--pid", "--fork", "--kill-child", "--mount-proc", "sh", "-ec", "; ".join([*mounts, '"$@"; exit $?']), "sh", *words]
+
+
+def wrong_in_namespace(words):
+    """What is wrong with a program there."""
+    folders = [os.path.join(HERE, *names) for names in ((), ("..",), ("..", "nodes"), ("..", "..", "clients", "python"))]
+    done = subprocess.run(in_namespace(words), env={**os.environ, "PYTHONPATH": os.pathsep.join(folders)}, capture_output=True, text=True)
     return [done.stderr.strip()[-600:]] if done.returncode else []
 
 

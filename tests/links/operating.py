@@ -55,11 +55,12 @@ echo $! >/run/pid.$node
 """
 # The machine 127.0.0.2 has folders of its own.
 RUN = """#!/bin/sh
+case $2 in *"$(cat /run/fails)"*) exit 9 ;; esac
 bound="mount --bind /run/other/lib /var/lib/gridfs && mount --bind /run/other/etc /etc/gridfs"
 [ "$1" != 127.0.0.2 ] || exec unshare -m sh -c "$bound && $2"
 exec sh -c "$(printf %s "$2" | sed 's|tar -C / |tar -C /run/root |')"
 """
-MOVED = "2"
+MOVED, NEVER = "2", "no such command"
 
 
 def asked(*words):
@@ -139,6 +140,8 @@ def nodes_begin():
     check(modes == [0o755] * 3, f"the modes of programs are {modes}")
     check(not os.path.exists("/run/bundle"), "the bundle stays")
     check(asked_of_systemd("enable") == list(NODES), "not all are enabled")
+    bounds = [node for node in NODES if os.path.exists(f"/etc/systemd/system/gridfs-linked@{node}.service.d/memory.conf")]
+    check(not bounds, f"units of nodes {bounds} have a bound of memory that is not the plan's")
     client("ann", "put", "-", "name", given=b"hello" * 10)
     refuses(1, "journal: there is one", "bring", "--new", "desk", "0")
 
@@ -254,11 +257,11 @@ def has_all(contents, words):
 
 
 def a_state_is_kept():
-    """All nodes are given up together, and a grid starts from copies of a moment in which none ran."""
+    """All nodes are given up together, and a grid starts from copies of one moment."""
     kept = os.urandom(300_000)
     client("ann", "put", "-", "kept", given=kept)
-    told = does("copy", "--stop", "desk", "state")
-    check("the grid was away for" in told, told)
+    told = does("copy", "desk", "state")
+    check("4 nodes were held for 0." in told, told)
     client("ann", "put", "-", "later", given=b"later")
     for node in NODES:
         subprocess.run(["systemctl", "stop", f"gridfs-linked@{node}"], check=True)
@@ -298,14 +301,46 @@ def a_node_moves():
     client("ann", "put", "-", "behind", given=contents["behind"])
     check(all(client("ann", "get", name) == content for name, content in contents.items()), "another content")
     check(os.path.exists(f"/run/other/lib/{MOVED}/journal.lock"), "it was not started at the new machine")
+    is_whole()
+
+
+def a_move_that_fails(node="3"):
+    """Ahead of the journal's arrival it goes on where it was; later it is told how the move goes on."""
+    content = os.urandom(300_000)
+    client("ann", "put", "-", "amid", given=content)
+    write("/run/fails", "/coming/journal*")
+    refuses(1, f"node {node} goes on at 127.0.0.1. Move it again", "move", "desk", node, "127.0.0.2")
+    is_whole()
+    with open("desk/hosts", encoding="ascii") as file:
+        check(f"\n{node} 127.0.0.1:" in file.read(), "hosts has a host to which it did not move")
+    write("/run/fails", "gridfs-machine")
+    arrived = ["move", "--arrived", "desk", node, "127.0.0.2"]
+    refuses(1, f"Go on by `operate {shlex.join(arrived)}`", *arrived[:1], *arrived[2:])
+    write("/run/fails", NEVER)
+    does(*arrived)
+    is_whole()
+    check(client("ann", "get", "amid") == content, "another content")
+
+
+def a_disk_arrives(node="1"):
+    """Its machine is dead, and its disk is at another one."""
+    subprocess.run(["systemctl", "stop", f"gridfs-linked@{node}"], check=True)
+    refuses(1, "ended with status", "move", "--arrived", "desk", node, "127.0.0.2")
+    subprocess.run(["cp", "-a", f"/var/lib/gridfs/{node}", "/run/other/lib"], check=True)
+    does("move", "--arrived", "desk", node, "127.0.0.2")
+    is_whole()
+    check(client("ann", "get", "amid"), "no content")
+
+
+def is_whole():
     until = time.monotonic() + 100
     while (told := json.loads(client("ann", "status", "--json")))["columns_up"] != [0, 1]:
-        check(time.monotonic() < until, f"it does not go on at the new machine: {told}")
+        check(time.monotonic() < until, f"some node does not go on: {told}")
 
 
 STEPS = [
     bundles_are_whole, nodes_begin, plans_go_on, a_node_that_does_not_come, authorities_change, journals_tell,
-    a_state_is_kept, a_node_moves,
+    a_state_is_kept, a_node_moves, a_move_that_fails, a_disk_arrives,
 ]  # fmt: skip
 
 
@@ -314,12 +349,13 @@ def is_operated(folder, program, carry):
     for path in ("/run/systemd/system", "/run/root", "/usr/local/bin", "desk", "/run/gridfs"):
         os.makedirs(path)
     os.chmod("/run/root", 0o755)
-    for path, name in ((program, "gridfs"), (carry, "gridfs-carry-links"), (os.path.join(DEPLOY, "machine"), "gridfs-machine")):
+    for path, name in ((program, "gridfs-node"), (carry, "gridfs-carry-links"), (os.path.join(DEPLOY, "machine"), "gridfs-machine")):
         shutil.copy(path, f"/usr/local/bin/{name}")
         os.chmod(f"/usr/local/bin/{name}", 0o755)
     write("/usr/local/bin/gridfs-journals", f'#!/bin/sh\nexec {JOURNALS} "$@"\n', 0o755)
     write("/usr/local/bin/systemctl", SYSTEMCTL, 0o755)
     write("run", RUN, 0o755)
+    write("/run/fails", NEVER)
     os.environ["PATH"] = f"/usr/local/bin:{os.environ['PATH']}"
     os.chmod("/run/gridfs", 0o777)
     for node in NODES:

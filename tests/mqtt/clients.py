@@ -79,7 +79,7 @@ class Clients:
         for name, words, status, told in (
             ("a number that is not the plan's", [*carry, "9", "--", *node], 1, "gridfs: node 9: of 4"),
             ("a journal that is not there", [*carry, "9", "--", *node[:2], "3", *node[3:6], "none"], 1, "gridfs: none: no journal"),
-            ("words that are no request", [*carry, "9", "--", *node[:2]], 2, "Usage: gridfs node"),
+            ("words that are no request", [*carry, "9", "--", *node[:2]], 2, f"Usage: {os.path.basename(self.grid.program)} node"),
         ):
             done = subprocess.run(words, stdin=subprocess.DEVNULL, stdout=subprocess.PIPE, stderr=subprocess.PIPE, text=True, timeout=30)
             self.held(name, (done.returncode, told in done.stderr, done.stdout), (status, True, ""))

@@ -17,7 +17,7 @@ import time
 
 from histories import HERE, Held
 
-from gridfs_client.buckets import moment
+from gridfs_client.buckets import FIRST_MOMENT, moment
 
 TOP = os.path.join(HERE, "..", "..")
 CLIENT = os.path.join(TOP, "clients", "python", "gridfs-client")
@@ -90,6 +90,8 @@ class Commands:
         self.told("get to a file", ["get", "ä b", "copy"], b"")
         with open("copy", "rb") as copy:
             self.held("the file", copy.read(), content)
+        version = json.loads(self.run("stat", "ä b", "--json")[1])["version"]
+        self.held("the time of the file", round(10 * (os.stat("copy").st_mtime - FIRST_MOMENT)), version)
         began = moment()
         status, told, _ = self.run("put", "content", "x/y", "--json")
         entry = json.loads(told)
@@ -97,6 +99,7 @@ class Commands:
         self.held("put --json", (status, entry["name"], entry["size"], entry["sha256"]), (0, "x/y", 20_000, digest))
         self.held("a version by the clock", began <= entry["version"] <= moment() + 1 or entry["version"], True)
         self.held("stat --json", json.loads(self.run("stat", "x/y", "--json")[1]), entry)
+        self.several()
         self.held("stat", self.run("stat", "x/y")[1].splitlines()[0], b"name: x/y")
         self.held("get --json", base64.b64decode(json.loads(self.run("get", "--json", "x/y")[1])["content"]), content)
         self.held("ls --json", [each["name"] for each in json.loads(self.run("ls", "--json")[1])], ["x/y", "ä b"])
@@ -115,6 +118,26 @@ class Commands:
         self.told("ls of nothing", ["ls"], b"")
         for word in ("get", "stat", "rm"):
             self.refused(f"{word} of no name", [word, "x/y"], 1, "x/y: no such name")
+
+    def several(self):
+        """Several files at once, with what is told of each."""
+        os.makedirs("several", exist_ok=True)
+        for name, given in (("one", b"1"), ("two", b"22")):
+            with open(f"several/{name}", "wb") as out:
+                out.write(given)
+        status, told, why = self.run("put", "several/one", "several/two", "s/", "-v", "--json")
+        self.held("put of several", (status, [each["name"] for each in json.loads(told)]), (0, ["s/one", "s/two"]))
+        self.held("put -v", [line.split(":")[1] for line in why.splitlines()], [" put s/one", " put s/two", " put"])
+        self.held("which session it was", bool(re.search(r"^gridfs-client: put: session [1-4] of node [0-3]; [0-9.]+ s$", why, re.M)) or why, True)
+        os.makedirs("got", exist_ok=True)
+        self.told("get of several", ["get", "s/one", "s/two", "got"], b"")
+        self.held("what is got", [open(f"got/{name}", "rb").read() for name in ("one", "two")], [b"1", b"22"])
+        self.held("cat --json", [base64.b64decode(each["content"]) for each in json.loads(self.run("cat", "s/one", "s/two", "--json")[1])], [b"1", b"22"])
+        self.held("get --range --json", base64.b64decode(json.loads(self.run("get", "--range", "1-", "--json", "s/two")[1])["content"]), b"2")
+        self.refused("put of several to one name", ["put", "several/one", "several/two", "s"], 2, "s: several files go to names that begin with it: end it with /")
+        self.refused("put of two of one name", ["put", "several/one", "got/one", "s/"], 2, "two of the same last part, one,")
+        self.refused("get of several to no folder", ["get", "s/one", "s/two", "none"], 9, "none: no folder: several names go into one")
+        self.told("rm of several", ["rm", "s/one", "s/two"], b"")
 
     def numbered_files(self):
         status, told, _ = self.run("write", "6", "63", "-", "--json", given=b"hi\n", GRIDFS_SESSION="4")
@@ -489,7 +512,7 @@ class Commands:
         told = os.read(main, 1000)
         os.close(main)
         os.close(other)
-        self.held("progress", told, b"\rput [###############               ] 2 of 4 pieces\rput [##############################] 4 of 4 pieces\r\n")
+        self.held("progress", told, b"\r\x1b[Kput [##########          ] 2.0 MB of 4.0 MB, 1.0 MB/s, 2 s left\r\x1b[Kput [####################] 4.0 MB, 1.0 MB/s, 4 s\r\n")
 
     # A broker
 
@@ -518,12 +541,15 @@ class Commands:
 
 PROGRESS = """
 import sys
-from gridfs_client.command import Progress
-progress = Progress(sys.stderr)
-progress("put", 1, 4)
-progress.begun -= 2
-progress("put", 2, 4)
-progress("put", 4, 4)
+from gridfs_client.progress import Progress
+clock = [100.0]
+progress = Progress(sys.stderr, lambda: clock[0])
+progress("put", 1_000_000, 4_000_000)
+clock[0] += 2
+progress("put", 2_000_000, 4_000_000)
+progress("put", 3_000_000, 4_000_000)
+clock[0] += 2
+progress("put", 4_000_000, 4_000_000)
 Progress(sys.stderr)("put", 4, 4)
 """
 

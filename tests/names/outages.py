@@ -1,7 +1,8 @@
-"""The command while nodes are down: what the status tells, and what other words end with."""
+"""The command while nodes are down: what the first one after a death takes, what the status tells, and what other words end with."""
 
 import json
 import os
+import statistics
 import time
 from concurrent.futures import ThreadPoolExecutor
 
@@ -21,6 +22,7 @@ bob open 8 2
 ann chunks 1024
 """
 SHORT = "6"  # seconds that a command waits for nodes that are down
+KILLS, EXTRA = 4, 2.0  # for each word, and seconds that half of the first commands after these may take more than three of before: a machine may be busy
 
 
 def kill(nodes, *numbers):
@@ -37,6 +39,28 @@ def kill(nodes, *numbers):
 def has(lines, text):
     """Which of these lines a text has."""
     return [line for line in lines if line in text.decode().splitlines()]
+
+
+def first_after_a_death(commands, nodes):
+    """Each time no command knows yet that a node is down: no home is waited for that is up, and none long that is not. (bench/first-command tells the seconds.)"""
+    commands.told("put of a long content", ["put", "-", "long"], b"", given=os.urandom(100_000))
+    for words, given in ((["get", "long"], b""), (["put", "-", "short"], b"hello"), (["ls"], b""), (["status"], b"")):
+        before, after = [], []
+        for turn in range(KILLS):
+            before.append(seconds_of(commands, words, given))
+            kill(nodes, turn % 4)
+            after.append(seconds_of(commands, words, given, GRIDFS_LOCKS=f"locks-{words[0]}-{turn}"))
+            nodes.ask(f"start {turn % 4}")
+            commands.run_until("all 4 nodes answer", "status", "--nodes", GRIDFS_LOCKS="others")
+        extra = statistics.median(after) - statistics.median(before)
+        commands.held(f"{words[0]}, the first after a death, took {extra:.2f} s more", extra <= EXTRA + 2 * statistics.median(before), True)
+    commands.told("rm", ["rm", "long", "short"], b"")
+
+
+def seconds_of(commands, words, given, **more):
+    begun = time.monotonic()
+    commands.held(f"{words[0]} beside a death", commands.run(*words, given=given, **more)[0::2], (0, ""))
+    return time.monotonic() - begun
 
 
 def one_is_down(commands):
@@ -79,6 +103,7 @@ def try_outages(program):
         commands.told("put", ["put", "-", "a"], b"", given=b"hello")
         status, told, _ = commands.run("status", tenant="bob")
         commands.held("status of a tenant without names", (status, b"left out: the tenant keeps no names by this plan" in told), (0, True))
+        first_after_a_death(commands, nodes)
         kill(nodes, 3)
         one_is_down(commands)
         kill(nodes, 2)

@@ -20,7 +20,9 @@ import looking
 import outages
 import planted
 import registers
+import rolls
 import splitting
+import states
 import trial
 import way_back
 import with_room
@@ -41,7 +43,7 @@ LISTED = ("LISTING", "MIXED", "UNSURE", "SPLITTING")  # with listings that skim 
 
 def steps():
     loader, told = unittest.TestLoader(), io.StringIO()
-    suite = loader.loadTestsFromNames(["test_core", "test_parts", "test_sessions", "test_names", "test_skimming", "test_side_by_side", "test_door", "test_splits", "test_looks", "test_status", "test_mirror", "test_journals", "test_grid"])
+    suite = loader.loadTestsFromNames(["test_core", "test_parts", "test_sessions", "test_names", "test_skimming", "test_side_by_side", "test_door", "test_splits", "test_looks", "test_status", "test_mirror", "test_progress", "test_watch", "test_journals", "test_grid"])
     result = unittest.TextTestRunner(told, verbosity=0).run(suite)
     return f"{result.testsRun} tests", [f"{test}: {text.splitlines()[-1]}" for test, text in result.failures + result.errors]
 
@@ -238,7 +240,7 @@ def package():
     return ", ".join(done), [*wrong, *installs_unproved()]
 
 
-KEEP = "import record; record.keep_record(record.digests('a kit')['gridfs'], 'a kit', 'a commit')"
+KEEP = "import record; record.keep_record('gridfs_node', record.digests('a kit', 'gridfs_node')['gridfs_node'], 'a kit', 'a commit')"
 
 
 def installs_unproved():
@@ -248,7 +250,7 @@ def installs_unproved():
         at, copied = os.path.join(TOP, name), os.path.join("tree", name)
         os.makedirs("tree", exist_ok=True)
         shutil.copytree(at, copied, ignore=shutil.ignore_patterns("out", "__pycache__")) if os.path.isdir(at) else shutil.copy(at, copied)
-    program, wrong = "tree/crates/gridfs/out/gridfs", []
+    program, wrong = "tree/crates/gridfs_node/out/gridfs_node", []
     os.makedirs(os.path.dirname(program))
 
     def write(path, text):

@@ -2,6 +2,8 @@
 
 import argparse
 import contextlib
+import importlib.machinery
+import importlib.util
 import io
 import os
 import signal
@@ -18,6 +20,7 @@ import histories  # (which finds the packages)  # noqa: F401
 from gridfs_grid import command
 from gridfs_grid.one_machine import NotStarted, keep_way
 from gridfs_grid.options import OF_GRID, OF_S3, expect_free, keep_options
+from gridfs_grid.places import TOP
 from gridfs_grid.planned import in_words
 
 
@@ -108,6 +111,36 @@ class Options(unittest.TestCase):
             with self.assertRaisesRegex(NotStarted, rf"^port {port} of 127.0.0.1 is taken: another program listens there \(--port names another\)$"):
                 expect_free("127.0.0.1", [port], "port")
         expect_free("127.0.0.1", [port], "port")
+
+
+class Built(unittest.TestCase):
+    """When `./grid` builds a program anew."""
+
+    def test_by_digest(self):
+        """Not where a checkout made a source newer that is the same; but where one is another one, or is gone."""
+        sys.path.insert(0, os.path.join(TOP, "tools"))
+        self.addCleanup(sys.path.remove, os.path.join(TOP, "tools"))
+        loader = importlib.machinery.SourceFileLoader("quick", os.path.join(TOP, "tools", "quick"))
+        quick = importlib.util.module_from_spec(importlib.util.spec_from_loader("quick", loader))
+        loader.exec_module(quick)
+        with tempfile.TemporaryDirectory() as top:
+            quick.TOP, quick.HERE = top, os.path.join(top, ".unproved")
+            source = os.path.join(top, "crates", "one", "src", "lib.rt")
+            for path in (source, os.path.join(top, "crates.txt"), os.path.join(quick.HERE, "gridfs")):
+                os.makedirs(os.path.dirname(path), exist_ok=True)
+                with open(path, "w") as out:
+                    out.write("a")
+            self.assertTrue(quick.is_new("gridfs"))
+            os.utime(os.path.join(quick.HERE, "gridfs"), (1, 1))
+            self.assertFalse(quick.is_new("gridfs"))  # (nobody knows of which sources it was made)
+            with open(os.path.join(quick.HERE, "gridfs.sources"), "w") as out:
+                out.write(f"{quick.digest_of_sources()}\n")
+            self.assertTrue(quick.is_new("gridfs"))
+            with open(source, "w") as out:
+                out.write("b")
+            self.assertFalse(quick.is_new("gridfs"))
+            os.unlink(source)
+            self.assertFalse(quick.is_new("gridfs"))
 
 
 if __name__ == "__main__":

@@ -108,6 +108,21 @@ class BothWays(Mirrors):
         report = self.down("back/")
         self.assertEqual((report.moved, report.same, self.read_all(self.other)["b/x"]), (["back/b/x"], 3, b"3" * 300))
 
+    def test_times(self):
+        """A file that is got has the time of the put; one that is the same keeps its own."""
+        self.write_all()
+        self.up("back/")
+        self.down("back/")
+        entries = {entry.name: entry for entry in self.memory.client(1).names("back/")}
+        at = lambda path: os.path.join(self.other, path)
+        for path in FILES:
+            self.assertAlmostEqual(os.stat(at(path)).st_mtime, entries["back/" + path].time, 3)
+        os.utime(at("a"), (7, 7))
+        self.write("b/x", b"other", self.other)
+        os.utime(at("b/x"), (7, 7))
+        self.assertEqual(self.down("back/").moved, ["back/b/x"])
+        self.assertEqual((os.stat(at("a")).st_mtime, os.stat(at("b/x")).st_mtime), (7, entries["back/b/x"].time))
+
     def test_what_is_removed(self):
         self.write_all()
         self.put({"back/old": b"old", "back/b": b"old", "backup/x": b"other", "b": b"other"})

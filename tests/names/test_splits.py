@@ -193,6 +193,7 @@ class Splitting(unittest.TestCase):
                 contents = {name: content for name, content in contents.items() if name != NAMES[1]}
                 self.assertEqual([held(memory.client(session)) for session in (1, 2)], [contents] * 2, (late, step))
                 grow(memory)
+                self.assertEqual([told.pages for told in grow(memory)], [0, 0], (late, step))
                 memory.surface()
                 self.assertEqual([held(memory.client(session)) for session in (1, 2)], [contents] * 2, (late, step))
                 memory.client(2, others=(1,)).sweep()

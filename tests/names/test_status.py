@@ -21,7 +21,7 @@ import gridfs_client
 from gridfs_grid import carrier as grid_carrier
 from gridfs_client import PlanTold, Unanswered
 from gridfs_client.answers import parse
-from gridfs_client.asking import LAST_CALL, SILENCE, ask_all, ask_plan, ask_soon, why_unanswered
+from gridfs_client.asking import FEW, LAST_CALL, SILENCE, ask_all, ask_others, ask_plan, ask_soon, why_unanswered
 from gridfs_client.errors import BadSettings, CarrierFault, SessionTaken
 from gridfs_client.grid import Nodes, Shape, possible_shapes
 from gridfs_client.opening import OpenSessions, soon_of
@@ -219,9 +219,9 @@ class Ticks(unittest.TestCase):
 class Waiting(unittest.TestCase):
     """How long a command waits, by the clock of nodes that are played."""
 
-    def opened(self, carrier, folder, **more):
+    def opened(self, carrier, folder, name="", **more):
         told = ask_plan(carrier)
-        return OpenSessions(Settings({"tenant": "ann", "session": "all", "timeout": "30", "helpers": "3", "locks": folder, **more}), told, carrier, "", 0)
+        return OpenSessions(Settings({"tenant": "ann", "session": "all", "timeout": "30", "helpers": "3", "locks": folder, **more}), told, carrier, name, 0)
 
     def test_no_home_answers(self):
         """All homes are silent: what is left once none answered soon is divided, and all is over in the time for an answer."""
@@ -314,6 +314,47 @@ class Waiting(unittest.TestCase):
             begun = carrier.clock
             self.assertEqual(ask_soon(carrier, None).silent, {0, 1, 2, 3} - up)
             self.assertTrue(least <= carrier.clock - begun <= most, carrier.clock)
+
+    def test_the_first_command_after_a_death(self):
+        """Who has not answered soon after others is asked after them: a session is taken whose home asks none that is silent, and nothing else is waited for."""
+        homes = [Home(node) for node in range(4)]
+        for dead, first in ((3, 1), (0, 4), (1, 3), (2, 2)):
+
+            def play(node, body, dead=dead):
+                return [] if node == dead else [(str(node), PLAN + " lines=3 rows=2 columns=2")] if body == "plan" else homes[node](node, body)
+
+            carrier = Played(play)
+            with tempfile.TemporaryDirectory() as folder:
+                begun = carrier.clock
+                ask_plan(carrier)
+                ask_others(carrier, begun)
+                self.assertEqual(round(carrier.clock - begun, 2), FEW)
+                for name in ("a", "b", "c", "d"):
+                    with contextlib.closing(self.opened(carrier, folder, name=name)) as sessions:
+                        self.assertEqual((sessions.first().number, sessions.numbers[-1]), (first, dead + 1), (dead, name))
+                        self.assertEqual(round(carrier.clock - begun, 2), FEW)
+                self.assertEqual(sessions.settings.lately_silent(), set())  # (in so short a time a node may be busy)
+
+    def test_nodes_that_are_not_waited_for(self):
+        """Those whose connection is refused, those that were silent lately, and none where all answer."""
+        for up, refused, but, seconds in (({0, 1, 2, 3}, set(), set(), 0), ({0, 1, 2}, {3}, set(), 0), ({0, 1, 2}, set(), {3}, 0), ({0, 1}, {2}, {0}, FEW)):
+            carrier = self.carrier_of(up)
+            carrier.has_broken = lambda node, since, refused=refused: node in refused
+            begun = carrier.clock
+            ask_plan(carrier)
+            ask_others(carrier, begun, but)
+            self.assertEqual(round(carrier.clock - begun, 2), seconds, (up, refused, but))
+            self.assertEqual({node for node in range(4) if carrier.is_unheard(node)}, {0, 1, 2, 3} - up)
+
+    def test_status_of_a_node_that_refuses(self):
+        carrier = self.carrier_of({0, 1, 2})
+        carrier.has_broken = lambda node, since: node == 3
+        ask_plan(carrier)
+        begun = carrier.clock
+        self.assertEqual((ask_soon(carrier, None).silent, carrier.clock - begun), ({3}, 0))
+
+    def carrier_of(self, up):
+        return Played(lambda node, body: [(str(node), PLAN)] if body == "plan" and node in up else [])
 
     def test_what_was_silent_lately(self):
         """The next commands go to other homes first, for a minute."""

@@ -117,6 +117,7 @@ class Contents:
         """What `get` makes of the journals of a whole row is what was put."""
         status, found, why = gets(paths)
         self.seen.held(f"{what}: {why[-300:]}", (status, found), (0, self.held))
+        return why
 
 
 def gets(paths, *more):
@@ -166,14 +167,20 @@ def way_back(program):
             contents.got(f"of running nodes, row {row}", map(journal_of, row))
         for node in NODES:
             seen.held(f"copy of node {node}", journals("copy", journal_of(node), f"copies/{node}")[0], 0)
-        for row in ROWS:
-            contents.got(f"of copies, row {row}", [f"copies/{node}/journal" for node in row])
+        seen.held("a state", journals("state", "state", *map(journal_of, NODES))[0], 0)
+        for folder in ("copies", "state"):
+            for row in ROWS:
+                why = contents.got(f"of {folder}, row {row}", [f"{folder}/{node}/journal" for node in row])
+        seen.held("what a state lacks", why, "")
         seen.wrong += beside.end()
         seen.held("puts beside", beside.count > 1, True)
         of_one_who_left(seen)
         of_one_column(contents)
     in_another_shape(program, contents)
-    starts_from_copies(program, contents)
+    for node in NODES:  # (which have ended)
+        seen.held(f"the last copy of node {node}", journals("copy", journal_of(node), f"copies/{node}")[0], 0)
+    starts_from("state", "state/plan", program, contents)
+    starts_from("copies", "later", program, contents)
     counted = f"{seen.count} compared, {len(contents.held)} contents of all forms, {beside.count} puts beside"
     return f"the way back: {counted}", seen.wrong
 
@@ -225,9 +232,9 @@ def of_one_column(contents):
 
 
 def in_another_shape(program, contents):
-    """What is got of copies goes into a new grid of three rows and one column, by its names."""
+    """What is got of a state goes into a new grid of three rows and one column, by its names."""
     seen = contents.seen
-    status, found, _ = gets([f"copies/{node}/journal" for node in ROWS[0]])
+    status, found, _ = gets([f"state/{node}/journal" for node in ROWS[0]])
     seen.held("what is brought elsewhere", (status, found), (0, contents.held))
     os.mkdir("other")
     os.chdir("other")
@@ -240,29 +247,24 @@ def in_another_shape(program, contents):
     seen.held("what another shape has", there, contents.held)
 
 
-def starts_from_copies(program, contents):
-    """A grid of other folders, once the old one has ended: each node's copy gets what is new, and the nodes start
-    from these.
-    """
-    seen = contents.seen
-    for node in NODES:
-        seen.held(f"the last copy of node {node}", journals("copy", journal_of(node), f"copies/{node}")[0], 0)
-    os.rename("grid", "old")
+def starts_from(folder, plan, program, contents):
+    """A grid of new nodes, from the copies in this folder, is as it was, and goes on."""
+    seen, held = contents.seen, dict(contents.held)
+    shutil.rmtree("grid")
     os.mkdir("grid")
+    shutil.copy(plan, "grid/plan")
     for node in NODES:
         for ending in ("", ".shelf"):
-            os.rename(f"copies/{node}/journal{ending}", journal_of(node) + ending)
-    for name in os.listdir("old"):
-        if not name.startswith("node"):
-            shutil.copy(f"old/{name}", "grid") if os.path.isfile(f"old/{name}") else None
-    shutil.rmtree("old")
-    with with_room.grid_of(program, "later", *OFTEN):
+            os.rename(f"{folder}/{node}/journal{ending}", journal_of(node) + ending)
+    shutil.rmtree("back", ignore_errors=True)
+    with with_room.grid_of(program, "grid/plan", *OFTEN):
         seen.held("mirror", run("mirror", "--quiet", "grid:", "back")[0], 0)
         found = files_in("back")
         found.pop(BESIDE, None)
-        seen.held("what the grid has that started from copies", found, contents.held)
+        seen.held(f"what the grid has that started from {folder}", found, held)
         contents.put("put there", os.urandom(70_000))
-        contents.got("of the nodes that started from copies", map(journal_of, ROWS[0]))
+        contents.got(f"of the nodes that started from {folder}", map(journal_of, ROWS[0]))
+    contents.held = held
 
 
 if __name__ == "__main__":

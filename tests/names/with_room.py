@@ -59,8 +59,8 @@ def grid_of(program, plan=PLAN, *more):
 grid = grid_of
 
 
-def begin(*words, given=None):
-    environment = {**os.environ, "GRIDFS_CONFIG": f"grid/{TENANT}.ini", "GRIDFS_LOCKS": "locks"}
+def begin(*words, given=None, tenant=TENANT):
+    environment = {**os.environ, "GRIDFS_CONFIG": f"grid/{tenant}.ini", "GRIDFS_LOCKS": "locks"}
     if given is not None:
         with open("given", "wb") as out:
             out.write(given)
@@ -68,9 +68,9 @@ def begin(*words, given=None):
     return subprocess.Popen([PYTHON, "-B", CLIENT, *words], stdout=subprocess.PIPE, stderr=subprocess.PIPE, env=environment)
 
 
-def run(*words, given=None):
+def run(*words, given=None, **more):
     """A command to its end: status and standard output."""
-    command = begin(*words, given=given)
+    command = begin(*words, given=given, **more)
     told, why = command.communicate(timeout=4 * SECONDS)
     return command.returncode, told if command.returncode == 0 else why
 
@@ -97,6 +97,9 @@ def contents(program, moments=len(MOMENTS), killed=NODES):
             seen.held(f"put of {name}", run("put", "-", name, given=content), (0, b""))
             seen.held(f"get of {name}", run("get", name), (0, content))
         content = os.urandom(SIZES["2 MB"])
+        for tenant in ("ann", "bob"):
+            seen.held(f"put of {tenant}", run("put", "-", "name", given=content, tenant=tenant), (0, b""))
+            seen.held(f"get of {tenant}", run("get", "name", tenant=tenant), (0, content))
         several = [begin("put", "-", f"at once {number}", given=content) for number in range(4)]
         seen.held("four puts at once", [each.wait(SECONDS) for each in several], [0] * 4)
         several = [begin("get", f"at once {number}") for number in range(4)]

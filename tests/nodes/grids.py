@@ -107,7 +107,8 @@ class Grids:
     def run(self, *words, given=""):
         pipes = dict.fromkeys(["stdout", "stderr"], subprocess.PIPE)
         done = subprocess.run([GRID, *words], input=given, text=True, env=self.environment, timeout=3 * SECONDS, **pipes)
-        return done.returncode, done.stdout, [line for line in done.stderr.splitlines() if line.startswith("grid: ")]
+        told = re.sub(r"(?m)( plan .*) clock=\d{10}$", r"\1", done.stdout)  # (which a carrier adds)
+        return done.returncode, told, [line for line in done.stderr.splitlines() if line.startswith("grid: ")]
 
     def shows(self):
         status, shown, _ = self.run("try")

@@ -28,7 +28,7 @@ class Machine:
 
     def __init__(self, folder, program, carry):
         self.folder, self.program = folder, program
-        self.places = {f"/usr/local/bin/{self.CARRIER} ": f"{carry} ", "/usr/local/bin/gridfs ": f"{program} ", "/etc/gridfs": f"{folder}/etc",
+        self.places = {f"/usr/local/bin/{self.CARRIER} ": f"{carry} ", "/usr/local/bin/gridfs-node ": f"{program} ", "/etc/gridfs": f"{folder}/etc",
                        "/var/lib/gridfs": f"{folder}/lib", "/run/gridfs": f"{folder}/run"}  # fmt: skip
         self.processes = {}
         os.makedirs(f"{folder}/run")

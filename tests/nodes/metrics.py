@@ -9,7 +9,7 @@ from processes import Wrong
 NAME = r"gridfs_[a-z_]+"
 LABEL = r'[a-z]+="(?:[^"\\\n]|\\["\\n])*"'
 SAMPLE = re.compile(rf"({NAME})\{{({LABEL}(?:,{LABEL})*)\}} (\S+)")
-GAUGES = ("_ready", "_seconds", "_bytes", "_up", "_connections", "_form")  # how the names of gauges end: a base unit, or what is counted
+GAUGES = ("_ready", "_seconds", "_bytes", "_up", "_connections", "_form", "_older")  # how the names of gauges end: a base unit, or what is counted
 
 
 class Metrics(dict):

@@ -63,6 +63,8 @@ TREES = [
     "<Tagging><TagSet><Tag><Key>a</Key><Value>b</Value></Tag></TagSet></Tagging>", "<VersioningConfiguration><Status>Enabled</Status></VersioningConfiguration>",
     "<LifecycleConfiguration><Rule><Status>Enabled</Status><Prefix/><Expiration><Days>1</Days></Expiration></Rule></LifecycleConfiguration>", '<?xml version="1.0" encoding="UTF-8"?><Delete xmlns="http://s3.amazonaws.com/doc/2006-03-01/"><Object><Key>&#233;&lt;</Key></Object></Delete>',
 ]  # fmt: skip
+CORS = "<CORSConfiguration><CORSRule><AllowedOrigin>*</AllowedOrigin><AllowedMethod>GET</AllowedMethod>{}</CORSRule></CORSConfiguration>"
+TREES += [CORS.format("<AllowedHeader>a</AllowedHeader>" * count) for count in (1, 100, 5_000)]
 TREES += [f"<Delete>{'<Quiet/>' * count}</Delete>" for count in (4_000, 50_000)]
 TREES += ["".join(["<CompleteMultipartUpload>", *(f"<Part><PartNumber>{number}</PartNumber><ETag>x</ETag></Part>" for number in range(1, 10_002)), "</CompleteMultipartUpload>"])]
 PIECES = ["<a>", "</a>", "<", ">", "&", "&amp;", "&x;", "&#0;", "<!--", "-->", "<![CDATA[x]]>", "<!DOCTYPE a>", "<?x?>", "\x00", "é", "k" * 1_100, "<Object><Key>k</Key></Object>" * 30, "-1", "10001", "9" * 5_000, "٣"]
@@ -112,8 +114,29 @@ def body(draw, payload):
     return (draw.changed(tree, PIECES) if draw.random() < 0.7 else tree).encode("utf-8")
 
 
+FIELDS = {
+    "key": ["k", "a/${filename}", "", "x" * 1_100], "policy": ["", "x", base64.b64encode(b"{}").decode(), "A" * 40_000], "x-amz-signature": ["0" * 64, "x"], "x-amz-algorithm": ["AWS4-HMAC-SHA256"],
+    "x-amz-credential": ["carol.one/20260101/us-east-1/s3/aws4_request", "x"], "x-amz-date": ["20260101T000000Z", "x"], "success_action_status": ["201", "x"], "acl": ["private"], "x-ignore-a": ["x" * 9_000],
+}  # fmt: skip
+
+
+def form(draw):
+    """A form that nobody signed rightly, whole or changed, with its length or in chunks of HTTP."""
+    parts = [f'--XX\r\nContent-Disposition: form-data; name="{name}"\r\n\r\n{draw.choice(FIELDS[name])}\r\n' for name in draw.some(list(FIELDS), 9)]
+    text = "".join(parts) + '--XX\r\nContent-Disposition: form-data; name="file"; filename="f"\r\n\r\n' + "x" * draw.choice((0, 5, 70_000)) + "\r\n--XX--\r\n"
+    content = (draw.changed(text, ["--XX", "\r\n", '"', ";", "\x00", "é", "--XX--"]) if draw.random() < 0.5 else text).encode()
+    head = b"POST /one?X-Amz-Credential=carol/ HTTP/1.1\r\nHost: a\r\nContent-Type: multipart/form-data; boundary=XX\r\n"
+    if draw.random() < 0.5:
+        return head + b"Content-Length: %d\r\n\r\n" % len(content) + content, True
+    size = draw.choice((1, 100, 8_192))
+    chunks = [content[at : at + size] for at in range(0, min(len(content), 20_000), size)]
+    return head + b"Transfer-Encoding: chunked\r\n\r\n" + b"".join(b"%x\r\n%b\r\n" % (len(each), each) for each in chunks) + b"0\r\n\r\n", True
+
+
 def request(draw, gateway, upload):
     """A request as bytes, and whether it is one of HTTP for sure, and whole."""
+    if draw.random() < 0.05:
+        return form(draw)
     method, payload = draw.choice(METHODS), draw.choice(PAYLOADS)
     where, content = target(draw, upload), body(draw, payload)
     headers = {name: draw.choice(HEADERS[name]) for name in draw.some(list(HEADERS), 4 * (draw.random() < 0.5))}
@@ -178,10 +201,21 @@ def grown(gateway):
         return next(int(line.split()[1]) for line in file if line.startswith("VmHWM")) / 1024
 
 
-def run(seed, seconds, only=None):
-    """What was wrong, and how many requests were told which status."""
+@contextlib.contextmanager
+def gateway_of(settings, room):
+    """A gateway of carol before what these settings name, or a stand-in for a grid."""
+    with contextlib.nullcontext(room) if settings else endpoint.stand_in() as folder:
+        gateway = endpoint.Gateway(settings or os.path.join(folder, "carol.ini"), folder, keys=KEYS)
+        try:
+            yield gateway
+        finally:
+            gateway.kill()
+
+
+def run(seed, seconds, only=None, settings=None, room=None):
+    """What was wrong, and how many requests were told which status; by a gateway with these settings in a folder, else before a stand-in."""
     wrong, counts = [], Counter()
-    with endpoint.stand_in() as room, endpoint.gateways(room, keys=KEYS) as (gateway,):
+    with gateway_of(settings, room) as gateway:
         s3 = gateway.client()
         s3.create_bucket(Bucket="two")
         s3.put_object(Bucket="two", Key="kept", Body=KEPT)

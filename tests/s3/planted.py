@@ -7,6 +7,7 @@ import sys
 
 from code_of_s3 import CLIENT, CODE, HERE
 
+LONGEST = 900  # seconds of a test: some take two minutes on free cores
 # What is planted: the test that finds it, with its words; then a file, its text, and the text in its place.
 BUGS = {
     "a get ends with bytes whose digest is wrong": ("test_steps.py Contents.test_spoilt", "reading.py", "len(data) != span.length or not so_far.is_right(span.part, span.begin - begin_of_part, data)", "len(data) != span.length"),
@@ -99,7 +100,19 @@ BUGS = {
     "what was put anew goes, as it had expired": ("test_lifecycle.py Looks.test_put_meanwhile", "expiring.py", "                expect_same(now, going.held)\n", "                pass\n"),
     "rules that were taken back go on": ("test_lifecycle.py Looks.test_put_meanwhile", "expiring.py", "                in_force.pop(bucket)\n", "                pass\n"),
     "what has no time has expired": ("test_lifecycle.py Rules.test_what_stays", "lifecycle.py", "not self.is_enabled or not found.time or not", "not self.is_enabled or not"),
+    "puts wait until the pages of all are settled": ("test_slow.py ManyPages", "sessions.py", "BEFORE, PAGES_BEFORE = 0.5, 2", "BEFORE, PAGES_BEFORE = 60.0, 99"),
+    "what settles pages has all turns of a session": ("test_forms.py Sessions.test_who_wants_this_one_is_not_always_next", "sessions.py", "            fitting = [wanted for wanted in fitting if (wanted.number is None) == worker.was_named] or fitting\n", ""),
+    "chunks may have one byte each": ("test_operations.py Requests.test_odd_chunks", "bodies.py", "is_short = left < LEAST_CHUNK", "is_short = False"),
+    "a trailer ends as a line of HTTP does": ("test_operations.py Requests.test_unsigned_chunks_with_a_trailer", "bodies.py", "b\"\\n\" if is_trailer else b\"\\r\\n\"", "b\"\\r\\n\""),
+    "a bucket of any region but one is refused": ("test_operations.py Buckets.test_region", "buckets.py", "if self.gateway.region_is_told and wanted", "if wanted"),
+    "rules of a bucket are as long as they like": ("test_cors.py Browsers.test_long_rules", "cors.py", "if len(text := document_of(rules)) > LONGEST:", "if len(text := document_of(rules)) > 99 * LONGEST:"),
+    "a browser asks for as many headers as it likes": ("test_cors.py Browsers.test_long_rules", "cors.py", "if len(wanted) > MOST_ASKED:", "if False:"),
+    "a query has as many words as it likes": ("test_malformed.py Malformed.test_long_queries", "requests.py", "if self.raw_query.count(\"&\") >= MOST_WORDS:", "if False:"),
+    "half a form keeps its connection": ("test_slow.py Strangers.test_half_forms", "connections.py", "or next((each for each in others if each.is_unknown), None)", "or None"),
+    "what strangers read is read ahead as what others do": ("test_slow.py Slow.test_strangers_who_read", "bounds.py", "return AHEAD_OF_ANYBODY if is_anybody or Spool.held > HELD else AHEAD", "return 256 << 20"),
     "what is old by a clock that nobody agrees with goes": ("test_lifecycle.py Looks.test_clock", "clocks.py", "if self.agreed is None or abs(", "if self.agreed is not None and abs("),
+    "what is old by a clock that nodes do not have goes": ("test_lifecycle.py Looks.test_clocks_of_nodes", "clocks.py", "if 2 * len(others) >= many > 0:", "if False:"),
+    "a clock that is two hours off is taken for the same one": ("test_lifecycle.py Rules.test_clocks_of_nodes", "clocks.py", "if abs(ahead) >= SET)", "if abs(ahead) >= 9 * SET)"),
     "a client that corrects its clock by the gateway's is believed": ("test_lifecycle.py Looks.test_a_clock_that_is_ahead", "routes.py", "                    self.gateway.clock.is_refuted()", "                    pass"),
     "a put takes away what was there when versions were enabled": ("test_versions.py Versions.test_what_was_begun_before", "aims.py", "        if (state := self.gateway.state_now(self.bucket, store)) != self.state:\n            self.state, self.target", "        if not (state := self.state):\n            self.state, self.target"),
     "a bucket has the rules of an earlier one": ("test_lifecycle.py Looks.test_what_was_given", "given.py", '"b") == made else None', '"b") >= 0 else None'),
@@ -233,9 +246,11 @@ def is_found(what, folder):
     with open(path, "w", encoding="utf-8") as out:
         out.write(text.replace(old, new))
     script, *words = test.split(" ")
-    done = subprocess.run(
-        [sys.executable, "-B", "-W", "ignore", os.path.join(HERE, script), *words], cwd=folder, env={**os.environ, "GRIDFS_S3_CODE": code, "PYTHONPATH": CLIENT}, capture_output=True, text=True, timeout=300
-    )  # fmt: skip
+    command = [sys.executable, "-B", "-W", "ignore", os.path.join(HERE, script), *words]
+    try:
+        done = subprocess.run(command, cwd=folder, env={**os.environ, "GRIDFS_S3_CODE": code, "PYTHONPATH": CLIENT}, capture_output=True, text=True, timeout=LONGEST)
+    except subprocess.TimeoutExpired:
+        return f"{test} is not done in {LONGEST} seconds"
     if done.returncode == 0:
         return f"{test} does not find it"
     is_told = "FAILED" in done.stderr or " wrong" in done.stdout

@@ -4,7 +4,8 @@
     stand_in.py PLAN FOLDER
 
 It opens FOLDER/socket and writes NAME.ini for each tenant, as `./grid` does. Nothing is kept, and nothing is lost. At SIGHUP it reads the plan again, and tenants have the
-volumes of that, and chunks if they had none. A line `0 counts` is told how many requests of each kind came since the last one. Tenants with a line `chunks` in the plan have chunks too.
+volumes of that, and chunks if they had none. Where FOLDER/clock has a number, answers tell a clock that is so many seconds ahead; where FOLDER/slow has
+one, each comes so many seconds later. A line `0 counts` is told how many requests of each kind came since the last one. Tenants with a line `chunks` in the plan have chunks too.
 """
 
 import asyncio
@@ -14,6 +15,7 @@ import os
 import re
 import signal
 import sys
+import time
 
 sys.path.insert(0, os.path.join(os.path.dirname(os.path.abspath(__file__)), "..", "chunks"))
 from servers import VERBS, Server
@@ -109,6 +111,19 @@ async def main(plan, folder):
     if os.path.exists(path):
         os.unlink(path)
 
+    def number_in(name):
+        """The number in a file; None where there is none."""
+        try:
+            with open(os.path.join(folder, name)) as file:
+                return float(file.read())
+        except FileNotFoundError:
+            return None
+
+    def clock_word():
+        """What a carrier tells besides."""
+        ahead = number_in("clock")
+        return b"" if ahead is None else b" clock=%d" % (time.time() + ahead)
+
     async def serve(reader, writer):
         while line := await reader.readline():
             if line == b"0 counts\n":
@@ -120,7 +135,12 @@ async def main(plan, folder):
             name = name.decode()
             if to == b"0" and name in tenants and re.match(b"[a-z]", body):
                 told = about_chunks(tenants[name], body) or (answer(tenants[name], body.decode()) or "").encode()
-                writer.write(b"%b 0 %b\n" % (name.encode(), told) if told else b"")
+                told += clock_word() * (body == b"plan")
+                line = b"%b 0 %b\n" % (name.encode(), told) if told else b""
+                if late := number_in("slow"):
+                    asyncio.get_running_loop().call_later(late, writer.write, line)
+                else:
+                    writer.write(line)
 
     def read_again():
         with open(plan) as text:

@@ -557,7 +557,7 @@ class Sessions(Case):
 
         async def scenario():
             pool = Pool(Settings({}), Lending(), Turns())
-            pool.workers = {number: types.SimpleNamespace(number=number, is_busy=True, is_silent=False, who=ANN) for number in (1, 2)}
+            pool.workers = {number: types.SimpleNamespace(number=number, is_busy=True, is_silent=False, was_named=False, who=ANN) for number in (1, 2)}
             wanted = [Wanted(None, pool.loop.create_future(), who) for who in (ANN, ANN, ("bob", "one URL"), ("bob", "another"))]
             pool.waiting.extend(wanted)
             for place in (2, 3, 0):
@@ -565,11 +565,28 @@ class Sessions(Case):
                 self.assertEqual([each.future.done() for each in wanted].index(True), place)
                 wanted[place].future = pool.loop.create_future()
             by = {1: ("bob", "one URL"), 2: ("bob", "another"), 3: ("zed", "")}
-            pool.workers = {number: types.SimpleNamespace(number=number, is_busy=True, is_silent=False, who=who) for number, who in by.items()}
+            pool.workers = {number: types.SimpleNamespace(number=number, is_busy=True, is_silent=False, was_named=False, who=who) for number, who in by.items()}
             pool.waiting.clear()
             pool.waiting.extend(wanted := [Wanted(None, pool.loop.create_future(), who) for who in (("bob", "a third"), ANN)])
             pool.release(pool.workers[3])
             self.assertEqual([each.future.done() for each in wanted], [False, True])
+
+        asyncio.run(scenario())
+
+    def test_who_wants_this_one_is_not_always_next(self):
+        """By turns he is, and one who wants any: so what has many pages settled by it holds up nobody."""
+
+        async def scenario():
+            pool = Pool(Settings({}), Lending(), Turns())
+            worker = types.SimpleNamespace(number=1, is_busy=True, is_silent=False, was_named=False, who=("ann", ""))
+            pool.workers = {1: worker}
+            wanted = [Wanted(number, pool.loop.create_future(), ("ann", "")) for number in (1, 1, 1, None, None)]
+            pool.waiting.extend(wanted)
+            served = []
+            for _ in wanted:
+                pool.release(worker)
+                served += [at for at, each in enumerate(wanted) if each.future.done() and at not in served]
+            self.assertEqual(served, [0, 3, 1, 4, 2])
 
         asyncio.run(scenario())
 

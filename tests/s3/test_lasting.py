@@ -151,12 +151,31 @@ class Lasting(unittest.TestCase):
             self.assertEqual(done.returncode, 1, done.stderr)
             self.assertIn("it ends, so that it is started again: each look at a name fails: BufferError", done.stderr)
 
+    def test_what_it_cannot_read(self):
+        """Settings, keys, a file of hosts, a certificate: status 2, which a unit does not start again. A grid that is not there may come: status 1."""
+        with tempfile.TemporaryDirectory() as room:
+            for name, text in (
+                ("keys", f"carol {endpoint.SECRET}\n"), ("open", f"carol {endpoint.SECRET}\n"), ("none", "nothing\n"), ("hosts", "0 h:1 h:2\n"), ("away.ini", "[gridfs]\ntenant = carol\nsocket = away\n"),
+                ("ca.ini", f"[gridfs]\ntenant = carol\nhosts = {room}/hosts\nca-file = {room}/none\ncertificate = {room}/none\nkey = {room}/none\n"),
+                ("hosts.ini", f"[gridfs]\ntenant = carol\nhosts = {room}/none\nca-file = {room}/none\ncertificate = {room}/none\nkey = {room}/none\n"),
+            ):  # fmt: skip
+                with open(os.open(os.path.join(room, name), os.O_WRONLY | os.O_CREAT, 0o644 if name == "open" else 0o600), "w") as out:
+                    out.write(text)
+            environment = {**os.environ, "GRIDFS_LOCKS": os.path.join(room, "locks")}
+            for settings, keys, status, why in (
+                ("nowhere.ini", "keys", 2, "no such file"), ("away.ini", "nowhere", 2, "No such file"), ("away.ini", "none", 2, "none"), ("ca.ini", "keys", 2, "NO_CERTIFICATE_OR_CRL_FOUND"),
+                ("hosts.ini", "keys", 2, "none: line 1: NUMBER HOST:PORT HOST:PORT is wanted"), ("away.ini", "keys", 1, "no grid runs there"),
+            ):  # fmt: skip
+                words = [sys.executable, "-B", endpoint.GATEWAY, "--config", os.path.join(room, settings), "--keys", os.path.join(room, keys), "--listen", f"unix:{room}/socket"]
+                done = subprocess.run(words, env=environment, cwd=room, capture_output=True, text=True, timeout=endpoint.PATIENCE)
+                self.assertEqual((done.returncode, done.stderr.count("\n") == 1 or status == 1, why in done.stderr), (status, True, True), (settings, keys, done.stderr))
+
     def watched(self, looks, lasting=()):
         """What a watch tells that meets these faults, one after another; None where it goes on."""
 
         async def watch():
             pool = types.SimpleNamespace(lasting=[asyncio.create_task(each) for each in lasting], named=lambda: "", all_pages=types.SimpleNamespace())
-            found = gateway.Gateway(types.SimpleNamespace(map=None, pools={"": pool}), "carol", {}, "", None)
+            found = gateway.Gateway(types.SimpleNamespace(map=None, pools={"": pool}, clocks=dict), "carol", {}, "", None)
             left = list(looks)
 
             async def look(*_):

@@ -1,6 +1,7 @@
 """Lifecycles of buckets: what rules say, what goes by them, and what stays."""
 
 import contextlib
+import datetime
 import email.utils
 import os
 import re
@@ -8,6 +9,7 @@ import sys
 import time
 import types
 import unittest
+import urllib.request
 from unittest import mock
 
 sys.path.insert(0, os.path.dirname(os.path.abspath(__file__)))
@@ -43,6 +45,7 @@ async def slowly(self, going):
 expiring.Lifecycles.is_removed = slowly
 program.main(sys.argv[1:])
 """
+YEAR = 365 * 86_400
 # A gateway whose clock is a year ahead.
 AHEAD = """
 import sys, time
@@ -167,6 +170,14 @@ class Rules(unittest.TestCase):
             ("InvalidArgument", one(f"{prefix}<NoncurrentVersionExpiration><NoncurrentDays>1</NoncurrentDays><NewerNoncurrentVersions>101</NewerNoncurrentVersions></NoncurrentVersionExpiration>")),
         ):  # fmt: skip
             self.fails(code, text)
+
+    def test_clocks_of_nodes(self):
+        """More than half of those that tell theirs have to agree; others are told."""
+        for told, differ, is_doubted in (({}, 0, False), ({"node 0": 899, "node 1": -899}, 0, False), ({"node 0": 900}, 1, True), ({"node 0": -900, "node 1": 0}, 1, True), ({"node 0": 900, "node 1": 0, "node 2": 5}, 1, False)):
+            clock = clocks.Clock(nodes=lambda told=told: told)
+            clock.is_confirmed()
+            self.assertEqual((len(clock.others()), clock.doubt() is not None), (differ, is_doubted), told)
+        self.assertEqual(clocks.Clock(nodes=lambda: {"a: node 3": 4 * clocks.DAY, "b: node 1": -5_400}).others(), ["that of a: node 3 is 4 days ahead", "that of b: node 1 is 90 minutes behind"])
 
     def test_clock(self):
         """Age is told by it once a client signed by it, until it is set to another time, or a client is refused; and not at once where what was put last is old."""
@@ -340,6 +351,7 @@ class Looks(Common):
         test_malformed.GATEWAY = ahead
         told = test_malformed.exchange(test_malformed.signed("GET", "/some/a") + b"\r\n")
         self.assertEqual(test_malformed.code_of(told), (403, "RequestTimeTooSkewed"))
+        self.assertRegex(ahead.told(), r"carol: a client is refused \(403 RequestTimeTooSkewed\), whose clock is \d+ seconds (ahead of|behind) this machine's: set the one that is wrong")
         told_by_it = email.utils.parsedate_to_datetime(re.search(rb"(?i)\r\ndate: ([^\r]*)", told)[1].decode()).replace(tzinfo=None)
         for when in (told_by_it, told_by_it.replace(year=told_by_it.year + 1)):
             with mock.patch("botocore.auth.datetime", types.SimpleNamespace(datetime=types.SimpleNamespace(utcnow=lambda when=when: when))):
@@ -355,6 +367,49 @@ class Looks(Common):
         (self.found,) = self.gateway()
         self.s3 = self.found.client()
         self.assertEqual(self.keys(), ["a"])
+
+    def test_clocks_of_nodes(self):
+        """By a clock with which clients agree, and what was put last, nothing goes as long as nodes have another one; whoever runs the gateway is told."""
+        self.begin()
+        self.put("a")
+        self.give({"Filter": {"Prefix": ""}, "Expiration": {"Days": 90}})
+        self.found.kill()
+        self.nodes_are(0)
+        (ahead,) = self.gateway(program=(sys.executable, "-B", "-c", AHEAD))
+        test_malformed.GATEWAY = self.found = ahead
+        put = lambda key: self.by_a_clock(YEAR, "PUT", f"/some/{key}")
+        self.assertEqual(put("b"), 200)
+        ahead.kill()
+        ahead.start()  # (what was put last is as late as the start)
+        begun = len(ahead.told())
+        self.assertEqual(put("c"), 200)
+        self.until(lambda: "is not that of 1 of 1 nodes (that of node 0 is 365 days behind)" in ahead.told(begun))
+        time.sleep(QUIET)
+        self.assertNotIn("are gone", ahead.told())
+        self.assertEqual(self.told_as_metrics(), {"gridfs_s3_age_doubted": 1, "gridfs_s3_clock_ahead_seconds": YEAR})
+        self.nodes_are(YEAR)
+        ahead.kill()
+        ahead.start()
+        begun = len(ahead.told())
+        self.assertEqual(put("d"), 200)
+        self.until(lambda: "1 objects have expired" in ahead.told(begun))
+        self.assertEqual(self.told_as_metrics(), {"gridfs_s3_age_doubted": 0, "gridfs_s3_clock_ahead_seconds": 0})
+
+    def nodes_are(self, ahead):
+        with open(os.path.join(self.room, "clock"), "w") as out:
+            out.write(str(ahead))
+
+    def by_a_clock(self, ahead, method, path):
+        """The status of a request by a client whose clock is so many seconds ahead."""
+        when = datetime.datetime.utcfromtimestamp(time.time() + ahead)
+        with mock.patch("botocore.auth.datetime", types.SimpleNamespace(datetime=types.SimpleNamespace(utcnow=lambda: when))):
+            return test_malformed.code_of(test_malformed.exchange(test_malformed.signed(method, path, [("Content-Length", "0")]) + b"\r\n"))[0]
+
+    def told_as_metrics(self):
+        """Of clocks, to tens of seconds."""
+        with urllib.request.urlopen(f"{self.found.url}/metrics") as told:
+            found = re.findall(r"(?m)^(gridfs_s3_(?:age_doubted|clock_ahead_seconds))\{.*\} (\S+)$", told.read().decode())
+        return {name: round(float(value), -1) if "clock" in name else float(value) for name, value in found}
 
     def test_put_meanwhile(self):
         """An object that is put anew after it was seen to have expired stays; so does what is left when the rules are taken back."""

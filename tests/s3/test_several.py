@@ -181,7 +181,7 @@ class Several(unittest.TestCase):
         silent = self.line("carol").replace("carol.ini", "no-such.ini")
         self.start(silent, self.line("dave"))
         self.pid_of("dave")
-        until(lambda: self.told().count("no-such ended with status 1") >= 2)
+        until(lambda: self.told().count("no-such ended with status 2") >= 2)
         self.assertEqual(self.code("dave"), "200")
 
     def test_lines_that_change(self):
@@ -258,7 +258,7 @@ class Several(unittest.TestCase):
         """A gateway is its user's from before it reads anything: keys of another's it can't have."""
         self.start(self.line("carol", before="user=nobody group=daemon "), self.line("dave"))
         dave = self.pid_of("dave")
-        until(lambda: "carol ended with status 1" in self.told())
+        until(lambda: "carol ended with status 2" in self.told())
         self.assertIn("carol.keys: Permission denied", self.told())
         for path in (os.path.join(self.room, "carol.keys"), os.path.join(self.grid, "carol.ini")):
             os.chown(path, 65534, -1)

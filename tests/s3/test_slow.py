@@ -12,6 +12,7 @@ import sys
 import threading
 import time
 import unittest
+from concurrent.futures import ThreadPoolExecutor
 from unittest import mock
 from urllib.parse import urlsplit
 
@@ -25,6 +26,8 @@ KEYS = f"carol {endpoint.SECRET}\ncarol.one {endpoint.SECRET} bucket=one\n"
 POLICY = json.dumps({"Statement": {"Effect": "Allow", "Principal": "*", "Action": "s3:GetObject", "Resource": "arn:aws:s3:::open/*"}})
 MIB = 1 << 20
 PATIENCE = 60  # seconds until all of it has come
+AT_ONCE, LATE, AT_MOST = 16, 0.04, 2  # puts; seconds for which a node takes its time; seconds that each put may take
+LONG_PLAN = os.path.join(endpoint.HERE, "..", "..", "deploy", "s3", "plan")  # with many pages
 SOON = 20  # seconds that a small request may take on a machine that does much else
 
 
@@ -206,18 +209,44 @@ class Strangers(unittest.TestCase):
             (found,) = stack.enter_context(endpoint.gateways(room, program=few))
             with open(f"/proc/{found.process.pid}/limits") as file:
                 self.assertRegex(file.read(), r"Max open files +4096 +4096")
-            forms = [stack.enter_context(socket.create_connection(("127.0.0.1", found.port), timeout=60)) for _ in range(60)]
-            for made in forms:
-                made.sendall(head)
-            time.sleep(1)
+            forms = []
+            for _ in range(40):
+                forms.append(stack.enter_context(socket.create_connection(("127.0.0.1", found.port), timeout=60)))
+                forms[-1].sendall(head)
+                time.sleep(0.1)  # (so that each has begun its form when the next one comes)
             begun = time.monotonic()
             found.client(read_timeout=SOON).list_buckets()
             self.assertLess(time.monotonic() - begun, SOON)
             with contextlib.suppress(ConnectionResetError):
+                forms[0].settimeout(0.2)  # (it ended when others came, and not since it is slow)
                 self.assertEqual(forms[0].recv(100), b"")
             with self.assertRaises(TimeoutError):
                 forms[-1].settimeout(0.2)
                 forms[-1].recv(100)
+
+
+class ManyPages(unittest.TestCase):
+    """Nodes that take their time, and a gateway that knows none of its pages yet."""
+
+    def test_puts_at_once(self):
+        """None waits for long while the pages of others are settled, by all sessions each."""
+        room = self.enterContext(endpoint.stand_in(LONG_PLAN))
+        (gateway,) = self.enterContext(endpoint.gateways(room))
+        gateway.client().create_bucket(Bucket="one")
+        with open(os.path.join(room, "slow"), "w") as out:
+            out.write(str(LATE))
+        gateway.end()
+        gateway.start()
+        clients = [gateway.client() for _ in range(AT_ONCE)]
+
+        def put_by(number):
+            begun = time.monotonic()
+            clients[number].put_object(Bucket="one", Key=f"key {number}", Body=b"x" * 1_024)
+            return time.monotonic() - begun
+
+        with ThreadPoolExecutor(AT_ONCE) as pool:
+            took = sorted(pool.map(put_by, range(AT_ONCE)))
+        self.assertLess(took[-1], AT_MOST, took)
 
 
 class Places(unittest.IsolatedAsyncioTestCase):

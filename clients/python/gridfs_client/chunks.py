@@ -294,7 +294,8 @@ class Asking:
 
     def __init__(self, chunks: "Chunks", questions: Iterable[Question]):
         self.chunks, self.left, self.asked, self.found = chunks, deque(questions), dict[Question, Line](), dict[Question, ChunkTold]()
-        self.box, self.begun = chunks.carrier.attach_chunks({question.key: None for question in self.left}), chunks.carrier.now()
+        self.refusing = set[int]()  # places of nodes that told `refused bad` meanwhile: it names no line
+        self.box, self.begun = chunks.carrier.attach_chunks({ROOM: None, **{question.key: None for question in self.left}}), chunks.carrier.now()
 
     def go_on(self, seconds: float) -> bool:
         """Asks what is due, and takes an answer that comes in so many seconds; whether it was one of these."""
@@ -305,6 +306,7 @@ class Asking:
         wait = chunks.send_due(self.asked.values())
         answer = chunks.carrier.receive(self.box, max(0, min(wait, seconds)))
         if isinstance(answer, ChunkTold):
+            self.refusing.update([answer.node % MOST_PLACES] * (answer.word == "bad"))
             for question in [each for each in self.asked if chunks.is_answer(each, answer)]:
                 self.asked.pop(question).end(True)
                 self.found[question] = answer
@@ -333,6 +335,7 @@ class Chunks:
         self.last = 0  # number that was used
         self.turn = number
         self.silent: set[int] = set()  # places that did not answer soon
+        self.refusing: set[int] = set()  # places that told `refused bad` in place of an answer that was waited for last
         self.unneeded: list[Run] = []  # what may be kept somewhere, and nothing is to name
         self.forgetting: tuple[Asking, dict[Question, Run]] | None = None  # what nodes are asked to forget meanwhile
 
@@ -374,6 +377,7 @@ class Chunks:
                 if asking.go_on(until - now):
                     until = self.carrier.now() + seconds
         finally:
+            self.refusing = asking.refusing & {question.place for question in asking.asked}
             asking.end()
         return asking.found
 

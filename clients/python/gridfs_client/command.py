@@ -2,6 +2,7 @@
 
 import argparse
 import base64
+import io
 import os
 import signal
 import sys
@@ -16,7 +17,7 @@ from typing import IO, Any, TypeVar
 from . import __version__
 from . import words as words_module
 from .answers import PlanTold
-from .asking import LAST_CALL, SILENCE, ask_plan, ask_soon, why_unanswered
+from .asking import LAST_CALL, SILENCE, ask_others, ask_plan, ask_soon, why_unanswered
 from .carriers import INTERRUPTED, Carrier
 from .errors import BadFile, BadSettings, ClientError, NoRoom, NoSuchName, Refused, Silent, Skipped, Unanswered
 from .fleet import MAP_NAME, FleetFiles, expect_no_map
@@ -25,11 +26,12 @@ from .grid import Nodes, listed, told_shape
 from .layout import BLOCK, layout_of
 from .local import INPUT, complain, content_of, cut, go_to, json_of, out, out_lines, rewindable, to_target
 from .memory import keep_for_chunks
-from .mirror import GRID, Removal, ToFolder, ToGrid, prefix_of, shown
-from .names import Entry, Grown, NamedFiles, place_to_cut
+from .mirror import GRID, Removal, ToFolder, ToGrid, prefix_of, shown, size_of
+from .names import Entry, Grown, NamedFiles, place_to_cut, time_put
 from .open_grids import OpenGrids, of_before, one_by_one
 from .opening import LEAST, OpenSessions, turn_of
 from .pages import check_name
+from .progress import Progress
 from .renewing import Renewed
 from .renewing import renew as renewed
 from .sessions import Session
@@ -82,23 +84,6 @@ status  meaning                                                                 
 What an interrupted command left undone, the next change of its session to the same page completes, or drops. `mirror` skips what it can't
 move, tells it, and ends with the status of the first one.
 """
-
-
-class Progress:
-    """A bar on a terminal of how many pieces are moved, from the first second on."""
-
-    width, patience = 30, 1.0  # letters, and seconds
-
-    def __init__(self, out: IO[str]):
-        self.out, self.begun, self.is_shown = out, time.monotonic(), False
-
-    def __call__(self, word: str, done: int, of: int | None) -> None:
-        if not self.is_shown and (done == of or time.monotonic() - self.begun < self.patience):
-            return
-        self.is_shown = done != of
-        bar = "" if not of else f"[{'#' * (self.width * done // of):<{self.width}}] "
-        self.out.write(f"\r{word} {bar}{done}{f' of {of}' if of else ''} pieces" + ("\n" if done == of else ""))
-        self.out.flush()
 
 
 def nothing() -> None:
@@ -185,6 +170,10 @@ class OpenedFleet:
     def __init__(self, grids: OpenGrids):
         self.grids = grids
 
+    @property
+    def progress(self) -> Progress | None:
+        return self.grids.progress
+
     def names(self) -> FleetFiles:
         return self.grids.with_latest_map()
 
@@ -229,6 +218,7 @@ def add_options(to: argparse.ArgumentParser, is_shown: bool) -> None:
     flag: dict[str, Any] = dict(action="store_true", default=argparse.SUPPRESS)
     to.add_argument("--json", help="the answer as JSON, one value", **flag)
     to.add_argument("--quiet", "-q", help="no progress at a terminal, and of mirror and rm -r no lines of what is done", **flag)
+    to.add_argument("--verbose", "-v", help="on standard error each name that is done, and in the end sessions with their homes, silent nodes, and seconds", **flag)
     for key, takes, meaning in [("config", "FILE", "the file of settings"), *((key, it.takes, it.meaning + (f" ({it.default})" if it.default else "")) for key, it in SETTINGS.items())]:
         to.add_argument(f"--{key}", metavar=takes, default=argparse.SUPPRESS, help=meaning if is_shown else argparse.SUPPRESS)
 
@@ -257,9 +247,11 @@ def parser() -> argparse.ArgumentParser:
     volume: dict[str, Any] = dict(type=number_of, metavar="VOLUME", help="a number from 0")
     number: dict[str, Any] = dict(type=number_of, metavar="NUMBER", help="of the file in its volume, from 0")
     source: dict[str, Any] = dict(metavar="FILE", help="a file, or - for standard input")
+    several: dict[str, Any] = dict(source, nargs="+", help="a file, or - for standard input; several go to names that begin with NAME, which ends with / then")
+    wanted: dict[str, Any] = dict(nargs="+", metavar="NAME", help="the name, and then a file, or - for standard output, as if left out; several names want a folder behind them")
     target: dict[str, Any] = dict(metavar="FILE", nargs="?", default="-", help="a file, or - for standard output, as if left out")
-    word("put", put, "give a name a content", path=source, name=name)
-    word("get", get, "tell a name's content", name=name, path=target,
+    word("put", put, "give a name a content, or names those of several files", paths=several, name=name)
+    word("get", get, "tell a name's content, or get those of several into a folder", names=wanted,
          **{"--range": dict(type=words_module.range_of, metavar="FIRST-LAST", dest="bytes", help="these bytes of it alone, from 0; FIRST- for all from there")})  # fmt: skip
     word("ls", ls, "tell names with their sizes: each was so at some moment of the call (between which ones: --json)",
          prefix=dict(metavar="PREFIX", nargs="?", default="", help="names that begin so; all if left out"),
@@ -309,15 +301,39 @@ def tell(args: argparse.Namespace, value: object, *lines: str) -> None:
 
 
 def put(opened: Opened | OpenedFleet, args: argparse.Namespace) -> None:
+    targets = words_module.targets_of(args.paths, args.name)
+    expect_all(opened, {name: size_of(path) for name, path in targets.items()})
+    found = [put_one(opened, args, path, name) for name, path in targets.items()]
+    tell(args, told_of(found[0]) if len(args.paths) == 1 else [told_of(entry) for entry in found])
+
+
+def put_one(opened: Opened | OpenedFleet, args: argparse.Namespace, path: str, name: str) -> Entry:
     if isinstance(opened, OpenedFleet):
-        expect_no_map(args.name)
-    with content_of(args.path) as given:
+        expect_no_map(name)
+    with content_of(path) as given:
         content = rewindable(given)
         try:
-            entry = opened.by_sessions(lambda names: names.put(args.name, content), partial(go_to, content, content.tell()) if content.seekable() else None)
+            entry = opened.by_sessions(lambda names: names.put(name, content), partial(go_to, content, content.tell()) if content.seekable() else None)
         except NoRoom as fault:
             raise NoRoom(f"{fault}; where clients were killed, gridfs-client sweep gives some back") from None
-    tell(args, told_of(entry))
+    is_done(opened, args, "put", entry)
+    return entry
+
+
+def expect_all(opened: Opened | OpenedFleet, sizes: dict[str, int]) -> None:
+    """So many contents are moved, where these are several."""
+    if opened.progress and len(sizes) > 1:
+        opened.progress.expect(len(sizes), sum(sizes.values()))
+
+
+def is_done(opened: Opened | OpenedFleet, args: argparse.Namespace, word: str, entry: Entry) -> None:
+    """A content is moved, of one or several."""
+    if opened.progress and opened.progress.files:
+        opened.progress.next(word, entry.size)
+    if args.verbose:
+        if opened.progress:
+            opened.progress.clear()
+        complain(f"{word} {shown(entry.name)}: {entry.size} bytes, version {entry.version}.{entry.session}, {entry.pieces} pieces")
 
 
 def cp(opened: Opened | OpenedFleet, args: argparse.Namespace) -> None:
@@ -337,31 +353,56 @@ def get_range(opened: Opened | OpenedFleet, args: argparse.Namespace) -> None:
     """The bytes of a range, to a target."""
     if isinstance(opened, OpenedFleet):
         raise BadSettings("--range is for one grid")
-    if args.json:
-        raise BadSettings("--range goes without --json")
-    here, (first, end) = opened, args.bytes
+    here, (first, end), name, path = opened, args.bytes, *words_module.name_and_file(args.names)
 
     def get_to(target: IO[bytes]) -> Entry:
         start = place_to_cut(target)
-        return here.by_sessions(lambda names: names.get_range_to(args.name, target, first, end), nothing if start is None else partial(cut, target, start))
+        return here.by_sessions(lambda names: names.get_range_to(name, target, first, end), nothing if start is None else partial(cut, target, start))
 
-    to_target(in_folder(args.path, args.name), get_to)
+    if args.json and path == "-":
+        content = io.BytesIO()
+        tell(args, told_of(get_to(content)) | {"content": base64.b64encode(content.getvalue()).decode()})
+        return
+    entry = to_target(in_folder(path, name), get_to)
+    is_done(opened, args, "got of", entry)
+    if args.json:
+        tell(args, told_of(entry))
 
 
 def get(opened: Opened | OpenedFleet, args: argparse.Namespace) -> None:
     if args.bytes:
         get_range(opened, args)
         return
-    if args.json and args.path == "-":
-        content, entry = opened.by_sessions(lambda names: names.get(args.name))
+    if len(args.names) > 2:
+        get_several(opened, args)
+        return
+    name, path = words_module.name_and_file(args.names)
+    if args.json and path == "-":
+        content, entry = opened.by_sessions(lambda names: names.get(name))
         tell(args, told_of(entry) | {"content": base64.b64encode(content).decode()})
         return
+    tell(args, told_of(get_one(opened, args, name, path)))
 
+
+def get_one(opened: Opened | OpenedFleet, args: argparse.Namespace, name: str, path: str) -> Entry:
     def get_to(target: IO[bytes]) -> Entry:
         start = place_to_cut(target)
-        return opened.by_sessions(lambda names: names.get_to(args.name, target), nothing if start is None else partial(cut, target, start))
+        return opened.by_sessions(lambda names: names.get_to(name, target), nothing if start is None else partial(cut, target, start))
 
-    tell(args, told_of(to_target(in_folder(args.path, args.name), get_to)))
+    entry = to_target(in_folder(path, name), get_to, time_put)
+    is_done(opened, args, "got", entry)
+    return entry
+
+
+def get_several(opened: Opened | OpenedFleet, args: argparse.Namespace) -> None:
+    """Contents into a folder, each to a file that has its name's last part."""
+    *names, folder = args.names
+    if not os.path.isdir(folder):
+        raise BadFile(f"{folder}: no folder: several names go into one")
+    words_module.targets_of(names, "/")
+    if opened.progress:
+        expect_all(opened, {name: opened.by_sessions(lambda files: files.stat(name)).size for name in names})
+    tell(args, [told_of(get_one(opened, args, name, folder)) for name in names])
 
 
 def in_folder(path: str, name: str) -> str:
@@ -413,7 +454,7 @@ def rm(opened: Opened | OpenedFleet, args: argparse.Namespace) -> None:
     for name in args.names:
         check_name(name)
     opened.prepare()
-    removal = Removal("", "", opened.names_for, opened.turn_of, lambda *_: None, complain)
+    removal = Removal("", "", opened.names_for, opened.turn_of, lambda word, name: complain(f"{word} {shown(name)}") if args.verbose else None, complain)
     removal.remove_all(args.names)
     removed = removal.report.removed
     tell(args, {"removed": [name for name in args.names if name in removed]})
@@ -457,11 +498,13 @@ def sweep(opened: Opened | OpenedFleet, args: argparse.Namespace) -> None:
     caught_up = names.catch_up() if args.catch_up else 0
     swept = names.sweep()
     text = f"removals: {swept.forgotten} forgotten, {swept.left} left"
-    value = {key: each for key, each in vars(swept).items() if key not in ("chunks", "silent") or each}
+    value = {key: each for key, each in vars(swept).items() if key not in ("chunks", "silent", "refusing") or each}
     if swept.chunks:
         text += f"; chunks: {swept.chunks} forgotten"
     if swept.silent:
         text += f"; nodes at the places {listed(swept.silent)} are silent: chunks may be left there"
+    if swept.refusing:
+        text += f" ({listed(swept.refusing)} told `refused bad`: is this machine's clock ahead of theirs?)"
     if args.catch_up:
         text = f"pages: {caught_up} caught up; {text}"
     if swept.absent:
@@ -531,11 +574,13 @@ def plan(opened: Opened, args: argparse.Namespace) -> None:
     tell(args, value_told, *(f"{key}: {each}" for key, each in (value | words).items()))
 
 
-def line_teller(args: argparse.Namespace) -> Callable[[str, str], None]:
+def line_teller(args: argparse.Namespace, progress: Progress | None = None) -> Callable[[str, str], None]:
     """Tells what is done with a name, where that is wanted."""
 
     def tell_line(word: str, name: str) -> None:
         if not args.json and not args.quiet:
+            if progress:
+                progress.clear()
             out_lines([f"{word} {shown(name)}"])
 
     return tell_line
@@ -550,8 +595,8 @@ def mirror(opened: Opened | OpenedFleet, args: argparse.Namespace) -> None:
     opened.prepare()
     kind = ToFolder if to_grid is None else ToGrid
     prefix = from_grid if to_grid is None else to_grid
-    made = kind(folder, prefix or "", opened.names_for, opened.turn_of, line_teller(args), complain, args.delete, args.dry_run)
-    made.excludes = args.exclude
+    made = kind(folder, prefix or "", opened.names_for, opened.turn_of, line_teller(args, opened.progress), complain, args.delete, args.dry_run)
+    made.excludes, made.progress = args.exclude, opened.progress
     report = made.run()
     value = {"dry_run": args.dry_run, made.word: report.moved, "removed": report.removed, "same": report.same, "skipped": report.skipped}
     moved, removed = (f"would {made.word}", "remove") if args.dry_run else (made.done, "removed")
@@ -636,8 +681,13 @@ def tell_completion(_: object, args: argparse.Namespace) -> None:
 
 def read_words(words: list[str]) -> argparse.Namespace:
     args = parser().parse_args([*words[1:2], "--help"] if words[:1] == ["help"] else words)
-    args.json, args.quiet = "json" in args, "quiet" in args
+    args.json, args.quiet, args.verbose = "json" in args, "quiet" in args, "verbose" in args
     return args
+
+
+def name_in(args: argparse.Namespace) -> str:
+    """The name on which it depends which session is tried first."""
+    return str(vars(args).get("name") or vars(args).get("names", [""])[0])
 
 
 def run(words: list[str]) -> None:
@@ -678,24 +728,40 @@ def run_over_grids(args: argparse.Namespace, settings: Settings) -> None:
     """A command about the names of several grids."""
     if args.call not in (put, get, ls, rm, stat, mirror, status, sweep, renew, grow, cp, mv, words_module.cat, words_module.du):
         raise BadSettings(f"{args.word} is about one grid: leave `map` out, and name the settings of that grid")
-    name = vars(args).get("name") or vars(args).get("names", [""])[0]
-    is_shown = sys.stderr is not None and sys.stderr.isatty() and not args.quiet
-    grids = OpenGrids(read_map(settings.need("map")), settings, name, Progress(sys.stderr) if is_shown else None)
-    with closing(grids):
+    progress = progress_of(args)
+    with closing(OpenGrids(read_map(settings.need("map")), settings, name_in(args), progress)) as grids, shown_to_its_end(progress):
         stop_at_signals(grids)
         args.call(OpenedFleet(grids), args)
+
+
+def progress_of(args: argparse.Namespace) -> Progress | None:
+    return Progress(sys.stderr) if sys.stderr is not None and sys.stderr.isatty() and not args.quiet else None
+
+
+@contextmanager
+def shown_to_its_end(progress: Progress | None) -> Iterator[None]:
+    try:
+        yield
+    finally:
+        if progress:
+            progress.end()
 
 
 def carry_out(args: argparse.Namespace, settings: Settings, carrier: Carrier, begun: float) -> None:
     """Does what a command's words say. The time for the first answer began with the command."""
     timeout = settings.seconds("timeout")
     patience = min(timeout, SILENCE) if args.call is status else max(timeout - (carrier.now() - begun), min(timeout, LEAST))
+    asked = carrier.now()
     told = ask_plan(carrier, replace(settings.pace(), timeout=patience))
-    name = vars(args).get("name") or vars(args).get("names", [""])[0]
-    is_shown = sys.stderr is not None and sys.stderr.isatty() and not args.quiet
-    progress = Progress(sys.stderr) if is_shown else None
-    with closing(OpenSessions(settings, told, carrier, name, begun)) as sessions:
+    if args.call not in (status, plan):
+        ask_others(carrier, asked, settings.lately_silent())
+    progress = progress_of(args)
+    with closing(OpenSessions(settings, told, carrier, name_in(args), begun)) as sessions, shown_to_its_end(progress):
         args.call(Opened(settings, carrier, told, progress, sessions), args)
+        if args.verbose:
+            if progress:
+                progress.end()
+            complain(f"{args.word}: {sessions.in_words()}; {carrier.now() - asked:.2f} s")
 
 
 def main(words: list[str] | None = None) -> int:

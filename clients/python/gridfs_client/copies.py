@@ -12,13 +12,16 @@ import os
 import stat
 import tarfile
 from collections import Counter
-from collections.abc import Iterable, Mapping
+from collections.abc import Iterable, Mapping, Sequence
 from contextlib import closing, suppress
 from dataclasses import dataclass
 from typing import IO, BinaryIO, cast
 
+from .answers import MOST_PLACES
 from .batches import NODE
 from .errors import BadFile
+from .holding import close_all, open_all
+from .plans import plan_of
 from .shelves import NodeFiles, folder_of, segment_name, segments_in
 
 JOURNAL = "journal"  # in the folder of a copy
@@ -40,12 +43,25 @@ class Copied:
     lacking: int
 
 
+@dataclass
+class State:
+    """Copies of nodes, for how many seconds these were held, and the places of which no node is there."""
+
+    copied: list[Copied]
+    seconds: float
+    missing: list[int]
+
+
 def copy_node(journal: str, folder: str) -> Copied:
     """Copies a node into a folder that is new, or has an earlier copy of it. BadFile where another node's is there."""
     with closing(NodeFiles(journal)) as files:
-        copy = Copy(files, folder)
-        copy.expect_earlier_one()
-        return copy.run()
+        return copy_files(files, folder)
+
+
+def copy_files(files: NodeFiles, folder: str) -> Copied:
+    copy = Copy(files, folder)
+    copy.expect_earlier_one()
+    return copy.run()
 
 
 def ends_of(files: NodeFiles) -> Counter[int]:
@@ -119,6 +135,28 @@ def expect_copy_of(node: int, folder: str) -> None:
         raise BadFile(f"{folder_of(journal)}: segments are there without a journal, so they may be another node's")
 
 
+def copy_state(journals: Sequence[str], folder: str) -> State:
+    """Copies all nodes of a grid as they stand at one moment, each into a folder of its number, with the latest plan."""
+    if len({os.path.realpath(journal) for journal in journals}) < len(journals):
+        raise BadFile("a journal is named twice")
+    found, seconds = open_all(journals)
+    try:
+        numbers = [files.node for files in found]
+        for number in numbers:
+            if numbers.count(number) > 1:
+                raise BadFile(f"two journals of node {number}")
+        plans = [plan_of(files.facts.plan[1:]) for files in found]
+        latest = max(range(len(plans)), key=lambda at: (plans[at].extent(), len(found[at].facts.plan)))
+        copied = [copy_files(files, os.path.join(folder, f"{files.node}")) for files in found]
+        with open(os.path.join(folder, "plan"), "wb") as out:
+            out.write(b"".join(found[latest].facts.plan[1:]))
+        here = {number % MOST_PLACES for number in numbers}
+        places = range(plans[latest].rows * plans[latest].columns)
+        return State(copied, seconds, [place for place in places if place not in here])
+    finally:
+        close_all(found)
+
+
 def finish(folder: str, named: Iterable[int]) -> None:
     """The new journal takes its place, and segments go that it does not name."""
     journal = os.path.join(folder, JOURNAL)
@@ -158,10 +196,9 @@ def parse_had(text: str) -> dict[int, int]:
         raise BadFile("what is there already has a line for each segment, with its number and its bytes") from None
 
 
-def write_stream(journal: str, out: IO[bytes], had: Mapping[int, int]) -> None:
+def write_stream(files: NodeFiles, out: IO[bytes], had: Mapping[int, int]) -> None:
     """Writes a copy of a node, but for what is there already."""
-    made = tarfile.open(fileobj=out, mode="w|", format=tarfile.PAX_FORMAT)
-    with closing(NodeFiles(journal)) as files, made as stream:
+    with tarfile.open(fileobj=out, mode="w|", format=tarfile.PAX_FORMAT) as stream:
         ends = ends_of(files)
         named = "".join(f"{number}\n" for number in sorted(ends)).encode()
         stream.addfile(member(f"{files.node}", len(named)), io.BytesIO(named))

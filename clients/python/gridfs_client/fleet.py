@@ -267,7 +267,9 @@ class FleetFiles:
         found = [self.grid(grid).sweep() for grid in self.map.grids]
         forgotten, left = (sum(counts) for counts in zip(*((each.forgotten, each.left) for each in found)))
         absent = sorted({number for each in found for number in each.absent})
-        return Swept(forgotten, left, absent, sum(each.chunks for each in found), tuple(sorted({place for each in found for place in each.silent})))
+        silent = tuple(sorted({place for each in found for place in each.silent}))
+        refusing = tuple(sorted({place for each in found for place in each.refusing}))
+        return Swept(forgotten, left, absent, sum(each.chunks for each in found), silent, refusing)
 
     def catch_up(self) -> int:
         return sum(self.grid(grid).catch_up() for grid in self.map.grids)

@@ -203,7 +203,6 @@ class ChunkContents(ReadContents):
     def put(self, source: Source, column: int, progress: Callable[[int, int | None], None]) -> InChunks:
         """The content in chunks, which no line names yet. NoRoom, Unanswered, and faults of the source."""
         digest, size = Digest(), 0
-        count = None if source.size is None else -(-source.size // self.most)
 
         def pieces() -> Iterator[bytes]:
             nonlocal size
@@ -219,7 +218,7 @@ class ChunkContents(ReadContents):
                 yield piece
             source.expect_end()
 
-        runs = self.chunks.keep(pieces(), column, lambda done: progress(done, count))
+        runs = self.chunks.keep(pieces(), column, lambda done: progress(done * self.most if source.size is None else min(done * self.most, source.size), source.size))
         return InChunks(size, to_base64(source.sha256 or digest.digest()), runs)
 
     def put_list(self, entries: Iterable[tuple[Part, str]], column: int) -> PartList:
@@ -258,9 +257,9 @@ class ChunkContents(ReadContents):
         with suppress(CarrierFault):
             self.chunks.begin_to_forget()
 
-    def sweep(self, named: Iterable[Part]) -> tuple[int, set[int]]:
+    def sweep(self, named: Iterable[Part]) -> tuple[int, set[int], set[int]]:
         """Has nodes forget all chunks of the session but those that its journals name, all of which it has carried. How many there were, and the places of nodes
-        that did not answer. Nothing that an earlier client sent is kept any more. Damaged, Gone: a list that is named can't be read, and nothing is forgotten."""
+        that did not answer, and of those that told `refused bad`. Nothing that an earlier client sent is kept any more. Damaged, Gone: a list that is named can't be read, and nothing is forgotten."""
         found = Sweep(self, self.new_floor())
         for _ in found.list():
             pass
@@ -285,11 +284,13 @@ class Sweep:
         self.contents, self.chunks, self.floor = contents, contents.chunks, floor
         self.orphans = set[Place]()  # what is listed, and was not spared
         self.silent = set(range(self.chunks.told.nodes))  # places of nodes that did not tell all
+        self.refusing = set[int]()  # those that told `refused bad`
 
     def list(self) -> Iterator[None]:
         """Lists what nodes have, some at a time: of those alone that keep to the floor, since what is late could come to another one behind its list."""
         chunks = self.chunks
         up = chunks.raise_floors(chunks.number, self.floor, sorted(self.silent), chunks.pace.timeout / 2)
+        self.refusing = chunks.refusing
         for place in sorted(up):
             column = place % chunks.shape.columns
             numbers = (number for number in chunks.numbers_at(place, chunks.number) if number <= self.floor)
@@ -306,10 +307,11 @@ class Sweep:
         for run in self.contents.runs_in(named):
             self.orphans.difference_update(run.places())
 
-    def forget(self) -> tuple[int, set[int]]:
-        """Has nodes forget what is left, once all that lines name was spared. How many chunks that were, and the places of nodes that did not answer."""
+    def forget(self) -> tuple[int, set[int], set[int]]:
+        """Has nodes forget what is left, once all that lines name was spared. How many chunks that were, and the places of nodes that did not answer, and of those of
+        these that told `refused bad`."""
         self.chunks.forget(runs_of(sorted(self.orphans)), self.chunks.pace.timeout / 2, self.floor)
-        return len(self.orphans), self.silent
+        return len(self.orphans), self.silent, self.refusing
 
 
 def why_none(contents: ChunkContents | None) -> str:

@@ -80,7 +80,7 @@ class Journals:
             raise BadFile(f"{path}: a line says no fact of a node") from None
         plan.text = b"".join(node.facts.plan)
         self.nodes.append(node)
-        older, newer = sorted((self.plan, plan), key=lambda each: [len(each.tenants), *(len(told.volumes) for told in each.tenants.values())])
+        older, newer = sorted((self.plan, plan), key=Plan.extent)
         if older.tenants and not (older.rows == newer.rows and list(newer.tenants)[: len(older.tenants)] == list(older.tenants)):
             raise BadFile(f"{path}: of another grid than the one before")
         self.plan = newer

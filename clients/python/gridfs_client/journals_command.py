@@ -9,14 +9,16 @@ from contextlib import closing, contextmanager
 from functools import partial
 
 from . import __version__
-from .copies import copy_node, parse_had, take_stream, write_stream
+from .copies import Copied, copy_files, copy_node, copy_state, parse_had, take_stream, write_stream
 from .errors import ClientError, Damaged, NoSuchName, Skipped
+from .grid import listed
+from .holding import open_when_told
 from .journals import Journals
 from .layout import BLOCK
 from .local import INPUT, OUTPUT, complain, content_of, json_of, out, out_lines, standard
 from .mirror import ToFolder, shown
 from .names import NamedFiles
-from .shelves import Shelf, shelf_of
+from .shelves import NodeFiles, Shelf, shelf_of
 from .status import usage_value
 from .usage import Usage, usage_of
 
@@ -33,6 +35,7 @@ examples, on a node's machine and for copies of the journals of nodes 0 and 1, w
   gridfs-journals pages /var/lib/gridfs/0/journal > 0.pages    the little that `room` wants, to be brought elsewhere
   gridfs-journals shelf /var/lib/gridfs/0/journal              what node 0 has of chunks, and what is dead or lacked
   gridfs-journals copy /var/lib/gridfs/0/journal /backup/0     a copy of node 0, which may run, with its chunks
+  gridfs-journals state /backup FOLDER/node*.journal           copies of all nodes of one moment, from which a grid starts
   ssh root@there gridfs-journals copy /var/lib/gridfs/0/journal - | gridfs-journals copy - /backup/0
   gridfs-journals get ann backup 0/journal 1/journal           ann's names, with their contents, into the folder backup
 
@@ -45,6 +48,14 @@ that of the first name which was skipped."""
 COPY = (
     "Copies a node, which may run, into a folder: its journal, and of the folder beside it all that the journal names. "
     "A folder with an earlier copy gets what is new."
+)
+HOLD = (
+    "hold the node from a line `hold` of standard input, which `held` answers, until a line `go`, and copy what it had then: "
+    "what holds all nodes of a grid at once says so. What is there already comes ahead of `hold`"
+)
+STATE = (
+    "Copies all nodes of a grid whose journals are on this machine as they stand at one moment, each into FOLDER/NODE, and their plan. "
+    "They are held for that moment, some milliseconds, and no longer. A grid starts from these copies. A folder with an earlier state gets what is new."
 )
 HAD = "with - for FOLDER: what is there already, a line for each segment with its number and its bytes; - for standard input"
 AS_THEY_ARE = "take pages that are older than others ask for: names that were removed may come back"
@@ -90,9 +101,14 @@ def parser() -> argparse.ArgumentParser:
     sub.set_defaults(call=pages)
     sub = words.add_parser("copy", help="a copy of a node, which may run", description=COPY)
     sub.add_argument("--had", metavar="FILE", help=HAD)
+    sub.add_argument("--hold", action="store_true", help=HOLD)
     sub.add_argument("journal", metavar="JOURNAL", help="or - for a stream from standard input")
     sub.add_argument("folder", metavar="FOLDER", help="or - for a stream to standard output")
     sub.set_defaults(call=copy)
+    sub = words.add_parser("state", help="copies of all nodes, of one moment", description=STATE)
+    sub.add_argument("folder", metavar="FOLDER")
+    sub.add_argument("journals", nargs="+", metavar="JOURNAL")
+    sub.set_defaults(call=state)
     sub = words.add_parser("get", help="a tenant's names into a folder", description="Gets a tenant's names, with their contents, into a folder; gridfs-client mirror puts them back.")
     sub.add_argument("--as-they-are", action="store_true", help=AS_THEY_ARE)
     sub.add_argument("tenant")
@@ -188,17 +204,38 @@ def pages(args: argparse.Namespace) -> None:
 def copy(args: argparse.Namespace) -> None:
     if args.journal == "-":
         out_lines([f"{take_stream(standard(sys.stdin, INPUT), args.folder)} bytes came"])
-        return
-    if args.folder == "-":
-        with content_of(args.had or os.devnull) as had:
-            write_stream(args.journal, standard(sys.stdout, OUTPUT), parse_had(had.read().decode("ascii", "replace")))
-        return
-    made = copy_node(args.journal, args.folder)
-    named = f"{made.journal_bytes} bytes of its journal, {made.named_bytes} of segments"
-    out_lines([f"copied node {made.node}: {named}; {made.copied_bytes} bytes were copied, the others are shared or were there"])
-    if made.lacking:
-        missing = f"{made.lacking} segments are missing beside {args.journal}: their chunks are damaged there"
-        raise Skipped(missing, LACKING)
+    elif args.hold:
+        files, had = open_when_told(args.journal, standard(sys.stdin, INPUT), standard(sys.stdout, OUTPUT))
+        with closing(files):
+            copy_opened(files, args.folder, had)
+    elif args.folder == "-":
+        with content_of(args.had or os.devnull) as listing, closing(NodeFiles(args.journal)) as files:
+            copy_opened(files, "-", listing.read())
+    else:
+        tell_copies([copy_node(args.journal, args.folder)])
+
+
+def copy_opened(files: NodeFiles, folder: str, had: bytes) -> None:
+    if folder == "-":
+        write_stream(files, standard(sys.stdout, OUTPUT), parse_had(had.decode("ascii", "replace")))
+    else:
+        tell_copies([copy_files(files, folder)])
+
+
+def tell_copies(copied: Sequence[Copied]) -> None:
+    for made in copied:
+        named = f"{made.journal_bytes} bytes of its journal, {made.named_bytes} of segments"
+        out_lines([f"copied node {made.node}: {named}; {made.copied_bytes} bytes were copied, the others are shared or were there"])
+    if lacking := [f"{made.lacking} of node {made.node}" for made in copied if made.lacking]:
+        raise Skipped(f"segments are missing, {', '.join(lacking)}: their chunks are damaged there", LACKING)
+
+
+def state(args: argparse.Namespace) -> None:
+    made = copy_state(args.journals, args.folder)
+    out_lines([f"{len(made.copied)} nodes were held for {made.seconds:.3f} s"])
+    tell_copies(made.copied)
+    if made.missing:
+        raise Skipped(f"no journal of places {listed(made.missing)}: a start has to replace the nodes there", LACKING)
 
 
 class FromJournals(ToFolder):

@@ -15,10 +15,10 @@ from pathlib import Path
 from types import TracebackType
 from typing import IO, TypeVar, cast
 
-from .asking import ask_plan
+from .asking import ask_others, ask_plan
 from .layout import layout_of
 from .local import to_target
-from .names import Entry, Listed, NamedFiles
+from .names import Entry, Listed, NamedFiles, time_put
 from .opening import OpenSessions
 from .settings import Settings
 
@@ -36,7 +36,9 @@ class OpenFiles:
     def __init__(self, settings: Settings):
         self._guard, self._carrier = threading.RLock(), settings.carrier()
         try:
+            begun = self._carrier.now()
             told = ask_plan(self._carrier, settings.pace())
+            ask_others(self._carrier, begun, settings.lately_silent())
             layout = layout_of(told)
             self._sessions = OpenSessions(settings, told, self._carrier)
             session = self._sessions.first()
@@ -62,7 +64,7 @@ class OpenFiles:
     def get_to(self, name: str, target: os.PathLike[str] | IO[bytes]) -> Entry:
         """Writes the content of a name to the file at a path, which has its old content or the whole new one, or to an open binary file."""
         if isinstance(target, os.PathLike):
-            return to_target(os.fspath(target), lambda file: self.get_to(name, file))
+            return to_target(os.fspath(target), lambda file: self.get_to(name, file), time_put)
         file = target
         return self._call(lambda files: files.get_to(name, file))
 

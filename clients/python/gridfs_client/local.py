@@ -8,6 +8,7 @@ import re
 import stat
 import sys
 import tempfile
+import time
 import unicodedata
 from collections.abc import Callable, Iterable, Iterator
 from contextlib import contextmanager
@@ -139,9 +140,11 @@ def mode_of_new_files() -> int:
     return 0o666 & ~mask
 
 
-def to_target(path: str, write_to: Callable[[IO[bytes]], Result]) -> Result:
-    """Has a content written to a file, or with `-` to standard output. A file has its old content or the whole new one, and keeps its mode: the
-    new one is written beside it and renamed. A device or a pipe is written itself."""
+def to_target(path: str, write_to: Callable[[IO[bytes]], Result], time_of: Callable[[Result], float] | None = None) -> Result:
+    """Has a content written to a file, or with `-` to standard output. A file has its old content or the whole new
+    one, and keeps its mode: the new one is written beside it and renamed, with the time that is told of what was
+    written. A device or a pipe is written itself.
+    """
     if path == "-":
         with faults_of(OUTPUT):
             target = standard(sys.stdout, OUTPUT)
@@ -152,10 +155,10 @@ def to_target(path: str, write_to: Callable[[IO[bytes]], Result]) -> Result:
     if mode is not None and not stat.S_ISREG(mode):
         with faults_of(path), open(path, "wb") as device:
             return write_to(device)
-    return replace_file(path, mode_of_new_files() if mode is None else stat.S_IMODE(mode) & 0o777, write_to)
+    return replace_file(path, mode_of_new_files() if mode is None else stat.S_IMODE(mode) & 0o777, write_to, time_of)
 
 
-def replace_file(path: str, mode: int, write_to: Callable[[IO[bytes]], Result]) -> Result:
+def replace_file(path: str, mode: int, write_to: Callable[[IO[bytes]], Result], time_of: Callable[[Result], float] | None) -> Result:
     try:
         handle, unfinished = tempfile.mkstemp(prefix=UNFINISHED, dir=Path(path).parent)
     except OSError as fault:
@@ -164,6 +167,8 @@ def replace_file(path: str, mode: int, write_to: Callable[[IO[bytes]], Result]) 
         with faults_of(path), os.fdopen(handle, "wb") as file:
             result = write_to(file)
         os.chmod(unfinished, mode)
+        if time_of:
+            os.utime(unfinished, (time.time(), time_of(result)))
         os.replace(unfinished, path)
         return result
     except BaseException:

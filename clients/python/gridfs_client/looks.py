@@ -125,8 +125,10 @@ class Look:
         return found
 
     def waits_for(self) -> list[int]:
-        """The nodes whose answers are waited for."""
-        return [node for node in self.nodes() if node not in self.answered and self.may_answer(node) and not self.silence.has(self.carrier, node)]
+        """The nodes whose answers are waited for: not those that did not answer what was asked last, where others can settle all."""
+        left = [node for node in self.nodes() if node not in self.answered and self.may_answer(node) and not self.silence.has(self.carrier, node)]
+        heard = [node for node in self.nodes() if not self.carrier.is_unheard(node)]
+        return [node for node in left if node in heard] if len(heard) < len(self.nodes()) and self.can_settle(heard) else left
 
     def has_ended(self) -> bool:
         return not self.left or not self.waits_for()

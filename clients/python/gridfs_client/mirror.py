@@ -1,7 +1,7 @@
 """A folder of this machine and the names with a prefix, of which one is made like the other.
 
 The name of a file is the prefix and the file's path from the folder on. What is the same on both sides, by size and SHA-256, is not moved. What
-can't be mirrored is skipped and told, and nothing is removed because of it. Words beside a content, as those of S3, are kept with its file in an attribute, and count
+can't be mirrored is skipped and told, and nothing is removed because of it. A file that is got has the time at which its content was put. Words beside a content, as those of S3, are kept with its file in an attribute, and count
 as long as the file has that content.
 """
 
@@ -23,8 +23,9 @@ from .contents import PartTold
 from .errors import BadFile, BadName, ClientError, Damaged, NoRoom, NoSuchName, Replaced, SourceChanged, Unanswered
 from .fleet import MAP_NAME, FleetFiles, expect_no_map
 from .local import UNFINISHED, to_target
-from .names import Entry, NamedFiles
+from .names import Entry, NamedFiles, time_put
 from .pages import check_name, check_words
+from .progress import Progress
 
 GRID = "grid:"  # what a prefix begins with, so that no folder is taken for one
 LINK, NO_FILE = "a symbolic link is not followed", "it is not a regular file"
@@ -94,6 +95,14 @@ def is_same(path: str, entry: Entry, parts: Callable[[], Iterable[PartTold]]) ->
             return all(digest_of_next(file, part.size) == part.sha256 for part in parts())
         except OSError as fault:
             raise BadFile(fault.strerror or str(fault)) from None
+
+
+def size_of(path: str) -> int:
+    """The bytes of a file; 0 where nobody knows."""
+    try:
+        return os.path.getsize(path)
+    except OSError:
+        return 0
 
 
 def digest_of_next(file: io.BufferedReader, size: int) -> str:
@@ -233,6 +242,7 @@ class Mirror(abc.ABC):
 
     word = done = ""  # what a move is called that is to be made, and one that was made
     excludes: Sequence[str] = ()  # patterns of what is left alone on both sides
+    progress: Progress | None = None  # told how far it is
 
     def __init__(
         self,
@@ -309,9 +319,18 @@ class Mirror(abc.ABC):
             return False
         return True
 
-    def move(self, names: Iterable[str], work: Callable[[AnyFiles, str], bool]) -> None:
-        """Moves contents; `work` tells whether there was one to move."""
-        for name in self.in_turns(names, work):
+    def move(self, sizes: dict[str, int], work: Callable[[AnyFiles, str], bool]) -> None:
+        """Moves the contents of names, of which it is known about how long they are; `work` tells whether there was one to move."""
+
+        def counted(files: AnyFiles, name: str) -> bool:
+            is_done = work(files, name)
+            if self.progress:
+                self.progress.next(self.word, sizes[name])
+            return is_done
+
+        if self.progress and not self.is_dry:
+            self.progress.expect(len(sizes), sum(sizes.values()))
+        for name in self.in_turns(sizes, counted):
             self.report.moved.append(name)
             self.tell(f"would {self.word}" if self.is_dry else self.done, name)
 
@@ -349,7 +368,7 @@ class ToGrid(Mirror):
         if self.removes and not self.files:
             raise BadFile(f"{self.folder}: no file is there, so no name is removed")
         entries = self.entries()
-        self.move([name for name in self.files if self.is_other(name, entries)], self.put)
+        self.move({name: size_of(self.local(path)) for name, path in self.files.items() if self.is_other(name, entries)}, self.put)
         if self.removes:
             self.remove_all([name for name in entries if self.is_extra(name)])
         return self.report
@@ -424,7 +443,7 @@ class ToFolder(Mirror):
         if not entries:
             raise NoSuchName(f"{GRID}{self.prefix}: no name begins so")
         self.paths = self.find_paths(entries)
-        self.move([name for name in self.paths if self.is_other(entries[name])], self.get)
+        self.move({name: entries[name].size for name in self.paths if self.is_other(entries[name])}, self.get)
         if self.removes and kind_of(self.folder) is not None:
             tree = Tree(self.folder, lambda path, fault: self.skip(self.local(path), fault), self.excludes)
             for path in [path for path in tree.files() if self.is_extra(path, entries)]:
@@ -468,7 +487,7 @@ class ToFolder(Mirror):
             make_folders(self.folder, self.paths[name])
             if kind_of(path) not in (None, stat.S_IFREG):
                 raise BadFile(NO_FILE)
-            entry = to_target(path, lambda target: files.get_to(name, target))
+            entry = to_target(path, lambda target: files.get_to(name, target), time_put)
             self.report.wordless += not keep_words(path, entry.words)
             return True
 

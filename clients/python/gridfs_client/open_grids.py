@@ -6,7 +6,7 @@ from contextlib import ExitStack, closing, contextmanager
 from typing import IO
 
 from .answers import MOST_SESSIONS, PlanTold
-from .asking import LAST_CALL, SILENCE, ask_all, ask_plan
+from .asking import LAST_CALL, SILENCE, ask_all, ask_others, ask_plan
 from .carriers import Carrier
 from .errors import BadSettings, CarrierFault, ClientError, NoSuchName, SessionTaken, Unanswered
 from .fleet import MAP_NAME, FleetFiles, ground_of, in_threads
@@ -14,8 +14,9 @@ from .fleet_map import FleetMap, parse_map
 from .grid import Nodes, listed
 from .layout import Layout, layout_of
 from .local import complain
-from .names import NamedFiles, Progress
+from .names import NamedFiles
 from .opening import AGAIN, OpenSessions, turn_of
+from .progress import Progress
 from .sessions import Session
 from .settings import GROWTH, Settings
 from .ways import Ground, slice_of
@@ -30,7 +31,9 @@ class OpenGrid:
         self.settings = settings
         self.carrier = settings.carrier()
         try:
+            begun = self.carrier.now()
             self.told = ask_plan(self.carrier, settings.pace())
+            ask_others(self.carrier, begun, settings.lately_silent())
             self.layout = layout_of(self.told)
         except BaseException:
             self.carrier.close()

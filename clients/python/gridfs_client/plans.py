@@ -1,4 +1,4 @@
-"""What a plan says, as the program `gridfs plan` tells it: lines of words NAME=VALUE (docs/FORMATS.md, What a plan says).
+"""What a plan says, as the program `gridfs-node plan` tells it: lines of words NAME=VALUE (docs/FORMATS.md, What a plan says).
 
 One parser of a plan's own text is left here, `plan_of`, for where no program is by nature: copies of journals, and a gateway's machine, to which a plan
 was brought. It looks for no faults, since a node took the plan before.
@@ -20,9 +20,9 @@ TOP = os.path.dirname(os.path.dirname(os.path.dirname(os.path.dirname(os.path.re
 
 def program() -> str:
     """The program: $GRIDFS, or the one that is installed with this client, or that of this checkout, or the one on the path."""
-    installed = os.path.join(TOP, "bin", "gridfs")
+    installed = os.path.join(TOP, "bin", "gridfs-node")
     here = os.path.join(TOP, "gridfs")
-    return os.environ.get("GRIDFS") or next((path for path in (installed, here) if os.access(path, os.X_OK) and os.path.isfile(path)), None) or shutil.which("gridfs") or "gridfs"
+    return os.environ.get("GRIDFS") or next((path for path in (installed, here) if os.access(path, os.X_OK) and os.path.isfile(path)), None) or shutil.which("gridfs-node") or "gridfs-node"
 
 
 def words_in(text: str) -> list[Words]:
@@ -64,6 +64,10 @@ class Plan:
     columns: int = 0
     tenants: dict[str, PlanTold] = field(default_factory=dict)
     text: bytes = b""  # with the line of its node
+
+    def extent(self) -> list[int]:
+        """Of two plans of one grid, of which one goes on from the other, the later one has no lesser extent."""
+        return [len(self.tenants), *(len(told.volumes) for told in self.tenants.values())]
 
 
 def plan_of(lines: Sequence[bytes]) -> Plan:

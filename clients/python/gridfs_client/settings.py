@@ -235,9 +235,7 @@ class Settings:
             from .links import LinkCarrier
 
             hosts, authority = self.values.get("hosts", HOSTS), self.values.get("ca-file", AUTHORITY)
-            links = LinkCarrier(tenant, hosts, authority, self.need("certificate"), self.need("key"), patience)
-            links.silent = self.lately_silent()
-            return links
+            return LinkCarrier(tenant, hosts, authority, self.need("certificate"), self.need("key"), patience)
         broker = self.need("broker")
         try:
             from .broker import MqttCarrier

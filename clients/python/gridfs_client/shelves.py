@@ -160,25 +160,44 @@ class NodeFiles:
     line.
     """
 
-    def __init__(self, path: str, tenant: str | None = None, take: Taken = lambda *_: None):
+    def __init__(self, path: str, tenant: str | None = None, take: Taken = lambda *_: None, is_still: bool = False):
+        """Of a node that is still all is opened, and read by `read_opened` once it goes on."""
         self.path, self.folder, self.tenant, self.take = path, folder_of(path), tenant, take
-        self.opened, self.segments = ExitStack(), dict[int, BinaryIO]()
+        self.opened, self.segments, self.end = ExitStack(), dict[int, BinaryIO](), float("inf")
         allow_many_files()
         try:
-            self.read()
+            if is_still:
+                self.open_all()
+                self.end = os.fstat(self.journal.fileno()).st_size
+            else:
+                self.read()
         except BaseException:
             self.close()
             raise
 
+    def open_all(self) -> None:
+        self.open_segments(segments_in(self.folder))
+        self.journal = self.opened.enter_context(open(self.path, "rb"))
+
     def read(self) -> None:
         for _ in range(BEGINNINGS):
-            self.open_segments(segments_in(self.folder))
-            self.journal = self.opened.enter_context(open(self.path, "rb"))
+            self.open_all()
             self.facts = self.read_facts()
-            named = {extent.segment for extent in self.facts.extents() if extent.segment}
+            named = self.named()
             self.open_segments(sorted(named))
             if named <= self.segments.keys() or not self.has_changed():
                 break
+        self.close_others(named)
+
+    def read_opened(self) -> None:
+        self.facts = self.read_facts()
+        self.close_others(self.named())
+
+    def named(self) -> set[int]:
+        """The segments that the journal names."""
+        return {extent.segment for extent in self.facts.extents() if extent.segment}
+
+    def close_others(self, named: set[int]) -> None:
         for number in self.segments.keys() - named:
             self.segments.pop(number).close()
 
@@ -186,6 +205,8 @@ class NodeFiles:
         facts = Facts(self.tenant)
         try:
             for lines, end in sealed(self.journal, self.path):
+                if end > self.end:
+                    break
                 if facts.batch(lines, end):
                     for offset, line in lines:
                         self.take(self.journal, offset, line)

@@ -1,6 +1,7 @@
 """More words of `gridfs-client`: cat, du, df, cp and mv, listings with times, and what shells complete."""
 
 import argparse
+import base64
 import re
 import sys
 import tempfile
@@ -42,8 +43,34 @@ def range_of(word: str) -> tuple[int, int | None]:
     return int(found[1]), None if found[2] is None else int(found[2]) + 1
 
 
+def name_and_file(words: list[str]) -> tuple[str, str]:
+    """A name, and the file for its content: without one standard output."""
+    if len(words) > 2:
+        raise BadSettings("one name is wanted, and perhaps a file")
+    return words[0], words[1] if len(words) > 1 else "-"
+
+
+def targets_of(paths: list[str], name: str) -> dict[str, str]:
+    """The path for each name: the one that is given, or where there are several, or it ends with /, those that begin with it and end with the last part of the path."""
+    if len(paths) == 1 and (paths == ["-"] or not name.endswith("/")):
+        return {name: paths[0]}
+    if not name.endswith("/"):
+        raise BadSettings(f"{name}: several files go to names that begin with it: end it with / (or mirror a folder)")
+    found = dict[str, str]()
+    for path in paths:
+        last = path.rstrip("/").rpartition("/")[2]
+        if last in ("", "-") or name + last in found:
+            raise BadSettings(f"{path}: two of the same last part, {last}, go to one name" if last not in ("", "-") else f"{path}: it has no last part, which could be a name's")
+        found[name + last] = path
+    return found
+
+
 def cat(opened: Any, args: argparse.Namespace) -> None:
     """Tells contents one after another."""
+    if args.json:
+        every = [opened.by_sessions(lambda files, name=name: files.get(name)) for name in args.names]
+        out(json_of([{"name": entry.name, "size": entry.size, "content": base64.b64encode(content).decode()} for content, entry in every]).encode() + b"\n")
+        return
     with faults_of(OUTPUT):
         target = standard(sys.stdout, OUTPUT)
         for name in args.names:

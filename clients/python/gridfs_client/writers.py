@@ -155,11 +155,11 @@ class Writer:
             return range(self.layout.pages)
         return {self.layout.first_before(page) for place in files if (page := self.layout.page_at(*place)) is not None}
 
-    def sweep_chunks(self) -> tuple[int, set[int]]:
-        """Has nodes forget the chunks that no page of the session names, all of which were just carried: how many there were, and the places of nodes that did
-        not answer."""
+    def sweep_chunks(self) -> tuple[int, set[int], set[int]]:
+        """Has nodes forget the chunks that no page of the session names, all of which were just carried: how many there were, the places of nodes that did
+        not answer, and of those of these that told `refused bad`."""
         if self.contents is None or not self.contents.rooms():
-            return 0, set()
+            return 0, set(), set()
         try:
             return self.contents.sweep(part for page in self.journals() for part in page.in_chunks())
         except Gone:
@@ -206,6 +206,6 @@ class Writer:
             part.look(is_fresh=True)
             if not part.is_in_place():
                 self.change(part, part.changed(None))
-        if lines:
+        if lines or bucket.client.seen[self.me - 1].page.lines:  # (who dies between the two writes of clearing has left a page that its journal does not have any more)
             bucket.carry_for_later(splits.cleared(bucket.journal))
         return len(lines)

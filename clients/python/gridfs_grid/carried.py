@@ -265,6 +265,33 @@ class CarriedGrid:
         self.wait_until_ready([new])
         return new
 
+    def roll(self, text, say):
+        """Restarts all nodes with this plan, one after another, each once the one before is linked again."""
+        if down := [number for number in self.nodes if number not in self.processes or self.processes[number].poll() is not None]:
+            raise NotStarted(f"node {down[0]} is down, so none is restarted: see to that first")
+        with open(self.plan, encoding="latin1") as file:
+            before = file.read()
+        keep(self.plan, text)
+        try:
+            self.set_up(*self.words)
+        except NotStarted:
+            keep(self.plan, before)
+            raise
+        self.reload()
+        for number in self.nodes:
+            self.end_node(number)
+            self.start_node(number)
+            self.wait_until_ready([number])
+            say(f"node {number} is up again")
+
+    def end_node(self, number):
+        """Ends a node as a unit does: its carrier ends the node's input."""
+        self.processes[number].terminate()
+        try:
+            self.processes[number].wait(PATIENCE)
+        except subprocess.TimeoutExpired:
+            self.kill_node(number)
+
     def node(self, number):
         """The process of the node itself, below its carrier; None where it is gone."""
         return next(iter(children_of(self.processes[number].pid)), None)

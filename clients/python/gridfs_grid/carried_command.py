@@ -7,8 +7,9 @@ import subprocess
 import tempfile
 import time
 
+from gridfs_grid import rolling
 from gridfs_grid.carrier import journal_of
-from gridfs_grid.one_machine import STAY_DOWN, NotStarted, end, how_ended, how_many_are_up, is_ready, keep_way, look_at, tell, way_out
+from gridfs_grid.one_machine import STAY_DOWN, NotStarted, end, how_ended, how_many_are_up, is_ready, keep_way, look_at, tell, watched, way_out
 from gridfs_grid.options import OF_GRID, expect_free, keep_options
 from gridfs_grid.places import CARRIERS, CLIENT, PLAN, folder_to_start
 from gridfs_grid.planned import planned
@@ -168,11 +169,18 @@ class CarriedCommand:
                 if due.get(name, math.inf) <= time.monotonic():
                     del due[name]
                     grid.start_server(name) if name in grid.SERVERS else grid.start_node(name)
+            rolling.take(grid.folder, lambda text, say: self.roll(grid, text, say))
             if time.time() > next_day:
                 next_day = time.time() + DAY
                 self.renew(grid)
             time.sleep(0.2)
         raise NotStarted("all nodes are down")
+
+    def roll(self, grid, text, say):
+        """Restarts all nodes; new tenants get their settings."""
+        grid.roll(text, say)
+        for name in self.tenants(grid):
+            grid.write_settings(name)
 
     def renew(self, grid):
         try:
@@ -209,7 +217,8 @@ class CarriedCommand:
                 up = sum(number in grid.processes for number in grid.nodes)
                 tell(f"{how_many_are_up(up, grid.count)}, in {grid.folder}. Now for instance:")
                 print(f"{os.path.relpath(CLIENT)} --config {os.path.join(grid.folder, f'{self.tenant_of_names(grid)}.ini')} status", flush=True)
-                self.look_after(grid)
+                with watched(asked, grid.folder):
+                    self.look_after(grid)
             except NotStarted as fault:
                 tell(fault)
                 return 1

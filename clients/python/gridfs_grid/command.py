@@ -9,9 +9,13 @@
                         mqtt    a broker, mosquitto, with nginx before it (docs/MACHINES.md has its packages)
     --s3              with an endpoint of S3: a gateway for each tenant with names, and nginx before them (docs/S3.md). A later
                       start has it too, unless it is told --no-s3
-    --plan FILE       the plan of a first start: who may store how much. Without it tenants ann, bob and carol, who has 10 GiB
-                      on disk. Later a plan that goes on from the last one (docs/OPERATING.md, Grow)
+    --plan FILE       the plan of a first start: who may store how much. Without it tenants ann, bob and carol keep names: carol has
+                      10 GiB on disk, the others one. Later a plan that goes on from the last one (docs/OPERATING.md, Grow)
     --replace N       node N was lost with its journal: a new node, N + 64, takes its place (docs/FAULTS.md)
+    --http ADDRESS:PORT  a page for a browser and metrics of the grid, as long as it runs: which nodes are silent, the room of each tenant,
+                      what to do (clients/python/gridfs-watch, which shows other grids too)
+    --roll            restarts the nodes of the grid that runs in the folder, one after another, so that clients go on: with another plan
+                      of --plan, or a program that was replaced
     --kill N          kills node N of the grid that runs in the folder (kill -9), to see what comes of it
     --program FILE    the program `gridfs` ($GRIDFS, or else the one of this checkout, which is built at first, in two to four minutes)
 
@@ -23,7 +27,7 @@
     over mqtt         --tls WHERE it ends: front (nginx), broker or none; --rate BYTES that a connection may send a second (2m)
     with --s3         --listen ADDRESS:PORT of the endpoint (127.0.0.1:9000); --gateways N for each tenant (1)
 
-FOLDER remembers these options, but for --plan, --replace, --kill, --program and --lines: a later start without one takes what the last one had.
+FOLDER remembers these options, but for --plan, --replace, --roll, --kill, --program and --lines: a later start without one takes what the last one had.
 
 FOLDER gets NAME.ini for each tenant: the settings of clients/python/gridfs-client. With --s3 these are in FOLDER/grid, unless the grid was there
 before, and FOLDER/s3 has the access keys, and settings of s3cmd and rclone. One grid at a time runs in a folder. Over links and mqtt, and with S3,
@@ -37,7 +41,7 @@ import re
 import signal
 import sys
 
-from gridfs_grid import links, mqtt, pipes
+from gridfs_grid import links, mqtt, pipes, rolling
 from gridfs_grid.one_machine import NotStarted, begin, kept_way, processes_of, tell
 from gridfs_grid.options import OF_GRID, OF_S3, expect_own_folder, take_kept
 from gridfs_grid.places import PROGRAM, folder_of_grid
@@ -46,7 +50,7 @@ WAYS = {"pipes": pipes.Command, "links": links.Command, "mqtt": mqtt.Command}
 USAGE = "./grid [--over pipes|links|mqtt] [--s3] [--plan FILE] [--replace N] [OPTION..] (FOLDER | try)"
 GRID = r"[a-z][a-z0-9]{0,15}"
 # Options that only some ways have.
-ONLY = {"tick": ["pipes"], "port": ["links", "mqtt"], "metrics": ["links", "mqtt"], "grid": ["links", "mqtt"], "tls": ["mqtt"], "rate": ["mqtt"]}
+ONLY = {"http": list(WAYS), "tick": ["pipes"], "port": ["links", "mqtt"], "metrics": ["links", "mqtt"], "grid": ["links", "mqtt"], "tls": ["mqtt"], "rate": ["mqtt"]}
 
 
 def parser():
@@ -60,11 +64,13 @@ def parser():
     it.add_argument("--program", default=os.environ.get("GRIDFS") or PROGRAM)
     it.add_argument("--replace", type=int)
     it.add_argument("--kill", type=int)
+    it.add_argument("--roll", action="store_true")
     it.add_argument("--lines", action="store_true")
     it.add_argument("--serve", dest="lines", action="store_false")
     it.add_argument("--tick", type=float)
     it.add_argument("--port", type=int)
     it.add_argument("--metrics")
+    it.add_argument("--http")
     it.add_argument("--grid")
     it.add_argument("--tls", choices=("front", "broker", "none"))
     it.add_argument("--rate")
@@ -135,6 +141,12 @@ def run(words):
         return 1
     if asked.kill is not None:
         return kill_node(folder_of_grid(asked.folder, asked.s3), asked.kill)
+    if asked.roll:
+        try:
+            return rolling.ask(folder_of_grid(asked.folder, asked.s3), os.path.abspath(asked.program), asked.plan)
+        except NotStarted as fault:
+            tell(fault)
+            return 1
     if asked.s3:
         from gridfs_grid import s3  # (whose gateway wants more packages)
 

@@ -10,6 +10,7 @@ import subprocess
 import sys
 
 from gridfs_grid.carrier import journal_of
+from gridfs_grid.places import WATCH
 
 START, READ = 15, 1 << 21  # seconds in which a node has to be ready, and bytes of its journal that it reads in one more
 DAMAGED = 4  # the status of a node whose journal is damaged
@@ -146,6 +147,21 @@ def keep(path, text):
 def with_loss(plan, place):
     """The text of a plan that says besides that a node was lost at this place."""
     return plan + "\n" * (not plan.endswith("\n")) + f"replace {place}\n"
+
+
+@contextlib.contextmanager
+def watched(asked, folder):
+    """As long as the grid runs, gridfs-watch shows it at the address that is asked for, if any."""
+    if not asked.http:
+        yield
+        return
+    words = [sys.executable, "-B", WATCH, "--listen", asked.http, *(["--metrics", asked.metrics] if asked.metrics else []), folder]
+    process = subprocess.Popen(words, stdin=subprocess.DEVNULL, preexec_fn=os.setpgrp)
+    try:
+        yield
+    finally:
+        process.terminate()
+        process.wait()
 
 
 def is_ready(number, told):

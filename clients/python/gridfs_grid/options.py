@@ -8,10 +8,10 @@ import socket
 from gridfs_grid.one_machine import NotStarted
 
 FILE = "options"
-OF_GRID = {"tick": float, "port": int, "metrics": str, "grid": str, "tls": str, "rate": str}  # in the folder of the grid's own files
+OF_GRID = {"http": str, "tick": float, "port": int, "metrics": str, "grid": str, "tls": str, "rate": str}  # in the folder of the grid's own files
 OF_S3 = {"listen": str, "gateways": int}  # in the folder `s3`
 # What a start leaves, also one that failed; and what a file system has by itself.
-OF_A_START = ("plan", "plan.new", "over", "begun", FILE, "socket", "node*.journal*", "log.*", "*.ini", "links", "broker", "grid", "s3", "lost+found")
+OF_A_START = ("plan", "plan.new", "over", "begun", FILE, "socket", "node*.journal*", "log.*", "roll", "rolled", "*.ini", "links", "broker", "grid", "s3", "lost+found")
 
 
 def kept_options(folder, kinds):

@@ -7,9 +7,10 @@ import subprocess
 import tempfile
 import time
 
+from gridfs_grid import rolling
 from gridfs_grid.callers import Callers
 from gridfs_grid.carrier import Carrier, Node, journal_of
-from gridfs_grid.one_machine import DAMAGED, STAY_DOWN, NotStarted, end, how_ended, how_many_are_up, keep, keep_way, lock, look_at, remove_journal, seconds_to_start, tell, way_out, with_loss, write_settings
+from gridfs_grid.one_machine import DAMAGED, STAY_DOWN, NotStarted, end, how_ended, how_many_are_up, keep, keep_way, lock, look_at, remove_journal, seconds_to_start, tell, watched, way_out, with_loss, write_settings
 from gridfs_grid.options import OF_GRID, keep_options
 from gridfs_grid.places import PLAN, folder_to_start
 from gridfs_grid.planned import planned
@@ -66,8 +67,7 @@ class Grid:
         except OSError as error:
             raise Fault(f"{self.plan}: {error.strerror}") from error
         told = self.take_plan(text)
-        self.longest = told.longest - MORE
-        self.carrier.carry_lines_of(told.longest, self.tick or tick_of(told.longest, TICK), self.tick or tick_of(told.longest_letter, TICK))
+        self.use_lines_of(told)
         for number in told.nodes:
             self.add_node(number)
         if not any(node.child for node in self.carrier.nodes):
@@ -76,6 +76,11 @@ class Grid:
         self.is_new = False
         for node in self.carrier.nodes:
             node.plan = self.kept
+
+    def use_lines_of(self, told):
+        """Lines may be as long as a plan has them."""
+        self.longest = told.longest - MORE
+        self.carrier.carry_lines_of(told.longest, self.tick or tick_of(told.longest, TICK), self.tick or tick_of(told.longest_letter, TICK))
 
     def take_plan(self, text):
         """What the program tells of the plan. Fault with what it says where it is none."""
@@ -88,10 +93,13 @@ class Grid:
         path = os.path.abspath(os.path.join(self.folder, "socket"))
         try:
             self.carrier.callers = Callers(path, self.carrier.send)
-            for name in {name for name, _ in self.homes}:
-                write_settings(self.folder, name, self.shape, {"socket": path})
+            self.write_all_settings()
         except OSError as error:
             raise Fault(f"{path}: {error.strerror or error}") from error
+
+    def write_all_settings(self):
+        for name in {name for name, _ in self.homes}:
+            write_settings(self.folder, name, self.shape, {"socket": os.path.abspath(os.path.join(self.folder, "socket"))})
 
     def add_node(self, number):
         """Starts a node. One whose journal is gone or damaged stays down, and the others go on without it."""
@@ -248,6 +256,19 @@ class Grid:
         self.take_plan(text)
         return node
 
+    def roll(self, text, say):
+        """Restarts all nodes with this plan, one after another."""
+        if down := [node.number for node in self.carrier.nodes if not node.child]:
+            raise Fault(f"node {down[0]} is down, so none is restarted: see to that first")
+        keep(self.kept, text)
+        told = self.take_plan(text)
+        self.use_lines_of(told)
+        for node in self.carrier.nodes:
+            node.gone()
+            self.start_node(node)
+            say(f"node {node.number} is up again")
+        self.write_all_settings()
+
     def replace_lost(self, number):
         """The same at a start, of a node that is down."""
         node = self.carrier.node(number)
@@ -292,6 +313,7 @@ def serve(grid):
     tell(f"{grid.how_many_are_up()}, for clients at {grid.carrier.callers.path}")
     while any(node.child for node in grid.carrier.nodes):
         grid.turn(0.1)
+        rolling.take(grid.folder, grid.roll)
     raise Fault("all nodes are down")
 
 
@@ -336,7 +358,8 @@ class Command:
                 keep_way(folder, "pipes")
                 keep_options(folder, asked, OF_GRID)
                 if not asked.lines:
-                    return serve(grid)
+                    with watched(asked, folder):
+                        return serve(grid)
                 talk = Talk(grid)
                 grid.told = talk.tell
                 return talk.talk()

@@ -7,6 +7,7 @@ CLIENT = os.path.join(TOP, "clients", "python", "gridfs-client")
 PROGRAM = os.path.join(TOP, "gridfs")
 PLAN = os.path.join(TOP, "examples", "nodes", "plan-in-chunks")  # of a first start, where none is named
 S3_PLAN = os.path.join(TOP, "deploy", "s3", "plan")
+WATCH = os.path.join(TOP, "clients", "python", "gridfs-watch")
 GATEWAY = os.path.join(TOP, "clients", "python", "gridfs-s3")
 CARRIERS = os.path.join(TOP, "deploy", "carrier")
 COMMAND = os.path.join(TOP, "grid")

@@ -26,7 +26,7 @@ from gridfs_s3.front import instances_of, nginx_conf, tenants_of, write_for
 os.environ["PATH"] += ":/usr/sbin"  # (where Debian has nginx)
 STARTED, ENDED = 300, 40  # seconds in which a process has to be up, and to end
 LISTEN = "127.0.0.1:9000"
-PASSED_ON = ("port", "replace", "tick", "metrics", "grid", "tls", "rate")  # words that are the grid's own
+PASSED_ON = ("http", "port", "replace", "tick", "metrics", "grid", "tls", "rate")  # words that are the grid's own
 
 
 class All:

@@ -1,6 +1,6 @@
 """The lifecycles that buckets are given, and the looks by which what has expired goes.
 
-A look removes nothing of which the gateway is not sure: an object only where it is still as it was seen, and only while the clock is one that clients agree with.
+A look removes nothing of which the gateway is not sure: an object only where it is still as it was seen, and only while the clock is one that clients and nodes agree with.
 Rules that are taken back are in force for two seconds more at most. `x-amz-expiration` is not told.
 """
 
@@ -117,6 +117,8 @@ class Lifecycles(Operations):
         if doubt := clock.doubt():
             tell(f"what has expired stays for now: {doubt}")
             return gone
+        if others := clock.others():
+            tell(f"what has expired goes by this machine's clock, as most nodes have it; {', '.join(others)}")
         if not self.grids.has_all and any(rule.is_enabled and rule.has_objects_go for found in in_force.values() for rule in found.rules):
             tell("objects that have expired stay: that they go needs a gateway that has all sessions of its tenant")
         wanted = await self.gateway.all(lambda every: list(self.expired(every, in_force, now)))

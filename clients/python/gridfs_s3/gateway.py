@@ -84,7 +84,7 @@ class Gateway:
         self.grids, self.tenant, self.keys, self.domain = grids, tenant, keys, domain
         self.region, self.region_is_told = region or "us-east-1", region is not None
         self.known_buckets: dict[str, tuple[float, str]] = {}  # when they were seen, and the state of their versions
-        self.clock = Clock()
+        self.clock = Clock(nodes=grids.clocks)
         self.places, self.documents = Places(), asyncio.Semaphore(IN_HAND)
         self.parsing = ThreadPoolExecutor(2, "documents")  # (which bodies don't wait for)
         self.in_memory = 0  # gets whose answer may be in memory though it is not short

@@ -137,6 +137,10 @@ class Grids:
     def workers(self) -> int:
         return sum(len(pool.workers) for pool in self.pools.values())
 
+    def clocks(self) -> dict[str, float]:
+        """By how many seconds the clock of each node is ahead of this machine's, of those that told it a moment ago."""
+        return {f"{pool.named()}node {node}": ahead for pool in self.pools.values() for node, ahead in pool.clocks().items()}
+
     def has_session(self, number: int) -> bool:
         return any(number in pool.workers for pool in self.pools.values())
 

@@ -2,6 +2,7 @@
 
 from prometheus_client import CollectorRegistry, Counter, Gauge, Histogram, generate_latest
 
+from .clocks import Clock
 from .grids import Grids
 from .sessions import Pool
 
@@ -20,6 +21,9 @@ chunks = Gauge("gridfs_s3_chunk_bytes", "Bytes of chunks at all columns, as node
 pages = Gauge("gridfs_s3_fullest_page_ratio", "How full the fullest page is that is known: at 1 a put is refused", ["tenant", "grid"], registry=registry)
 sessions = Gauge("gridfs_s3_sessions", "Sessions: all, busy, or with a home that is silent", ["tenant", "state", "grid"], registry=registry)
 others = Gauge("gridfs_s3_peers", "Gateways of the tenant that are asked at addresses: all, or those that told nothing when they were asked last", ["tenant", "state", "grid"], registry=registry)
+skew = Gauge("gridfs_s3_refused_clock_seconds", "By how much the clock of the last client was ahead that was refused for its time", TENANT, registry=registry)
+clocks = Gauge("gridfs_s3_clock_ahead_seconds", "By how much this machine's clock is ahead of a node's, as that told it last", ["tenant", "grid", "node"], registry=registry)
+doubts = Gauge("gridfs_s3_age_doubted", "1 while nothing expires, since age can't be told by this machine's clock", TENANT, registry=registry)
 waiting = Gauge("gridfs_s3_waiting", "Requests that wait for a session", ["tenant", "grid"], registry=registry)
 
 
@@ -28,9 +32,13 @@ def fullest(pool: Pool) -> float:
     return pool.shared.index.fullest / pool.layout.contents_room if pool.is_open else 0
 
 
-def text(tenant: str, grids: Grids) -> bytes:
+def text(tenant: str, grids: Grids, clock: Clock) -> bytes:
     """All that is counted, in Prometheus' form."""
+    doubts.labels(tenant).set(clock.doubt() is not None)
+    clocks.clear()
     for grid, pool in grids.pools.items():
+        for node, ahead in pool.clocks().items():
+            clocks.labels(tenant, grid, str(node)).set(round(-ahead))
         used, left = pool.in_chunks
         chunks.labels(tenant, "used", grid).set(used)
         chunks.labels(tenant, "left", grid).set(left)

@@ -8,6 +8,7 @@ import signal
 import socket
 import sqlite3
 import stat
+import sys
 from collections.abc import Sequence
 from pathlib import Path
 from typing import TYPE_CHECKING
@@ -21,6 +22,7 @@ if TYPE_CHECKING:
     from .routes import Endpoint
 
 
+UNUSABLE = 2  # the status where settings, keys or certificates can't be read: a unit does not start it again
 DESCRIPTORS = 8_192  # of connections, files and sockets that a gateway may have open
 
 
@@ -51,7 +53,7 @@ class Listener:
 
 async def serve(asked: argparse.Namespace) -> None:
     """Runs until a signal ends it. A SystemExit where it can't start."""
-    from gridfs_client.errors import ClientError
+    from gridfs_client.errors import BadSettings, ClientError, UnusableFile
     from gridfs_client.settings import Settings
 
     from .connections import Server
@@ -70,7 +72,10 @@ async def serve(asked: argparse.Namespace) -> None:
         tenant = grids.tenant
         keys = read_keys(asked.keys, tenant)
         await grids.open()
-    except (ClientError, BadKeys) as fault:
+    except (BadSettings, UnusableFile, BadKeys) as fault:
+        print(f"gridfs-s3: {fault}", file=sys.stderr, flush=True)
+        raise SystemExit(UNUSABLE) from None
+    except ClientError as fault:
         raise SystemExit(f"gridfs-s3: {fault}") from None
     except sqlite3.Error as fault:
         raise SystemExit(f"gridfs-s3: {asked.index}: {fault}") from None

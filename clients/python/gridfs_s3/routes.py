@@ -85,6 +85,9 @@ class Change:
         return "x-amz-copy-source" in self.headers
 
 
+CLOCK_TOLD = 600.0  # seconds from one line about clients' clocks to the next
+
+
 class Endpoint:
     """The operations of one tenant's gateway."""
 
@@ -99,6 +102,7 @@ class Endpoint:
         self.lifecycles, self.cors, self.policies = Lifecycles(self.buckets, self.given), Cors(gateway, self.given), Policies(gateway, self.given)
         self.page = Page(gateway, self.listings)
         self.under_way, self.is_ending, self.is_over = 0, False, False
+        self.clock_told = -CLOCK_TOLD  # when it was told last that a client's clock is off from this one
 
     async def handle(self, request: web.BaseRequest) -> web.StreamResponse:
         """The answer to a request, with what is counted of it."""
@@ -143,7 +147,7 @@ class Endpoint:
             asked.operation = "Metrics"
             if "x-forwarded-for" in asked.headers:
                 raise S3Error("AccessDenied", "Metrics are for this machine alone.")
-            return answer(metrics.text(self.tenant, self.gateway.grids), kind=metrics.KIND)
+            return answer(metrics.text(self.tenant, self.gateway.grids, self.gateway.clock), kind=metrics.KIND)
         if asked.path in ALIVE and asked.method in READS:
             asked.operation = "Health"
             return answer(kind="text/plain")
@@ -175,12 +179,22 @@ class Endpoint:
         except S3Error as fault:
             if fault.code == "RequestTimeTooSkewed":
                 with suppress(S3Error):
-                    signing.check(*words, now=signing.seconds_of(asked.headers["x-amz-date"], fault.code))
+                    seconds = signing.seconds_of(asked.headers["x-amz-date"], fault.code)
+                    signing.check(*words, now=seconds)
                     self.gateway.clock.is_refuted()  # (a key signed it, at that time)
+                    self.tell_clock(seconds)
             raise
         if not asked.by_anybody:
             self.gateway.clock.is_confirmed()
         return signed
+
+    def tell_clock(self, seconds: float) -> None:
+        """A client that has a key was refused, since its clock is off from this one: told at most once in ten minutes."""
+        ahead = seconds - time.time()
+        metrics.skew.labels(self.gateway.tenant).set(ahead)
+        if time.monotonic() >= self.clock_told + CLOCK_TOLD:
+            self.clock_told = time.monotonic()
+            tell(f"{self.gateway.tenant}: a client is refused (403 RequestTimeTooSkewed), whose clock is {abs(ahead):.0f} seconds {'ahead of' if ahead > 0 else 'behind'} this machine's: set the one that is wrong")
 
     def is_signed(self, asked: Asked) -> bool:
         return "authorization" in asked.headers or "X-Amz-Signature" in asked.query or "Signature" in asked.query

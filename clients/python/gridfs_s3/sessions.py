@@ -15,7 +15,7 @@ from gridfs_client.asking import ask_plan
 from gridfs_client.carriers import Carrier
 from gridfs_client.core import Page
 from gridfs_client.ends import End, read_end, write_end
-from gridfs_client.errors import BadSettings, CarrierFault, ClientError, SessionTaken, Unanswered
+from gridfs_client.errors import BadSettings, CarrierFault, ClientError, SessionTaken, Unanswered, UnusableFile
 from gridfs_client.fleet_map import Move
 from gridfs_client.in_chunks import ChunkContents, why_none
 from gridfs_client.layout import Layout, layout_of
@@ -39,8 +39,10 @@ from .workers import RETRY, Lending, Turn, Wanted, Who, Worker, who_asks
 
 Told = TypeVar("Told")
 TIDY = 30.0  # seconds
+BEFORE, PAGES_BEFORE = 0.5, 2  # seconds for which a change waits until its page is settled; pages that are at a time for that
 TRIES = 60  # of settling a page by a session whose home is silent
 LOOK = 0.1  # seconds between looks at what other commands want
+TOLD_FOR = 60.0  # seconds for which a node's clock goes on as it told it
 COLLECTIONS = 700, 10, 100  # thresholds of Python's collections of cycles: full ones are ten times as seldom as it has them
 
 
@@ -69,7 +71,7 @@ class Pool:
         self.claims = Claims(settings, lambda claim, answer: self.loop.call_soon_threadsafe(self.loop.add_reader, claim, answer), self.all_pages.meet)
         self.going_on, self.growing, self.sweeps = GoingOn(self), Growing(self), Sweeps(self)
         self.asking = asyncio.Lock()  # of who asks all nodes: what they tell of no session is kept for one who asks
-        self.settling = asyncio.Semaphore()  # so that requests find a session
+        self.settling, self.before = asyncio.Semaphore(), asyncio.Semaphore(PAGES_BEFORE)  # so that requests find a session
         self.has_begun = False  # to see to what earlier clients left
         self.tidied: set[int] = set()  # numbers of sessions whose pages are being settled
         self.asked = 0.0  # when somebody asked for something last
@@ -125,7 +127,7 @@ class Pool:
             await self.loop.run_in_executor(self.threads, self.open)
             if others := self.claims.told():
                 tell(f"{self.named()}not all sessions can be had: {others}")
-        except BadSettings:
+        except (BadSettings, UnusableFile):
             raise
         except ClientError as fault:
             self.fault = fault
@@ -162,6 +164,13 @@ class Pool:
         """The bytes of chunks, and those for which there is room, as nodes told them some seconds ago."""
         contents = self.chunk_contents()
         return contents.chunks.room_told() if contents else (0, 0)
+
+    def clocks(self) -> dict[int, float]:
+        """By how many seconds the clock of each node is ahead of this machine's, of those that told it a moment ago."""
+        if not self.carrier:
+            return {}
+        since = self.carrier.now() - TOLD_FOR
+        return {node: ahead for node, ahead in sorted(self.carrier.clocks.items()) if self.carrier.heard.get(node, since) > since}
 
     def chunk_contents(self) -> ChunkContents | None:
         """Those of some session, where it is said how the nodes are arranged."""
@@ -231,6 +240,8 @@ class Pool:
             return
         fitting = [wanted for wanted in self.waiting if wanted.number in (None, worker.number) and not wanted.future.done()]
         if fitting:
+            # (By turns of those who want this one, and those who want any: else what settles pages would have all.)
+            fitting = [wanted for wanted in fitting if (wanted.number is None) == worker.was_named] or fitting
             # (the first of those who have fewest: so much as one asks for, others wait for one of his requests only)
             has, by_key = Counter[Who](), Counter[str]()
             for each in self.workers.values():
@@ -239,7 +250,7 @@ class Pool:
                     by_key[each.who[0]] += 1
             wanted = min(fitting, key=lambda wanted: (by_key[wanted.who[0]], has[wanted.who]) if wanted.number is None else (0, 0))
             self.waiting.remove(wanted)
-            worker.is_busy, worker.who = True, wanted.who
+            worker.is_busy, worker.who, worker.was_named = True, wanted.who, wanted.number is not None
             wanted.future.set_result(worker)
 
     def idle(self) -> list[Worker]:
@@ -447,13 +458,27 @@ class Pool:
     # Pages
 
     async def settle_before(self, name: str) -> None:
-        """Before the first change on a page: what an earlier gateway left under way there ends, where its session's home answers."""
+        """Before the first change on a page: what an earlier gateway left under way there ends, where its session's home answers soon. Each page takes all
+        sessions, so many changes of many pages would wait for one another. (What is left has a lower version, as far as clocks agree.)"""
         page = self.page_of(name)
         if page not in self.begun:
-            self.begun[page] = self.loop.create_task(self.settle(page))
+            self.begun[page] = self.spawn(self.settle_in_turn(page))
         if not self.begun[page].done():
+            await asyncio.wait([self.begun[page]], timeout=BEFORE)
+
+    async def settle_in_turn(self, page: int) -> None:
+        """The same of few pages at a time. Who has no turn soon leaves it to a later change, or to what settles all pages."""
+        try:
+            async with asyncio.timeout(BEFORE):
+                await self.before.acquire()
+        except asyncio.TimeoutError:
+            self.begun.pop(page)
+            return
+        try:
             with suppress(ClientError):
-                await asyncio.shield(self.begun[page])
+                await self.settle(page)
+        finally:
+            self.before.release()
 
     async def settle(self, page: int) -> None:
         """Sees that nothing that earlier clients of these sessions wrote can come into a page any more: by each that is here and whose home answers, side by

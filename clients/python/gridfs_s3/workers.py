@@ -72,6 +72,7 @@ class Worker:
         self.store: Store
         self.is_busy, self.is_silent = False, False
         self.who: Who = ("", "")  # for whom somebody works by it
+        self.was_named = False  # somebody waited for it by its number, and for no other one
         self.is_lent = False  # to another command of this machine, or about to be
         self.settled_when_lent: AllBut | Collection[int] = ()  # the pages into which nothing could come, until it is had again
         self.index_when_lent = 0  # which beginning of the index had them

@@ -83,7 +83,7 @@ pub enum CellRefused {
     /// The file is not there.
     #[error("no such file")]
     File,
-    /// The content is longer than the blocks of the file: [`gq_pool::BLOCK_BYTES`] bytes for each.
+    /// The content is longer than the blocks of the file: [`gq_tag::BLOCK_BYTES`] bytes for each.
     #[error("content over the file's limit")]
     Long,
     /// Memory is wanting.

@@ -2,7 +2,7 @@
 use Rattle.std.proofs.Common.{◌≡◌, ℕ, List, ◌∷◌, Some, refl}
 use Rattle.std.specs.Prelude.{option_map}
 use Rattle.gq_desk.specs.CheckedPlan.{CheckedPlan}
-use Rattle.gq_text.specs.Words.{Word}
+use Rattle.gq_lines.specs.Words.{Word}
 use Rattle.gq_text.specs.Input.{place_named}
 use Rattle.gq_chunks.specs.Facts.{own_fact_by, chunk_fact_of_words}
 use Rattle.gq_depot.specs.declared.fact.ChunkFact.{ChunkFact}

@@ -3,7 +3,7 @@ use Rattle.std.proofs.Common.{◌≡◌, ◌∙◌, ℕ, List, [], ◌∷◌, Bo
 use Rattle.std.specs.Prelude.{◌%◌, ◌*◌, ◌==◌, ◌&&◌, not, nat_le, nat_lt, codes, decimal, slice_get, MatchBool, if◌then◌else◌}
 use Rattle.std.proofs.lemmas.Bool.{and_parts, true≢false}
 use Rattle.gq_desk.specs.CheckedPlan.{CheckedPlan}
-use Rattle.gq_text.specs.Words.{Word, number_of}
+use Rattle.gq_lines.specs.Words.{Word, number_of}
 use Rattle.gq_text.specs.Input.{place_named}
 use Rattle.gq_wire.specs.Incoming.{is_to, is_tick}
 use Rattle.gq_node.specs.Sites.{plan_in}

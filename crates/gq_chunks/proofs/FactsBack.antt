@@ -3,12 +3,12 @@ use Rattle.std.proofs.Common.{◌≡◌, ℕ, ◌<◌, ◌^◌, List, ◌∷◌,
 use Rattle.gq_shelf.specs.declared.place.Place.{Place}
 use Rattle.gq_shelf.specs.declared.place.Place.TheVariants.{Fresh, Shelved}
 use Rattle.gq_desk.specs.CheckedPlan.{CheckedPlan, row_at}
-use Rattle.gq_text.specs.AnswerText.{spaced}
+use Rattle.gq_lines.specs.Written.{spaced}
 use Rattle.gq_text.specs.Canonical.{IsPlan}
-use Rattle.gq_text.proofs.Contents.{bytes_back}
-use Rattle.gq_text.proofs.Numbers.{numbers_read_back, long_numbers_read_back}
-use Rattle.gq_text.proofs.Plain.{is_plain, are_plain, decimal_plain, long_plain, bytes_plain, line_inner}
-use Rattle.gq_text.proofs.LinesBack.{words_back}
+use Rattle.gq_lines.proofs.Contents.{bytes_back}
+use Rattle.gq_lines.proofs.Numbers.{numbers_read_back, long_numbers_read_back}
+use Rattle.gq_lines.proofs.Plain.{is_plain, are_plain, decimal_plain, long_plain, bytes_plain, line_inner}
+use Rattle.gq_lines.proofs.LinesBack.{words_back}
 use Rattle.gq_wire.proofs.ValuesBack.{name_is_plain, place_back}
 use Rattle.gq_journal.specs.Batches.{is_one_line, is_sealing}
 use Rattle.gq_chunks.specs.Facts.{sure_digit, sure_of, place_verb, place_words, verb_of, own_words, chunk_fact_line, chunk_fact_of_words, own_fact_by}

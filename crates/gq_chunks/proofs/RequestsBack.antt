@@ -2,11 +2,11 @@
 use Rattle.std.proofs.Common.{◌≡◌, ℕ, ◌<◌, ◌≤◌, ◌^◌, List, [], ◌∷◌, Some, true, refl, ap, ◌∙◌, arith}
 use Rattle.std.proofs.lemmas.Bool.{le-ltb, and_parts}
 use Rattle.gq_quote.proofs.Quoting.{bytes_read_back, bytes_are_a_word}
-use Rattle.gq_text.specs.Words.{Word, words_after}
-use Rattle.gq_text.specs.AnswerText.{spaced}
-use Rattle.gq_text.proofs.Numbers.{numbers_read_back, long_numbers_read_back}
-use Rattle.gq_text.proofs.Plain.{is_plain, are_plain, decimal_plain, long_plain}
-use Rattle.gq_text.proofs.LinesBack.{words_back}
+use Rattle.gq_lines.specs.Words.{Word, words_after}
+use Rattle.gq_lines.specs.Written.{spaced}
+use Rattle.gq_lines.proofs.Numbers.{numbers_read_back, long_numbers_read_back}
+use Rattle.gq_lines.proofs.Plain.{is_plain, are_plain, decimal_plain, long_plain}
+use Rattle.gq_lines.proofs.LinesBack.{words_back}
 use Rattle.gq_chunks.specs.Requests.{quoted_word, request_words, chunk_request_by}
 use Rattle.gq_chunks.specs.Laws.{FitsRequest, RequestsReadBack}
 use Rattle.gq_depot.specs.declared.request.ChunkRequest.{ChunkRequest}

@@ -3,11 +3,11 @@ use Rattle.std.proofs.Common.{◌≡◌, ◌<◌, ◌^◌, ℕ, List, [], ◌∷
 use Rattle.std.specs.Prelude.{if◌then◌else◌}
 use Rattle.std.proofs.lemmas.Bool.{and_parts}
 use Rattle.std.proofs.lemmas.Option.{same_Some}
-use Rattle.gq_text.specs.Words.{Word, words_after, long_number_of}
-use Rattle.gq_text.specs.AnswerText.{spaced, bytes_word}
-use Rattle.gq_text.proofs.Numbers.{numbers_read_back, long_numbers_read_back}
-use Rattle.gq_text.proofs.Plain.{is_plain, are_plain, decimal_plain, long_plain, bytes_plain}
-use Rattle.gq_text.proofs.LinesBack.{words_back}
+use Rattle.gq_lines.specs.Words.{Word, words_after, long_number_of}
+use Rattle.gq_lines.specs.Written.{spaced, bytes_word}
+use Rattle.gq_lines.proofs.Numbers.{numbers_read_back, long_numbers_read_back}
+use Rattle.gq_lines.proofs.Plain.{is_plain, are_plain, decimal_plain, long_plain, bytes_plain}
+use Rattle.gq_lines.proofs.LinesBack.{words_back}
 use Rattle.gq_quote.proofs.Quoting.{bytes_are_a_word}
 use Rattle.gq_depot.specs.declared.answer.ListedChunk.{ListedChunk}
 use Rattle.gq_chunks.specs.Answers.{quotes_short, told_content}

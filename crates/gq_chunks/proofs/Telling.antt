@@ -6,9 +6,9 @@ use Rattle.gq_escape.specs.Escape.{escaped}
 use Rattle.gq_escape.proofs.Escaping.{at_most_twice}
 use Rattle.gq_quote.specs.Quote.{quoted}
 use Rattle.gq_quote.proofs.Quoting.{bytes_read_back}
-use Rattle.gq_text.specs.AnswerText.{bytes_word}
-use Rattle.gq_text.specs.Words.{content_of}
-use Rattle.gq_text.proofs.Contents.{bytes_back}
+use Rattle.gq_lines.specs.Written.{bytes_word}
+use Rattle.gq_lines.specs.Words.{content_of}
+use Rattle.gq_lines.proofs.Contents.{bytes_back}
 use Rattle.gq_chunks.specs.Answers.{quotes_short}
 use Rattle.gq_chunks.specs.Requests.{quoted_word, chunk_content_of}
 use Rattle.gq_chunks.specs.Laws.{ContentsReadBack, ContentsAreShort}

@@ -8,8 +8,8 @@ use Rattle.gq_stock.specs.declared.finding.Found.{Found}
 use Rattle.gq_stock.specs.declared.finding.Found.TheVariants as Finds
 use Rattle.gq_stock.specs.declared.keeping.Keeping.{Keeping}
 use Rattle.gq_stock.specs.declared.keeping.Keeping.TheVariants.{New, Same, Differs, Damaged, Below, Full, NoSpace}
-use Rattle.gq_text.specs.Words.{Word}
-use Rattle.gq_text.specs.AnswerText.{bytes_word, line_text}
+use Rattle.gq_lines.specs.Words.{Word}
+use Rattle.gq_lines.specs.Written.{bytes_word, line_text}
 use Rattle.gq_depot.specs.declared.answer.ChunkAnswer.{ChunkAnswer}
 use Rattle.gq_depot.specs.declared.answer.ChunkAnswer.TheVariants as Told
 use Rattle.gq_depot.specs.declared.answer.ListedChunk.{ListedChunk}

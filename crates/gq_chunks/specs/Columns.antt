@@ -2,7 +2,7 @@
 use Rattle.std.specs.Prelude.{◌≡◌, ℕ, ◌%◌, ◌<◌, ◌*◌, List, [], ◌∷◌, Bool, true, false, not, ◌==◌, nat_le, nat_lt, codes, decimal, Option, Some, None, MatchBool, slice_get, ⊤}
 use Rattle.std.specs.Str.{bytes_eq}
 use Rattle.gq_desk.specs.CheckedPlan.{CheckedPlan}
-use Rattle.gq_text.specs.Words.{Word, number_of}
+use Rattle.gq_lines.specs.Words.{Word, number_of}
 use Rattle.gq_text.specs.Input.{place_named}
 use Rattle.gq_node.specs.Sites.{plan_in}
 use Rattle.gq_replace.specs.Plans.{place_of, node_at}

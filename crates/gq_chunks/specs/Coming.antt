@@ -1,7 +1,7 @@
 -- What a line is to a machine of chunks.
 use Rattle.std.specs.Prelude.{◌<◌, ℕ, Bool, true, false, List, [], ◌∷◌, ◌&&◌, ◌==◌, nat_lt, Option, Some, None, if◌then◌else◌, ⊤}
 use Rattle.gq_desk.specs.CheckedPlan.{CheckedPlan}
-use Rattle.gq_text.specs.Words.{Word, words_of, number_of}
+use Rattle.gq_lines.specs.Words.{Word, words_of, number_of}
 use Rattle.gq_text.specs.Input.{place_named}
 use Rattle.gq_wire.specs.Incoming.{is_to, is_tick}
 use Rattle.gq_depot.specs.declared.request.ChunkRequest.{ChunkRequest}

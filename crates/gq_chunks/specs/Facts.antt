@@ -6,9 +6,9 @@ use Rattle.std.specs.Str.{bytes_eq}
 use Rattle.gq_shelf.specs.declared.place.Place.{Place}
 use Rattle.gq_shelf.specs.declared.place.Place.TheVariants.{Fresh, Shelved}
 use Rattle.gq_desk.specs.CheckedPlan.{CheckedPlan, row_at}
-use Rattle.gq_text.specs.Words.{Word, words_of, number_of}
+use Rattle.gq_lines.specs.Words.{Word, words_of, number_of}
 use Rattle.gq_text.specs.Input.{◌>>=◌, place_named}
-use Rattle.gq_text.specs.AnswerText.{bytes_word, spaced, line_text}
+use Rattle.gq_lines.specs.Written.{bytes_word, spaced, line_text}
 use Rattle.gq_wire.specs.Values.{number_then, long_then, last_content, alone}
 use Rattle.gq_depot.specs.declared.fact.ChunkFact.{ChunkFact}
 use Rattle.gq_depot.specs.declared.fact.ChunkFact.TheVariants.{Put, Forgot, Filled}

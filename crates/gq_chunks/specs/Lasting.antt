@@ -10,7 +10,7 @@ use Rattle.gq_shelf.specs.Places.{long_at}
 use Rattle.gq_shelf.specs.declared.place.Place.{Place}
 use Rattle.gq_shelf.specs.declared.place.Place.TheVariants.{Fresh, Shelved}
 use Rattle.gq_desk.specs.CheckedPlan.{CheckedPlan, row_at}
-use Rattle.gq_text.specs.AnswerText.{spaced}
+use Rattle.gq_lines.specs.Written.{spaced}
 use Rattle.gq_journal.specs.Batches.{Line, is_batch_line}
 use Rattle.gq_keeper.specs.Plans.{is_head, are_facts}
 use Rattle.gq_keeper.specs.Starting.{RecallsAll}

@@ -3,9 +3,9 @@ use Rattle.std.specs.Prelude.{◌≡◌, ◌<◌, ◌≤◌, ◌+◌, ◌*◌, �
 use Rattle.gq_shelf.specs.declared.place.Place.{Place}
 use Rattle.gq_shelf.specs.declared.place.Place.TheVariants.{Fresh, Shelved}
 use Rattle.gq_desk.specs.CheckedPlan.{CheckedPlan}
-use Rattle.gq_text.specs.AnswerText.{spaced}
+use Rattle.gq_lines.specs.Written.{spaced}
 use Rattle.gq_text.specs.Canonical.{IsPlan, IsNumber}
-use Rattle.gq_text.specs.Words.{words_after}
+use Rattle.gq_lines.specs.Words.{words_after}
 use Rattle.gq_journal.specs.Batches.{is_batch_line}
 use Rattle.gq_chunks.specs.Facts.{chunk_fact_line, chunk_fact_of_line}
 use Rattle.gq_chunks.specs.Answers.{told_content}

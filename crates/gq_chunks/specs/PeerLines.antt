@@ -5,9 +5,9 @@ use Rattle.std.specs.Prelude.{ℕ, List, [], ◌∷◌, ◌++◌, Bool, codes, d
 use Rattle.std.specs.List.{flat_map}
 use Rattle.std.specs.Str.{bytes_eq}
 use Rattle.gq_desk.specs.CheckedPlan.{CheckedPlan, row_at}
-use Rattle.gq_text.specs.Words.{Word, long_number_of}
+use Rattle.gq_lines.specs.Words.{Word, long_number_of}
 use Rattle.gq_text.specs.Input.{◌>>=◌}
-use Rattle.gq_text.specs.AnswerText.{line_text}
+use Rattle.gq_lines.specs.Written.{line_text}
 use Rattle.gq_wire.specs.Values.{number_then, long_then, alone}
 use Rattle.gq_stock.specs.declared.finding.Found.{Found as Finding}
 use Rattle.gq_stock.specs.declared.finding.Found.TheVariants as Finds

@@ -3,7 +3,7 @@
 use Rattle.std.specs.Prelude.{ℕ, List, [], ◌∷◌, ◌==◌, nat_lt, codes, decimal, Option, Some, None, if◌then◌else◌}
 use Rattle.std.specs.Str.{bytes_eq}
 use Rattle.gq_quote.specs.Quote.{quoted, unquoted}
-use Rattle.gq_text.specs.Words.{Word, content_of}
+use Rattle.gq_lines.specs.Words.{Word, content_of}
 use Rattle.gq_text.specs.Input.{◌>>=◌}
 use Rattle.gq_wire.specs.Values.{number_then, long_then, alone}
 use Rattle.gq_depot.specs.declared.request.ChunkRequest.{ChunkRequest}

@@ -3,7 +3,7 @@ use Rattle.std.specs.Prelude.{ℕ, List, [], ◌∷◌, Bool, false, ◌||◌, i
 use Rattle.std.specs.Str.{bytes_eq}
 use Rattle.gq_pair.specs.declared.pair.Taker.{Taker}
 use Rattle.gq_pair.specs.declared.pair.Taker.TheVariants.{First, Second, Both}
-use Rattle.gq_text.specs.Words.{Word, words_of, number_of}
+use Rattle.gq_lines.specs.Words.{Word, words_of, number_of}
 
 -- what a tenant may ask about its chunks
 abbrev pub is_chunk_verb : Word → Bool

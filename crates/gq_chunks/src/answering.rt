@@ -2,18 +2,18 @@
 
 ghost use Rattle.std.specs.Prelude.{◌≡◌, ◌<◌, ◌++◌, [], ◌∷◌, map, length, codes, decimal, IfOk, OnOk, OnErr};
 ghost use Rattle.gq_desk.specs.CheckedPlan.{row_at};
-ghost use Rattle.gq_text.specs.AnswerText.{bytes_word, ended, spaced};
-ghost use Rattle.gq_text.specs.Pieces.{Extends};
+ghost use Rattle.gq_lines.specs.Written.{bytes_word, ended, spaced, Extends};
 ghost use Rattle.gq_chunks.specs.Requests.{quoted_word};
 ghost use Rattle.gq_chunks.specs.Answers.{part_of, quotes_short, told_content, kept_words, nothing_word, found_words, chunk_word, end_words, answer_words, chunk_answer_text};
 
 use gq_depot::{ChunkAnswer, ListedChunk};
 use gq_desk::Plan;
 use gq_escape::put_escaped;
+use gq_lines::put_number;
 use gq_memory::{GrowCopies, GrowVec, OutOfMemory};
 use gq_quote::put_quoted;
 use gq_stock::{Found, Keeping};
-use gq_text::{Piece, put_number, put_words};
+use gq_text::{Piece, put_words};
 
 // Appends whom it is told, and by which node.
 fn put_head(out: &mut Vec<u8>, plan: &Plan, node: u16, tenant: u8) -> Result<(), OutOfMemory>

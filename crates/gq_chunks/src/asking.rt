@@ -1,15 +1,15 @@
 //! What a tenant asks, read.
 
 ghost use Rattle.std.specs.Prelude.{◌≡◌, Some, None, IfOk};
-ghost use Rattle.gq_text.specs.Words.{words_after};
+ghost use Rattle.gq_lines.specs.Words.{words_after};
 ghost use Rattle.gq_chunks.specs.Requests.{chunk_content_of, last_chunk_content, keep_by, get_by, forget_by, list_by, room_by, verb_request_by, chunk_request_by};
 
 use crate::ChunkRequest;
 use bytes::Bytes;
+use gq_lines::{content, is_end, next_long_word, next_word};
 use gq_memory::OutOfMemory;
 use gq_quote::read_quoted;
 use gq_stock::Run;
-use gq_text::{content, is_end, next_long_word, next_word};
 use gq_wire::{take_long, take_number};
 use std::alloc::Global;
 

@@ -1,7 +1,7 @@
 //! What a line is to a machine of chunks.
 
 ghost use Rattle.std.specs.Prelude.{◌≡◌, length, IfOk};
-ghost use Rattle.gq_text.specs.Words.{words_after, number_of};
+ghost use Rattle.gq_lines.specs.Words.{words_after, number_of};
 ghost use Rattle.gq_text.specs.Input.{place_named};
 ghost use Rattle.gq_wire.specs.Incoming.{is_to, is_only};
 ghost use Rattle.gq_chunks.specs.Coming.{coming, asked_by, said_by, from_peer, from_node, from_whom, coming_of, IsWithin};
@@ -10,9 +10,9 @@ use crate::hearing::read_peer_line;
 use crate::peers::peer_of;
 use crate::{ChunkRequest, PeerLine, read_chunk_request};
 use gq_desk::Plan;
+use gq_lines::{first_word, is_end, next_word, number};
 use gq_memory::OutOfMemory;
 use gq_node::Lost;
-use gq_text::{first_word, is_end, next_word, number};
 use std::alloc::Global;
 
 /// What a line is to a machine of chunks.

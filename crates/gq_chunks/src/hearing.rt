@@ -1,15 +1,15 @@
 //! What nodes of a column say to each other, read.
 
 ghost use Rattle.std.specs.Prelude.{◌≡◌, [], IfOk, option_map, None, Some, MatchOption};
-ghost use Rattle.gq_text.specs.Words.{words_after};
+ghost use Rattle.gq_lines.specs.Words.{words_after};
 ghost use Rattle.gq_chunks.specs.PeerLines.{saying_of, pair_then, pairs_behind, seeks_by, found_by, gives_by, number_by, verb_saying_by, saying_by, Wants, Misses, Spoilt};
 
 use crate::PeerLine;
 use crate::asking::last_content;
 use crate::reading::take_sure;
 use gq_depot::ListedChunk;
+use gq_lines::{is_end, next_word};
 use gq_memory::{GrowVec, OutOfMemory};
-use gq_text::{is_end, next_word};
 use gq_wire::{take_long, take_number};
 use std::alloc::Global;
 

@@ -1,17 +1,17 @@
 //! Facts as they are read.
 
 ghost use Rattle.std.specs.Prelude.{◌≡◌, ◌<◌, Some, None, length, IfOk, IfSome, MatchOption};
-ghost use Rattle.gq_text.specs.Words.{words_after};
+ghost use Rattle.gq_lines.specs.Words.{words_after};
 ghost use Rattle.gq_wire.specs.Values.{last_content};
 ghost use Rattle.gq_chunks.specs.Facts.{sure_of, sure_then, key_then, fresh_by, shelved_by, forgot_by, filled_by, own_fact_by, chunk_fact_of_line};
 
 use crate::ChunkFact;
 use bytes::Bytes;
 use gq_desk::Plan;
+use gq_lines::{content, first_word, is_end, next_long_word, next_word};
 use gq_memory::OutOfMemory;
 use gq_shelf::{Extent, Place};
 use gq_stock::Run;
-use gq_text::{content, first_word, is_end, next_long_word, next_word};
 use gq_wire::{take_long, take_number};
 use std::alloc::Global;
 

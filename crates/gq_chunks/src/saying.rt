@@ -2,8 +2,7 @@
 
 ghost use Rattle.std.specs.Prelude.{◌≡◌, ◌<◌, ◌++◌, [], ◌∷◌, length, codes, decimal, option_map, OnOk, OnErr};
 ghost use Rattle.gq_desk.specs.CheckedPlan.{row_at};
-ghost use Rattle.gq_text.specs.AnswerText.{ended, spaced};
-ghost use Rattle.gq_text.specs.Pieces.{Extends};
+ghost use Rattle.gq_lines.specs.Written.{ended, spaced, Extends};
 ghost use Rattle.gq_chunks.specs.Answers.{told_content};
 ghost use Rattle.gq_chunks.specs.Facts.{sure_digit};
 ghost use Rattle.gq_chunks.specs.PeerLines.{saying_of, pair_words, saying_words, saying_text, saying_of_ask, asks_text, saying_of_answer, peer_answer_text};
@@ -12,9 +11,10 @@ use crate::PeerLine;
 use crate::answering::{put_content, put_spaced};
 use gq_depot::{Ask, ChunkAnswer, ListedChunk};
 use gq_desk::Plan;
+use gq_lines::put_number;
 use gq_memory::{GrowCopies, GrowVec, OutOfMemory};
 use gq_stock::Found;
-use gq_text::{Piece, put_number, put_words};
+use gq_text::{Piece, put_words};
 
 // Appends whom it is said, by which node, and of which tenant.
 fn put_head(

@@ -1,11 +1,11 @@
 //! Which lines are of chunks.
 
 ghost use Rattle.std.specs.Prelude.{◌≡◌};
-ghost use Rattle.gq_text.specs.Words.{words_after};
+ghost use Rattle.gq_lines.specs.Words.{words_after};
 ghost use Rattle.gq_chunks.specs.Takers.{is_chunk_verb, is_peer_verb, tenant_taker, node_taker, line_taker, is_fact_verb, tells_chunk};
 
+use gq_lines::{first_word, next_word, number};
 use gq_pair::Taker;
-use gq_text::{first_word, next_word, number};
 
 // Whether a tenant may ask this about its chunks.
 fn is_chunk_verb(verb: &[u8]) -> bool

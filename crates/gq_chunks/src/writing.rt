@@ -1,8 +1,7 @@
 //! Facts as they are written.
 
 ghost use Rattle.std.specs.Prelude.{◌≡◌, ◌<◌, ◌++◌, [], ◌∷◌, length, OnOk, OnErr};
-ghost use Rattle.gq_text.specs.AnswerText.{line_text};
-ghost use Rattle.gq_text.specs.Pieces.{Extends};
+ghost use Rattle.gq_lines.specs.Written.{line_text, Extends};
 ghost use Rattle.gq_shelf.specs.declared.place.Place.TheVariants.{Fresh, Shelved};
 ghost use Rattle.gq_chunks.specs.Facts.{held_words, chunk_fact_text};
 

@@ -1,7 +1,7 @@
 -- A tenant's volumes inside its share of every server's blocks.
 use Rattle.std.specs.Prelude.{◌≡◌, ℕ, ◌+◌, ◌-◌, ◌*◌, List, [], ◌∷◌, ◌++◌, Option, Some, None, Bool, ◌&&◌, not, nat_lt, nat_le, length, slice_get, unwrap_or, sum_by, if◌then◌else◌}
 use Rattle.std.specs.Option.{option_and_then}
-use Rattle.gq_pool.specs.declared.TheConstants.{BLOCK_BYTES}
+use Rattle.gq_tag.specs.declared.TheConstants.{BLOCK_BYTES}
 use Rattle.gq_tag.specs.declared.FileId.{FileId}
 use Rattle.gq_tag.specs.declared.TheConstants.{MOST_FILES}
 use Rattle.gq_desk.specs.Plans.{is_in}

@@ -2,7 +2,7 @@
 use Rattle.std.proofs.Common.{◌≡◌, ℕ, ◌<◌, List, ◌∷◌, Option, Some, None, refl}
 use Rattle.std.specs.Prelude.{IfSome, option_map}
 use Rattle.gq_desk.specs.CheckedPlan.{CheckedPlan}
-use Rattle.gq_text.specs.Words.{Word}
+use Rattle.gq_lines.specs.Words.{Word}
 use Rattle.gq_text.specs.Input.{place_named}
 use Rattle.gq_cluster.specs.Facts.{OwnFact, Begun, Numbered, Kept, Had}
 use Rattle.gq_node.specs.Recalling.{tenant_of}

@@ -1,11 +1,11 @@
 -- The line of a fact is read as that fact, and may stand in a batch.
 use Rattle.std.proofs.Common.{◌≡◌, ℕ, List, ◌∷◌, ◌++◌, Some, true, false, refl, ap, ◌∙◌, arith}
 use Rattle.gq_desk.specs.CheckedPlan.{CheckedPlan}
-use Rattle.gq_text.specs.AnswerText.{spaced}
+use Rattle.gq_lines.specs.Written.{spaced}
 use Rattle.gq_text.specs.Canonical.{IsPlan}
-use Rattle.gq_text.proofs.Numbers.{numbers_read_back, long_numbers_read_back}
-use Rattle.gq_text.proofs.Plain.{is_plain, are_plain, decimal_plain, long_plain, line_inner}
-use Rattle.gq_text.proofs.LinesBack.{words_back}
+use Rattle.gq_lines.proofs.Numbers.{numbers_read_back, long_numbers_read_back}
+use Rattle.gq_lines.proofs.Plain.{is_plain, are_plain, decimal_plain, long_plain, line_inner}
+use Rattle.gq_lines.proofs.LinesBack.{words_back}
 use Rattle.gq_cluster.specs.Facts.{OwnFact, Begun, Numbered, Kept, Had}
 use Rattle.gq_node.specs.declared.output.Fact.{Fact}
 use Rattle.gq_node.specs.declared.output.Fact.TheVariants.{Began, Numbered as HasNumber, Kept as IsKept, Had as WasGiven}

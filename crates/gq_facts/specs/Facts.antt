@@ -6,9 +6,9 @@ use Rattle.std.specs.Str.{bytes_eq}
 use Rattle.gq_tag.specs.declared.StoredCopy.{StoredCopy}
 use Rattle.gq_tag.specs.Tag.{File}
 use Rattle.gq_desk.specs.CheckedPlan.{CheckedPlan, row_at}
-use Rattle.gq_text.specs.Words.{Word, words_of}
+use Rattle.gq_lines.specs.Words.{Word, words_of}
 use Rattle.gq_text.specs.Input.{◌>>=◌, place_named}
-use Rattle.gq_text.specs.AnswerText.{spaced, line_text}
+use Rattle.gq_lines.specs.Written.{spaced, line_text}
 use Rattle.gq_cluster.specs.Facts.{OwnFact, Begun, Numbered, Kept, Had}
 use Rattle.gq_node.specs.declared.output.Fact.{Fact}
 use Rattle.gq_node.specs.Recalling.{tenant_of, own_fact}

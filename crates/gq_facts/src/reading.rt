@@ -2,17 +2,17 @@
 
 ghost use Rattle.std.specs.Prelude.{◌≡◌, ◌<◌, length, option_map, IfOk, IfSome};
 ghost use Rattle.gq_tag.specs.Tag.{file_of};
-ghost use Rattle.gq_text.specs.Words.{words_after};
+ghost use Rattle.gq_lines.specs.Words.{words_after};
 ghost use Rattle.gq_cluster.specs.Facts.{Kept, Had};
 ghost use Rattle.gq_node.specs.Recalling.{tenant_of};
 ghost use Rattle.gq_node.specs.Tables.{fact_of};
 ghost use Rattle.gq_facts.specs.Facts.{begun_by, numbered_by, session_fact_by, file_copy_by, copy_fact_by, own_fact_by, fact_by, fact_of_line};
 
 use gq_desk::Plan;
+use gq_lines::{first_word, is_end, next_word};
 use gq_memory::OutOfMemory;
 use gq_node::Fact;
 use gq_tag::{FileId, StoredCopy};
-use gq_text::{first_word, is_end, next_word};
 use gq_wire::{read_copy, take_byte, take_long, take_number};
 use std::alloc::Global;
 

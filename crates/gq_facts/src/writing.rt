@@ -1,8 +1,7 @@
 //! Facts as they are written.
 
 ghost use Rattle.std.specs.Prelude.{◌≡◌, ◌<◌, ◌++◌, [], length, OnOk, OnErr};
-ghost use Rattle.gq_text.specs.AnswerText.{line_text};
-ghost use Rattle.gq_text.specs.Pieces.{Extends};
+ghost use Rattle.gq_lines.specs.Written.{line_text, Extends};
 ghost use Rattle.gq_node.specs.declared.output.Fact.TheVariants.{Kept};
 ghost use Rattle.gq_node.specs.Recalling.{tenant_of};
 ghost use Rattle.gq_facts.specs.Facts.{fact_words, fact_text};

@@ -15,7 +15,7 @@ use Rattle.gq_laws.proofs.OtherPlaces.{moved_op}
 use Rattle.gq_laws.proofs.OtherOrders.{order_same, ops_at_same}
 use Rattle.gq_laws.proofs.AllTenants.{operations_alone, place_in_all, place_rises}
 use Rattle.gq_text.specs.Input.{event_of}
-use Rattle.gq_text.specs.Lines.{joined}
+use Rattle.gq_lines.specs.Lines.{joined}
 use Rattle.gq_script.specs.Out.{output_lines}
 use Rattle.gq_script.specs.Linearizable.{operations_of}
 use Rattle.gq_files.specs.Orders.{operation_line_at, op_line, op_lines, ordered}

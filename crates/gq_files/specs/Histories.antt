@@ -12,10 +12,10 @@ use Rattle.gq_laws.specs.declared.ops.Kind.{Kind}
 use Rattle.gq_laws.specs.declared.ops.Kind.TheVariants.{Write as Writes, Read as Reads, Row as Rows}
 use Rattle.gq_laws.specs.declared.ops.Op.{Op}
 use Rattle.gq_text.specs.Input.{place_named}
-use Rattle.gq_text.specs.Lines.{lines_of}
+use Rattle.gq_lines.specs.Lines.{lines_of}
 use Rattle.gq_text.specs.PlanText.{Reading, plan_of}
-use Rattle.gq_script.specs.Watched.{AppendsPrefix}
-use Rattle.gq_text.specs.Words.{Word}
+use Rattle.gq_streams.specs.Watched.{AppendsPrefix}
+use Rattle.gq_lines.specs.Words.{Word}
 use Rattle.gq_script.specs.Linearizable.{operations_of}
 
 -- ---- the words of a moment

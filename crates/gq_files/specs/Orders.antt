@@ -7,11 +7,11 @@ use Rattle.gq_laws.specs.declared.ops.Kind.TheVariants.{Write as Writes, Read as
 use Rattle.gq_laws.specs.declared.ops.Op.{Op}
 use Rattle.gq_laws.specs.Operations.{ops_at}
 use Rattle.gq_laws.specs.Orders.{order}
-use Rattle.gq_text.specs.Words.{Word}
-use Rattle.gq_text.specs.Lines.{lines_of, joined}
+use Rattle.gq_lines.specs.Words.{Word}
+use Rattle.gq_lines.specs.Lines.{lines_of, joined}
 use Rattle.gq_text.specs.Input.{place_named}
 use Rattle.gq_text.specs.PlanText.{Reading, plan_of, IsFaultOf, NamesTenant}
-use Rattle.gq_text.specs.AnswerText.{content_word, line_text}
+use Rattle.gq_lines.specs.Written.{content_word, line_text}
 use Rattle.gq_script.specs.Linearizable.{operations_of}
 use Rattle.gq_script.specs.Out.{out, IsPlanFaultOf}
 use Rattle.gq_script.specs.Faults.{of_plan}

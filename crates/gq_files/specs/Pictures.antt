@@ -12,9 +12,9 @@ use Rattle.gq_picture.specs.Laws.{TellsNoLie, all_effects}
 use Rattle.gq_picture.specs.declared.absences.Absence.{Absence}
 use Rattle.gq_picture.specs.declared.drawing.Drawing.{Drawing}
 use Rattle.gq_text.specs.Input.{event_of, place_named}
-use Rattle.gq_text.specs.Lines.{lines_of}
+use Rattle.gq_lines.specs.Lines.{lines_of}
 use Rattle.gq_text.specs.PlanText.{Reading, plan_of}
-use Rattle.gq_script.specs.Watched.{AppendsPrefix}
+use Rattle.gq_streams.specs.Watched.{AppendsPrefix}
 use Rattle.gq_svg.specs.Svg.{picture_text}
 use Rattle.gq_svg.specs.declared.picture.Heading.{Heading}
 use Rattle.gq_files.specs.Histories.{line_behind}

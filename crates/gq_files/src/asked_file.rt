@@ -6,7 +6,7 @@ ghost use Rattle.gq_tag.specs.Tag.{file_place};
 ghost use Rattle.gq_desk.specs.Plans.{is_of};
 ghost use Rattle.gq_order.specs.Runs.{IsRun};
 ghost use Rattle.gq_text.specs.Input.{event_of};
-ghost use Rattle.gq_text.specs.Lines.{lines_of, joined};
+ghost use Rattle.gq_lines.specs.Lines.{lines_of, joined};
 ghost use Rattle.gq_script.specs.Out.{output_lines};
 ghost use Rattle.gq_text.specs.PlanText.{plan_of};
 ghost use Rattle.gq_script.specs.Seeing.{seen_events, seen_places};

@@ -4,10 +4,10 @@ ghost use Rattle.std.specs.Prelude.{◌≡◌, ◌≢◌, ◌↔◌, ◌+◌, �
 ghost use Rattle.gq_tag.specs.Tag.{file_place};
 ghost use Rattle.gq_laws.specs.Tenants.{tenant_operations};
 ghost use Rattle.gq_order.specs.Runs.{IsRun};
-ghost use Rattle.gq_text.specs.Lines.{lines_of};
+ghost use Rattle.gq_lines.specs.Lines.{lines_of};
 ghost use Rattle.gq_script.specs.Out.{IsAccepted};
 ghost use Rattle.gq_text.specs.PlanText.{plan_of, NamesTenant};
-ghost use Rattle.gq_script.specs.Watched.{inner_of, has_failed};
+ghost use Rattle.gq_streams.specs.Watched.{inner_of, has_failed};
 ghost use Rattle.gq_files.specs.Histories.{AppendsHistory, AppendsHistoryPrefix, IsHistoryOf, IsHistoryText, TellsHistory, function_word, line_behind, moment_text, moment_text_in, moments_text, placed, quoted, stage_word, value_word};
 ghost use Rattle.gq_files.specs.Orders.{IsAskedFault, IsPlanFault};
 
@@ -16,11 +16,12 @@ use crate::order::OrderFault;
 use gq_desk::Plan;
 use gq_history::{Moment, Stage, history};
 use gq_laws::{Kind, Op};
+use gq_lines::{put_digits, put_number, put_sum};
 use gq_memory::{GrowCopies, GrowVec, OutOfMemory};
 use gq_order::operations;
-use gq_script::{Answered, MOST_INPUT, RunFault, Watched, read_whole, write_whole};
+use gq_script::{Answered, MOST_INPUT, RunFault, read_whole};
+use gq_streams::{Watched, write_whole};
 use gq_tag::FileId;
-use gq_text::{put_digits, put_number, put_sum};
 use std::alloc::Global;
 use std::io::{Read, Write};
 

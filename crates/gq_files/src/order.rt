@@ -4,13 +4,13 @@ ghost use Rattle.std.specs.Prelude.{◌≡◌, ◌≢◌, ◌↔◌, ◌<◌, �
 ghost use Rattle.std.specs.Io.KnownBytes.{Appends};
 ghost use Rattle.gq_tag.specs.Tag.{file_place};
 ghost use Rattle.gq_laws.specs.Tenants.{tenant_operations};
-ghost use Rattle.gq_text.specs.Lines.{lines_of, joined};
-ghost use Rattle.gq_text.specs.AnswerText.{ended};
+ghost use Rattle.gq_lines.specs.Lines.{lines_of, joined};
+ghost use Rattle.gq_lines.specs.Written.{ended};
 ghost use Rattle.gq_script.specs.Linearizable.{operations_of};
 ghost use Rattle.gq_script.specs.Out.{output_lines, IsAccepted, IsPlanFaultOf};
 ghost use Rattle.gq_text.specs.PlanText.{plan_of, NamesTenant};
 ghost use Rattle.gq_text.specs.Pieces.{words_in};
-ghost use Rattle.gq_script.specs.Watched.{inner_of, has_failed, AppendsPrefix};
+ghost use Rattle.gq_streams.specs.Watched.{inner_of, has_failed, AppendsPrefix};
 ghost use Rattle.gq_order.specs.Runs.{IsRun};
 ghost use Rattle.gq_files.specs.Orders.{operation_line_at, op_line, op_lines, ordered, order_out, IsPlanFault, IsAskedFault};
 
@@ -20,7 +20,8 @@ use gq_laws::{Kind, Op};
 use gq_memory::{GrowCopies, OutOfMemory};
 use gq_model::{Answer, Event};
 use gq_order::{FileOrder, OpRef, file_order};
-use gq_script::{MOST_INPUT, ReadFault, RunFault, Watched, WriteFault, read_whole, write_whole};
+use gq_script::{MOST_INPUT, ReadFault, RunFault, read_whole};
+use gq_streams::{Watched, WriteFault, write_whole};
 use gq_tag::FileId;
 use gq_text::{Piece, put_words};
 use std::alloc::Global;

@@ -34,14 +34,14 @@ use Rattle.gq_laws.proofs.Remaining.{LeadsOn, round_leads}
 use Rattle.gq_laws.proofs.Completing.{has_operation}
 use Rattle.gq_world.specs.Tables.{Tables, Stands, up_in}
 use Rattle.gq_world.proofs.Channels.{in_grid}
-use Rattle.gq_text.specs.Words.{Word}
-use Rattle.gq_text.specs.Lines.{lines_of}
+use Rattle.gq_lines.specs.Words.{Word}
+use Rattle.gq_lines.specs.Lines.{lines_of}
 use Rattle.gq_text.specs.Input.{event_of}
 use Rattle.gq_text.specs.PlanText.{plan_of}
 use Rattle.gq_script.specs.Alone.{Accepts}
 use Rattle.gq_script.specs.Out.{IsPlanFaultOf}
 use Rattle.gq_script.specs.declared.script.TheConstants.{MOST_INPUT}
-use Rattle.gq_text.specs.AnswerText.{line_text}
+use Rattle.gq_lines.specs.Written.{line_text}
 use Rattle.gq_text.specs.Canonical.{line_words}
 use Rattle.gq_script.specs.Completing.{missing_newline, own_lines}
 use Rattle.gq_script.proofs.Completing.{behind_by, next_told}

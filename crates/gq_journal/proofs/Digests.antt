@@ -5,9 +5,9 @@ use Rattle.std.specs.Int.{w64, bytes_high_first, to_be_bytes}
 use Rattle.hex.specs.Hex.{IsBytes}
 use Rattle.sha2.specs.Sha256.{sha256, digest_bytes}
 use Rattle.gq_sum.specs.Sums.{sum_of}
-use Rattle.gq_text.specs.Words.{words_of}
-use Rattle.gq_text.proofs.Plain.{is_plain, are_plain, long_plain, content_plain, line_inner}
-use Rattle.gq_text.proofs.LinesBack.{words_back}
+use Rattle.gq_lines.specs.Words.{words_of}
+use Rattle.gq_lines.proofs.Plain.{is_plain, are_plain, long_plain, content_plain, line_inner}
+use Rattle.gq_lines.proofs.LinesBack.{words_back}
 use Rattle.gq_journal.specs.Batches.{is_one_line, may_have_bytes, digest_of, digest_word, sealed_text, seal}
 
 -- ---- a digest is bytes

@@ -3,7 +3,7 @@ use Rattle.std.proofs.Common.{◌≡◌, ℕ, suc, ◌+◌, ◌^◌, ◌<◌, �
 use Rattle.std.specs.Prelude.{◌==◌, ◌&&◌, ◌||◌}
 use Rattle.std.specs.Str.{bytes_eq}
 use Rattle.std.proofs.lemmas.Grind.{flat_map-append}
-use Rattle.gq_text.specs.Words.{words_of}
+use Rattle.gq_lines.specs.Words.{words_of}
 use Rattle.gq_journal.specs.Batches.{Line, before_line, whole_lines, ended_line, lines_text, is_sealing, seal, batches_from, batch_text, seals_by, right_in, are_batch_lines}
 use Rattle.gq_journal.specs.Laws.{NoneIsRead, TornHasNone, CutsHaveNone}
 use Rattle.gq_journal.proofs.Lines.{open_parts, equal_lines, open_line, wrong_line, lines_cut}

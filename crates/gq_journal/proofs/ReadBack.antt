@@ -10,8 +10,8 @@ use Rattle.std.proofs.lemmas.List.Folds.{list_all-append}
 use Rattle.std.proofs.lemmas.Slice.Eq.{bytes_eq-Decides}
 use Rattle.std.proofs.Math.Seq.{drop-append_seam}
 use Rattle.std.proofs.lemmas.Grind.{flat_map-append}
-use Rattle.gq_text.specs.Words.{words_of, is_digit}
-use Rattle.gq_text.proofs.Numbers.{long_numbers_read_back}
+use Rattle.gq_lines.specs.Words.{words_of, is_digit}
+use Rattle.gq_lines.proofs.Numbers.{long_numbers_read_back}
 use Rattle.gq_journal.specs.Batches.{Line, is_one_line, whole_lines, ended_line, lines_text, digest_word, is_sealing, seal, batches_from, batches_at, batch_text, journal_text, seals_by, right_in, is_batch_line, are_batch_lines}
 use Rattle.gq_journal.specs.Laws.{Begins, BatchesReadBack, TornIsNone, TornEndIsPassedOver, RightIsFound}
 use Rattle.gq_journal.proofs.Digests.{seal_one, seal_words}

@@ -7,7 +7,7 @@ use Rattle.std.proofs.lemmas.Bool.{and_parts}
 use Rattle.std.proofs.lemmas.Grind.{flat_map-append}
 use Rattle.std.proofs.lemmas.List.Folds.{list_all-append}
 use Rattle.std.proofs.Math.Seq.{take-append_seam}
-use Rattle.gq_text.specs.Words.{words_of}
+use Rattle.gq_lines.specs.Words.{words_of}
 use Rattle.gq_journal.specs.Batches.{Line, is_one_line, whole_lines, ended_line, lines_text, is_sealing, seal, batches_from, batches_at, seals_by, right_in, has_right_batch, is_batch_line, are_batch_lines, CanBeSealed}
 use Rattle.gq_journal.proofs.Lines.{lines_then, open_ones, open_parts, equal_lines, open_line, sealed_line, wrong_line}
 

@@ -5,8 +5,8 @@ use Rattle.std.specs.List.{flat_map, list_all, list_any}
 use Rattle.std.specs.Str.{bytes_eq}
 use Rattle.sha2.specs.Sha256.{sha256}
 use Rattle.gq_sum.specs.Sums.{sum_of}
-use Rattle.gq_text.specs.Words.{Word, words_of, is_digit, long_number_of}
-use Rattle.gq_text.specs.AnswerText.{content_word, spaced}
+use Rattle.gq_lines.specs.Words.{Word, words_of, is_digit, long_number_of}
+use Rattle.gq_lines.specs.Written.{content_word, spaced}
 
 -- ---- lines
 

@@ -1,12 +1,12 @@
 //! Batches as they are read.
 
 ghost use Rattle.std.specs.Prelude.{◌≡◌, ◌+◌, ◌∷◌, ◌++◌, [], ◌<◌, true, length, drop, IfOk, IfSome, MatchOption};
-ghost use Rattle.gq_text.specs.Words.{words_of, is_digit};
+ghost use Rattle.gq_lines.specs.Words.{words_of, is_digit};
 ghost use Rattle.gq_journal.specs.Batches.{whole_lines, is_one_line, ended_line, is_sealing, seal, batch_text, batches_at, seals, seals_by, has_right_batch, CanBeSealed, is_batch_line};
 
 use crate::sealing::is_seal;
+use gq_lines::{first_word, long_number, next_word};
 use gq_memory::OutOfMemory;
-use gq_text::{first_word, long_number, next_word};
 use memchr::memchr;
 use std::alloc::Global;
 

@@ -1,16 +1,14 @@
 //! The line that seals a batch.
 
 ghost use Rattle.std.specs.Prelude.{◌≡◌, ◌∷◌, ◌++◌, [], codes, decimal, length, take, drop, ◌≤◌, IfOk, OnOk, OnErr};
-ghost use Rattle.std.specs.List.{flat_map};
 ghost use Rattle.std.specs.Str.{bytes_eq};
 ghost use Rattle.sha2.specs.Sha256.{sha256};
-ghost use Rattle.gq_text.specs.AnswerText.{content_word, ended};
-ghost use Rattle.gq_text.specs.Pieces.{words_in, Extends};
+ghost use Rattle.gq_lines.specs.Written.{content_word, ended, Extends};
 ghost use Rattle.gq_journal.specs.Batches.{ended_line, digest_of, digest_word, may_have_bytes, seal, sealed_text};
 
-use gq_memory::{GrowCopies, OutOfMemory};
+use gq_lines::{put_content, put_spaced_number};
+use gq_memory::{GrowCopies, GrowVec, OutOfMemory};
 use gq_sum::sum_of;
-use gq_text::{Piece, put_words};
 use itoa::Buffer;
 use memchr::memchr;
 use sha2::{Digest, Sha256};
@@ -71,10 +69,10 @@ fn put_digest(out: &mut Vec<u8>, n: u64, len: u64, digest: &[u8]) -> Result<(), 
     ensures err { OnErr result (Extends out.old.items out.new.items) }
 {
     out.grow_by(b"sync")?;
-    put_words(
-        out,
-        &[Piece::Number(n), Piece::Number(len), Piece::Content(digest)],
-    )
+    put_spaced_number(out, n)?;
+    put_spaced_number(out, len)?;
+    put_content(out, digest)?;
+    out.grow(b'\n')
 }
 
 // Whether the line is the one that seals the text as batch n.

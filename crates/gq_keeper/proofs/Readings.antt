@@ -10,7 +10,7 @@ use Rattle.gq_keeper.specs.Runs.{Did, Runs}
 use Rattle.gq_keeper.specs.Crashes.{Leaves, Elapses}
 use Rattle.gq_keeper.specs.Restarting.{Restarts, RestartsAsEither, RestartsAsOne}
 use Rattle.gq_keeper.specs.Durable.{AllSealed, Durable}
-use Rattle.gq_wire.specs.Texts.{first_text}
+use Rattle.gq_lines.specs.Written.{first_text}
 use Rattle.gq_keeper.proofs.Ends.{kept_none, none_behind}
 use Rattle.gq_keeper.proofs.Running.{runs_append}
 use Rattle.gq_keeper.proofs.Restarts.{restarts_found, sealed_left}

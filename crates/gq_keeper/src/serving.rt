@@ -20,7 +20,7 @@ ghost use Rattle.gq_keeper.specs.Runs.{Took};
 ghost use Rattle.gq_keeper.specs.Crashes.{Elapses};
 ghost use Rattle.gq_keeper.specs.Restarting.{Restarts, RestartsAsEither, RestartsAsOne};
 ghost use Rattle.gq_keeper.specs.Durable.{AllSealed, Durable, Grows, TakenAtOnce};
-ghost use Rattle.gq_wire.specs.Texts.{first_text};
+ghost use Rattle.gq_lines.specs.Written.{first_text};
 
 use crate::keeping::keep;
 use crate::renewing::renew_if_due;

@@ -149,7 +149,7 @@ pub enum Refusal {
     NoVolume,
     /// The volume has no file of this number.
     NoFile,
-    /// The content is longer than the blocks of the file: `gq_pool::BLOCK_BYTES` bytes for each.
+    /// The content is longer than the blocks of the file: `gq_tag::BLOCK_BYTES` bytes for each.
     TooLong,
     /// No row, or no column, is wholly up.
     NoQuorum,

@@ -4,7 +4,7 @@ use Rattle.std.specs.List.{sum_by, count_by}
 use Rattle.gq_desk.specs.CheckedPlan.{row_at}
 use Rattle.gq_desk.specs.declared.limits.TheConstants.{MOST_VOLUMES}
 use Rattle.gq_desk.specs.Volumes.{account_at}
-use Rattle.gq_pool.specs.declared.TheConstants.{BLOCK_BYTES}
+use Rattle.gq_tag.specs.declared.TheConstants.{BLOCK_BYTES}
 use Rattle.gq_store.specs.Copies.{VolumeCopies, tenant_in, blocks_free}
 use Rattle.gq_tag.specs.declared.TheConstants.{MOST_FILES}
 use Rattle.gq_node.specs.declared.session_states.SessionState.{SessionState}

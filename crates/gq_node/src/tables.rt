@@ -24,8 +24,8 @@ use crate::session_states::SessionStates;
 use gq_desk::{Desk, MOST_SESSIONS, OpenRefused, Plan, VolumeRows};
 use gq_grid::{MOST_SERVERS, ServerSet};
 use gq_memory::{GrowVec, OutOfMemory, filled, room_for, slice_copied};
-use gq_pool::BLOCK_BYTES;
 use gq_store::ServerStore;
+use gq_tag::BLOCK_BYTES;
 use std::alloc::Global;
 use std::marker::Model;
 

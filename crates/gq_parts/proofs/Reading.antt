@@ -6,7 +6,7 @@ use Rattle.std.specs.Option.{option_to_list}
 use Rattle.std.proofs.lemmas.Bool.{cases_eq, cases_Bool, eq-eqb, ne_eqb}
 use Rattle.std.proofs.lemmas.Grind.{flat_map-append}
 use Rattle.gq_desk.specs.CheckedPlan.{CheckedPlan}
-use Rattle.gq_text.specs.AnswerText.{spaced}
+use Rattle.gq_lines.specs.Written.{spaced}
 use Rattle.gq_text.specs.Canonical.{IsPlan}
 use Rattle.gq_cluster.specs.Facts.{OwnFact, Begun, Numbered, Kept, Had}
 use Rattle.gq_keeper.specs.Plans.{is_head, are_facts}

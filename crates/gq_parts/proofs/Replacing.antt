@@ -5,7 +5,7 @@ use Rattle.std.proofs.lemmas.List.Sums.{fold-append}
 use Rattle.gq_tag.specs.Tag.{first_copy}
 use Rattle.gq_phase.specs.Quorums.{collect_quorum, store_quorum, ends_collect, ends_store, are_peers}
 use Rattle.gq_text.specs.Canonical.{IsPlan}
-use Rattle.gq_text.specs.Words.{number_up_to}
+use Rattle.gq_lines.specs.Words.{number_up_to}
 use Rattle.gq_replace.specs.Plans.{IsChain}
 use Rattle.gq_node.specs.declared.output.Transfer.TheVariants.{Wants, Brings}
 use Rattle.gq_node.specs.Nodes.{NodeWorld, Nodes, Event, Started, after_event, nodes_after, new_nodes, CanCome}

@@ -11,7 +11,7 @@ use Rattle.gq_tag.specs.declared.Message.{Message}
 use Rattle.gq_tag.specs.Tag.{OwnMessage, message_of, own_message}
 use Rattle.gq_desk.specs.CheckedPlan.{CheckedPlan}
 use Rattle.gq_text.specs.Canonical.{IsPlan}
-use Rattle.gq_text.specs.AnswerText.{spaced}
+use Rattle.gq_lines.specs.Written.{spaced}
 use Rattle.gq_cluster.specs.Facts.{OwnFact, Begun, Numbered, Kept, Had}
 use Rattle.gq_journal.specs.Batches.{ended_line, lines_text, are_batch_lines}
 use Rattle.gq_keeper.specs.Runs.{Takes}

@@ -13,7 +13,7 @@ use Rattle.gq_phase.specs.declared.Row.{Row}
 use Rattle.gq_desk.specs.CheckedPlan.{row_at}
 use Rattle.gq_desk.specs.declared.plans.TenantRow.{TenantRow}
 use Rattle.gq_model.specs.declared.events.Line.TheVariants.{Write, Bad}
-use Rattle.gq_text.specs.AnswerText.{spaced}
+use Rattle.gq_lines.specs.Written.{spaced}
 use Rattle.gq_cluster.specs.Cluster.{copy_in}
 use Rattle.gq_node.specs.declared.output.Answer.TheVariants.{Looked}
 use Rattle.gq_node.specs.declared.output.Transfer.TheVariants.{Wants, Brings}

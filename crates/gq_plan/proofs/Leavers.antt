@@ -10,7 +10,7 @@ use Rattle.gq_desk.specs.CheckedPlan.{CheckedPlan, nobody, row_at}
 use Rattle.gq_desk.specs.Plans.{is_of}
 use Rattle.gq_desk.specs.declared.plans.TenantRow.{TenantRow}
 use Rattle.gq_desk.proofs.NamesOfRows.{is_found}
-use Rattle.gq_text.specs.Words.{Word}
+use Rattle.gq_lines.specs.Words.{Word}
 use Rattle.gq_text.specs.Input.{place_named}
 use Rattle.gq_setup.specs.Setups.{Setup, CanGo, holdings, kib_of, is_gone_at}
 use Rattle.gq_setup.specs.GoingOn.{come_first, row_goes_on, same_servers, losses_go_on, gone_go_on, tenants_go_on, rooms_go_on, account_goes_on, holdings_left, goes_on}

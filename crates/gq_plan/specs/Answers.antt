@@ -1,7 +1,7 @@
 -- What is answered of the files of plans. No definition says what a file has: it is some text.
 use Rattle.std.specs.Prelude.{ℕ, List, Option, Some, None}
 use Rattle.std.specs.Io.KnownBytes.{Appends}
-use Rattle.gq_words.specs.declared.words.PlanRequest.{PlanRequest}
+use Rattle.gq_node_words.specs.declared.words.PlanRequest.{PlanRequest}
 use Rattle.gq_setup.specs.Setups.{setup_of}
 use Rattle.gq_setup.specs.declared.openings.SetupFault.TheVariants.{Memory as PlanMemory}
 use Rattle.gq_plan.specs.PlanWords.{Tells}

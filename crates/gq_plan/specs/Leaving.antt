@@ -3,7 +3,7 @@ use Rattle.std.specs.Prelude.{◌≡◌, ℕ, ◌<◌, List, [], ◌∷◌, ◌+
 use Rattle.std.specs.List.{flat_map}
 use Rattle.gq_desk.specs.CheckedPlan.{row_at}
 use Rattle.gq_desk.specs.declared.plans.TenantRow.{TenantRow}
-use Rattle.gq_text.specs.AnswerText.{line_text}
+use Rattle.gq_lines.specs.Written.{line_text}
 use Rattle.gq_text.specs.Input.{place_named}
 use Rattle.gq_setup.specs.Setups.{Setup, CanGo, kib_of, is_gone_at}
 use Rattle.gq_setup.specs.GoingOn.{goes_on}

@@ -5,8 +5,8 @@ use Rattle.gq_desk.specs.CheckedPlan.{CheckedPlan, row_at}
 use Rattle.gq_desk.specs.Volumes.{account_at, free_of}
 use Rattle.gq_desk.specs.declared.plans.TenantRow.{TenantRow}
 use Rattle.gq_desk.specs.declared.volumes.VolumeRow.{VolumeRow}
-use Rattle.gq_text.specs.Words.{Word}
-use Rattle.gq_text.specs.AnswerText.{line_text}
+use Rattle.gq_lines.specs.Words.{Word}
+use Rattle.gq_lines.specs.Written.{line_text}
 use Rattle.gq_replace.specs.Plans.{node_at}
 use Rattle.gq_node.specs.Sites.{home_place, plan_in}
 use Rattle.gq_chunks.specs.Longest.{longest_of}

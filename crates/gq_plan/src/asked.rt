@@ -2,13 +2,13 @@
 
 ghost use Rattle.std.specs.Prelude.{◌≡◌, ◌≢◌, false, IfErr, OnOk};
 ghost use Rattle.std.specs.Io.KnownBytes.{Appends};
-ghost use Rattle.gq_script.specs.Watched.{inner_of, has_failed};
+ghost use Rattle.gq_streams.specs.Watched.{inner_of, has_failed};
 ghost use Rattle.gq_plan.specs.Answers.{Answers, TellsFollows, TellsPlan, status_of};
 
 use crate::told::{FollowFault, told_next, told_plan};
-use gq_script::{Watched, write_whole};
+use gq_node_words::PlanRequest;
 use gq_setup::SetupFault;
-use gq_words::PlanRequest;
+use gq_streams::{Watched, write_whole};
 use std::alloc::Global;
 use std::fmt::{self, Display, Formatter};
 use std::io::Write;

@@ -1,11 +1,11 @@
 //! Lines of words NAME=VALUE.
 
 ghost use Rattle.std.specs.Prelude.{◌≡◌, ◌++◌, ◌∷◌, [], map, OnOk};
-ghost use Rattle.gq_text.specs.AnswerText.{spaced, line_text};
+ghost use Rattle.gq_lines.specs.Written.{spaced, line_text};
 ghost use Rattle.gq_plan.specs.PlanWords.{word_of};
 
+use gq_lines::put_number;
 use gq_memory::{GrowCopies, GrowVec, OutOfMemory};
-use gq_text::put_number;
 
 /// A word NAME=VALUE.
 #[derive(Clone, Copy)]

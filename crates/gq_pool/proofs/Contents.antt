@@ -7,7 +7,7 @@ use Rattle.std.proofs.Math.Seq.{take-length}
 use borrow.Rule.Slice.PartMut.{put_mid}
 use denote.RawPtr.{Ptr, null_ptr}
 use Rattle.gq_pool.specs.Linked.{first_bytes, bytes_at}
-use Rattle.gq_pool.specs.declared.TheConstants.{BLOCK_BYTES}
+use Rattle.gq_tag.specs.declared.TheConstants.{BLOCK_BYTES}
 use Rattle.gq_pool.specs.Blocks.{content_of}
 
 pub content_of-zero : (bs : List (List ℕ)) → content_of 0 bs ≡ []

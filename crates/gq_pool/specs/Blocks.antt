@@ -1,6 +1,6 @@
 -- Contents in blocks.
 use Rattle.std.specs.Prelude.{ℕ, ◌+◌, ◌-◌, ◌/◌, min, List, [], ◌∷◌, ◌++◌, take}
-use Rattle.gq_pool.specs.declared.TheConstants.{BLOCK_BYTES}
+use Rattle.gq_tag.specs.declared.TheConstants.{BLOCK_BYTES}
 
 -- how many blocks n bytes take
 abbrev pub blocks_for : ℕ → ℕ

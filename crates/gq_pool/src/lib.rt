@@ -1,4 +1,4 @@
-//! Blocks of [`BLOCK_BYTES`] bytes: a pool owns the free ones, a chain owns those of its content.
+//! Blocks of [`gq_tag::BLOCK_BYTES`] bytes: a pool owns the free ones, a chain owns those of its content.
 //!
 //! Blocks are raw nodes on intrusive lists, as in an allocator with a free list: the pointer that links a block stands
 //! in the block, so that filling and draining a chain asks for no memory. `Nodes` has the few functions that carry
@@ -17,8 +17,5 @@ mod nodes;
 mod pool;
 mod spent;
 mod stack;
-
-/// The bytes of a block.
-pub const BLOCK_BYTES: usize = 64;
 
 pub use pool::{Chain, Pool, Short};

@@ -1,7 +1,7 @@
 //! The memory of a block with the pointer that links it, and where it lies.
 ghost use Rattle.std.specs.Prelude.{◌≡◌};
 
-use crate::BLOCK_BYTES;
+use gq_tag::BLOCK_BYTES;
 use std::alloc::AllocError;
 use std::marker::{Send, Sync};
 

@@ -2,9 +2,9 @@
 ghost use Rattle.std.specs.Prelude.{◌≡◌, ℕ, ◌+◌, ◌*◌, ◌^◌, ◌<◌, ◌≤◌, ◌↔◌, List, [], length, IfOk, IfErr, OnOk, OnErr, IsErr};
 ghost use Rattle.gq_pool.specs.Blocks.{blocks_for, content_of};
 
-use crate::BLOCK_BYTES;
 use crate::stack::{Block, Stack};
 use gq_memory::OutOfMemory;
+use gq_tag::BLOCK_BYTES;
 use std::alloc::Global;
 use std::marker::Model;
 use thiserror::Error;

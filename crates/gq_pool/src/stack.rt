@@ -3,10 +3,10 @@ ghost use Rattle.std.specs.Prelude.{◌≡◌, ℕ, ◌+◌, ◌*◌, ◌<◌, �
 ghost use Rattle.gq_pool.specs.Linked.{first_place};
 ghost use Rattle.gq_pool.specs.Blocks.{content_of};
 
-use crate::BLOCK_BYTES;
 use crate::node::{Link, Node};
 use crate::nodes::Nodes;
 use gq_memory::{OutOfMemory, boxed};
+use gq_tag::BLOCK_BYTES;
 use std::alloc::Global;
 use std::marker::Model;
 use std::ptr;

@@ -11,9 +11,9 @@ use Rattle.gq_inspect.specs.declared.mismatch.Mismatch.{Mismatch as MismatchIs}
 use Rattle.gq_inspect.specs.declared.mismatch.Mismatch.TheVariants.{Answer, Memory as MismatchMemory}
 use Rattle.gq_text.specs.Canonical.{IsScriptOf, script_text}
 use Rattle.gq_text.specs.Input.{event_of}
-use Rattle.gq_text.specs.Lines.{lines_of}
+use Rattle.gq_lines.specs.Lines.{lines_of}
 use Rattle.gq_text.specs.PlanText.{plan_of}
-use Rattle.gq_script.specs.Watched.{AppendsPrefix}
+use Rattle.gq_streams.specs.Watched.{AppendsPrefix}
 use Rattle.gq_script.specs.declared.script.ReadFault.{ReadFault}
 use Rattle.gq_script.specs.declared.script.ReadFault.TheVariants.{Read as NotRead, TooBig as ReadTooMuch, Memory as ReadMemory}
 use Rattle.gq_script.specs.declared.script.TheConstants.{MOST_INPUT}

@@ -16,7 +16,7 @@ use Rattle.gq_session.specs.Fitting.{is_change, plan_sessions}
 use Rattle.gq_session.specs.declared.fitting.SessionId.{SessionId}
 use Rattle.gq_session.specs.declared.records.Opening.{Opening}
 use Rattle.gq_session.specs.declared.records.Programs.{Programs}
-use Rattle.gq_text.specs.Lines.{lines_of}
+use Rattle.gq_lines.specs.Lines.{lines_of}
 use Rattle.gq_text.specs.Input.{event_of}
 use Rattle.gq_text.specs.PlanText.{Reading, plan_of}
 use Rattle.gq_runs.specs.declared.programs.ProgramFault.{ProgramFault}

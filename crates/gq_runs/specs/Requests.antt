@@ -1,14 +1,14 @@
 -- What a request asks to be written, when each of its faults comes, and the statuses of these.
 use Rattle.std.specs.Prelude.{◌≡◌, ℕ, ◌<◌, ◌≤◌, List, Option, Some, None, Err, length}
 use Rattle.std.specs.Io.KnownBytes.{Appends}
-use Rattle.gq_words.specs.declared.words.Request.{Request}
-use Rattle.gq_words.specs.declared.words.Request.TheVariants.{Run, Step, Order, History, Picture, Finish, Live}
+use Rattle.gq_script_words.specs.declared.words.Request.{Request}
+use Rattle.gq_script_words.specs.declared.words.Request.TheVariants.{Run, Step, Order, History, Picture, Finish, Live}
 use Rattle.gq_script.specs.Out.{out, IsAccepted}
-use Rattle.gq_script.specs.Watched.{AppendsPrefix}
+use Rattle.gq_streams.specs.Watched.{AppendsPrefix}
 use Rattle.gq_script.specs.declared.script.RunFault.{RunFault}
 use Rattle.gq_script.specs.declared.script.RunFault.TheVariants.{Read, TooBig, Plan, Memory, Write}
 use Rattle.gq_script.specs.declared.script.TheConstants.{MOST_INPUT}
-use Rattle.gq_text.specs.Lines.{lines_of}
+use Rattle.gq_lines.specs.Lines.{lines_of}
 use Rattle.gq_text.specs.PlanText.{plan_of, NamesTenant}
 use Rattle.gq_session.specs.declared.records.LiveFault.TheVariants.{Memory as LiveMemory, Thread, Gate, Stamps, Letter}
 use Rattle.gq_files.specs.Orders.{order_out}

@@ -1,7 +1,7 @@
 //! A live run, and the script that it was.
 
 ghost use Rattle.std.specs.Prelude.{◌≡◌, ◌≢◌, ◌↔◌, ◌≤◌, length, true, false, IfOk, IfErr, IfSome, OnOk, IsErrOf};
-ghost use Rattle.gq_script.specs.Watched.{inner_of, has_failed};
+ghost use Rattle.gq_streams.specs.Watched.{inner_of, has_failed};
 ghost use Rattle.gq_session.specs.Fitting.{FitsPlan};
 ghost use Rattle.gq_runs.specs.LiveRuns.{IsLiveScript, IsScriptOfRun, IsLiveFaultOf, IsMismatchOf, IsFaultOfRun, IsFaultOfScript, AppendsLive, AppendsLivePrefix, GivesPrograms, NoGateFault};
 
@@ -10,7 +10,8 @@ use gq_desk::{Name, Plan};
 use gq_inspect::{Mismatch, inspect};
 use gq_live::{Gate, LiveFault, Programs, live};
 use gq_memory::OutOfMemory;
-use gq_script::{MOST_INPUT, ReadFault, Watched, WriteFault, read_whole, write_whole};
+use gq_script::{MOST_INPUT, ReadFault, read_whole};
+use gq_streams::{Watched, WriteFault, write_whole};
 use gq_text::write_script;
 use std::alloc::Global;
 use std::fmt::{Display, Error as FormatError, Formatter, Write as FormatWrite};

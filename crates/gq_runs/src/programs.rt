@@ -8,7 +8,7 @@ ghost use Rattle.gq_desk.specs.Volumes.{account_at, open_fault, with_volume};
 ghost use Rattle.gq_desk.specs.declared.limits.TheConstants.{MOST_TENANTS};
 ghost use Rattle.gq_model.specs.Events.{IsIn};
 ghost use Rattle.gq_text.specs.Input.{event_of};
-ghost use Rattle.gq_text.specs.Lines.{lines_of};
+ghost use Rattle.gq_lines.specs.Lines.{lines_of};
 ghost use Rattle.gq_text.specs.PlanText.{plan_of};
 ghost use Rattle.gq_session.specs.Fitting.{FitsPlan, is_change};
 ghost use Rattle.gq_session.specs.declared.fitting.SessionId.{SessionId};
@@ -16,11 +16,12 @@ ghost use Rattle.gq_runs.specs.Gathering.{AreByTenant, line_for, list_at, reques
 ghost use Rattle.gq_runs.specs.Programs.{AreOf, IsProgramsOf, server_line_in, desk_after, desk_with_line, events_fault, fault_of, first_fault, line_fault, names_session, new_desk, opening_of, refused_at, steps_fault, tenant_fault, fault_unless};
 
 use gq_desk::{Desk, MOST_STEPS, OpenRefused, Plan, TenantRow};
+use gq_lines::first_line;
 use gq_memory::{GrowVec, OutOfMemory};
 use gq_model::{Event, Line, ServerLine};
 use gq_script::MOST_INPUT;
 use gq_session::{Lines, Opening, Programs, SessionId, sessions_of};
-use gq_text::{PlanText, TextFault, first_line, read_line, read_plan};
+use gq_text::{PlanText, TextFault, read_line, read_plan};
 use std::alloc::Global;
 use thiserror::Error;
 

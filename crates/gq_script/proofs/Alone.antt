@@ -14,8 +14,8 @@ use Rattle.gq_model.specs.declared.events.Event.TheVariants.{Tenant, Server}
 use Rattle.gq_model.specs.Trace.{Turn, Own, Serving, Past, start}
 use Rattle.gq_model.specs.Lone.{after, past_of, told_from}
 use Rattle.gq_model.specs.Events.{turn_of, own, past_at, answer_to}
-use Rattle.gq_text.specs.Words.{words_of}
-use Rattle.gq_text.specs.Lines.{lines_of}
+use Rattle.gq_lines.specs.Words.{words_of}
+use Rattle.gq_lines.specs.Lines.{lines_of}
 use Rattle.gq_text.specs.Input.{event_of}
 use Rattle.gq_text.specs.PlanText.{Reading, plan_of}
 use Rattle.gq_text.specs.AnswerText.{who}

@@ -15,7 +15,7 @@ use Rattle.gq_model.specs.Events.{turn_of, own, server_lines, answer_to}
 use Rattle.gq_world.specs.Tables.{Tables, Stands}
 use Rattle.gq_order.specs.Runs.{IsRun}
 use Rattle.gq_order.proofs.Growing.{runs-grow}
-use Rattle.gq_text.specs.Lines.{lines_of, joined}
+use Rattle.gq_lines.specs.Lines.{lines_of, joined}
 use Rattle.gq_text.specs.Input.{event_of}
 use Rattle.gq_text.specs.AnswerText.{answer_line}
 use Rattle.gq_script.specs.Out.{answer_lines, output_lines}

@@ -4,8 +4,8 @@ use Rattle.std.specs.Prelude.{◌==◌, codes}
 use Rattle.std.specs.Str.{bytes_eq}
 use Rattle.gq_desk.specs.CheckedPlan.{CheckedPlan}
 use Rattle.gq_desk.specs.declared.plans.TenantRow.{TenantRow}
-use Rattle.gq_text.specs.Words.{words_of}
-use Rattle.gq_text.specs.Lines.{before_first, lines_of}
+use Rattle.gq_lines.specs.Words.{words_of}
+use Rattle.gq_lines.specs.Lines.{before_first, lines_of}
 use Rattle.gq_text.specs.PlanText.{then_read, at_line, line_at, grid_told, blocks_told, is_room, row_told, row_then, rows_from, checked, plan_of}
 use Rattle.gq_script.specs.Completing.{missing_newline}
 use Rattle.gq_text.proofs.PlanNames.{ok_same, row_and_rest, then_read_ok}

@@ -24,8 +24,8 @@ use Rattle.gq_laws.specs.Progress.{deliveries_left, IsOutcomeOf, QuorumsUp, stat
 use Rattle.gq_laws.proofs.AllTenants.{past_more}
 use Rattle.gq_laws.proofs.Asking.{all_requests_complete}
 use Rattle.gq_laws.proofs.CompletingAmong.{all_tenants_complete}
-use Rattle.gq_text.specs.Words.{words_of}
-use Rattle.gq_text.specs.Lines.{lines_of, joined}
+use Rattle.gq_lines.specs.Words.{words_of}
+use Rattle.gq_lines.specs.Lines.{lines_of, joined}
 use Rattle.gq_text.specs.Input.{event_of}
 use Rattle.gq_text.specs.Canonical.{IsPlan, FitsLine}
 use Rattle.gq_script.specs.Out.{out}

@@ -11,13 +11,13 @@ use Rattle.gq_desk.specs.declared.plans.TenantRow.{TenantRow}
 use Rattle.gq_desk.specs.declared.plans.PlanFault.{PlanFault}
 use Rattle.gq_text.specs.declared.plan_text.TextFault.{TextFault}
 use Rattle.gq_text.specs.declared.plan_text.TextFault.TheVariants.{Form, End, Check}
-use Rattle.gq_text.specs.Words.{words_of}
-use Rattle.gq_text.specs.Lines.{lines_of, joined}
+use Rattle.gq_lines.specs.Words.{words_of}
+use Rattle.gq_lines.specs.Lines.{lines_of, joined}
 use Rattle.gq_text.specs.Input.{event_of}
 use Rattle.gq_text.specs.PlanText.{Reading, then_read, at_line, line_at, grid_told, blocks_told, is_room, row_told, row_then, rows_from, plan_unless, checked, plan_of}
 use Rattle.gq_text.proofs.PlanNames.{ok_same}
 use Rattle.gq_script.specs.Out.{answer_lines, output_of, out}
-use Rattle.gq_text.specs.Pieces.{Extends}
+use Rattle.gq_lines.specs.Written.{Extends}
 use Rattle.gq_script.specs.Stepping.{AllEnded, OutputsGrow, room_in, MissesGo}
 use Rattle.gq_script.proofs.Behind.{lines_behind, line_behind, rows_behind, plan_behind}
 use Rattle.gq_script.proofs.Longer.{answers-append}

@@ -10,11 +10,12 @@ use Rattle.gq_model.specs.declared.events.Event.TheVariants.{Tenant}
 use Rattle.gq_model.specs.declared.events.Line.{Line}
 use Rattle.gq_model.specs.Events.{answer_to}
 use Rattle.gq_laws.specs.Tenants.{answers_from}
-use Rattle.gq_text.specs.Words.{Word}
-use Rattle.gq_text.specs.Lines.{lines_of, joined}
+use Rattle.gq_lines.specs.Words.{Word}
+use Rattle.gq_lines.specs.Lines.{lines_of, joined}
 use Rattle.gq_text.specs.Input.{event_of}
 use Rattle.gq_text.specs.PlanText.{plan_of}
-use Rattle.gq_text.specs.AnswerText.{line_text, answer_line}
+use Rattle.gq_lines.specs.Written.{line_text}
+use Rattle.gq_text.specs.AnswerText.{answer_line}
 use Rattle.gq_text.specs.Canonical.{line_words, event_line, IsPlan, FitsLine, Fits}
 use Rattle.gq_script.specs.Out.{answer_lines, output_of, out}
 use Rattle.gq_script.specs.Completing.{missing_newline, own_lines, longer, told_line}

@@ -24,11 +24,12 @@ use Rattle.gq_model.specs.declared.events.ServerRefusal.{ServerRefusal}
 use Rattle.gq_model.specs.declared.events.ServerRefusal.TheVariants.{Bad as ServerBad, NoServer, Lost as IsGone, Same, Last, NoPeer}
 use Rattle.gq_model.specs.Told.{Told, Chosen, Opened, VolumesAre, Began, Replied, IsDown, Stale, Noted, Round, Done, Lost, Resent, Abandoned, Refused, ServerOk, Repaired, ServerRefused, StrayBad}
 use Rattle.gq_laws.specs.Tenants.{answers}
-use Rattle.gq_text.specs.Words.{Word, words_of}
-use Rattle.gq_text.specs.Lines.{lines_of, joined}
+use Rattle.gq_lines.specs.Words.{Word, words_of}
+use Rattle.gq_lines.specs.Lines.{lines_of, joined}
 use Rattle.gq_text.specs.Input.{event_of}
 use Rattle.gq_text.specs.PlanText.{row_then, row_told, rows_from, plan_of}
-use Rattle.gq_text.specs.AnswerText.{answer_line, content_word, file_word, outcome_words, range_words, refusal_words, round_words, server_refusal_word, spaced, tag_words, told_words, volume_word, who}
+use Rattle.gq_lines.specs.Written.{content_word, spaced}
+use Rattle.gq_text.specs.AnswerText.{answer_line, file_word, outcome_words, range_words, refusal_words, round_words, server_refusal_word, tag_words, told_words, volume_word, who}
 use Rattle.gq_text.proofs.PlanNames.{ok_same, row_and_rest, row_named, rows_of_plan}
 use Rattle.gq_script.specs.Out.{lines_by, out, output_of}
 use Rattle.gq_script.specs.Alone.{answers_to, told_text}

@@ -6,8 +6,9 @@ use Rattle.std.proofs.lemmas.List.Elements.{All-nil, All-cons, All-head, All-tai
 use Rattle.gq_grid.specs.Grid.{Grid}
 use Rattle.gq_model.specs.Told.{Told, Chosen, Opened, VolumesAre, Began, Replied, IsDown, Stale, Noted, Round, Done, Lost, Resent, Abandoned, Refused, ServerOk, Repaired, ServerRefused, StrayBad}
 use Rattle.gq_model.specs.Lone.{is_refusal}
-use Rattle.gq_text.specs.Words.{Word}
-use Rattle.gq_text.specs.AnswerText.{ended, line_text, told_words}
+use Rattle.gq_lines.specs.Words.{Word}
+use Rattle.gq_lines.specs.Written.{ended, line_text}
+use Rattle.gq_text.specs.AnswerText.{told_words}
 use Rattle.gq_script.specs.Completing.{told_line, IsRefusal}
 use Rattle.gq_script.proofs.FewMessages.{is_stray}
 

@@ -13,7 +13,7 @@ use Rattle.gq_model.specs.declared.events.Line.{Line}
 use Rattle.gq_model.specs.declared.events.ServerLine.{ServerLine}
 use Rattle.gq_model.specs.Trace.{Turn, Own, Serving}
 use Rattle.gq_model.specs.Events.{turn_of}
-use Rattle.gq_text.specs.Words.{Word, words_of}
+use Rattle.gq_lines.specs.Words.{Word, words_of}
 use Rattle.gq_text.specs.Input.{line_of, server_line_of, place_named, tenant_event, event_of_words, event_of}
 use Rattle.gq_script.specs.Alone.{first_word_of, is_own, is_serving, seen_lines, turn_from, turns_of}
 use Rattle.gq_text.proofs.PlanNames.{HasPlace}

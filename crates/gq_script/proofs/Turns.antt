@@ -21,12 +21,12 @@ use Rattle.gq_script.specs.declared.stepping.TellFault.{TellFault}
 use Rattle.gq_script.specs.declared.stepping.TellFault.TheVariants.{Lines as NotAnswered, Write as NotWritten}
 use Rattle.gq_script.specs.declared.stepping.Stage.{Stage}
 use Rattle.gq_script.specs.declared.stepping.Stage.TheVariants.{Plan as StagePlan, Lines as StageLines}
-use Rattle.gq_text.specs.Lines.{lines_of, joined}
+use Rattle.gq_lines.specs.Lines.{lines_of, joined}
 use Rattle.gq_text.specs.PlanText.{Reading, plan_of, IsFaultOf}
 use Rattle.gq_text.specs.Input.{event_of}
 use Rattle.gq_script.specs.Out.{answer_lines, out}
-use Rattle.gq_text.specs.Pieces.{Extends}
-use Rattle.gq_script.specs.Watched.{AppendsPrefix, Moves}
+use Rattle.gq_lines.specs.Written.{Extends}
+use Rattle.gq_streams.specs.Watched.{AppendsPrefix, Moves}
 use Rattle.gq_script.specs.Faults.{of_reading}
 use Rattle.gq_script.specs.Stepping.{AnswersEnded, HasAnswered, AllEnded, IsPlanFaultIn, IsFinal, IsLast, IsOfPlan, IsTellFaultOf, room_in, MissesGo, of_telling}
 use Rattle.gq_script.proofs.Ends.{begun_from}

@@ -11,11 +11,12 @@ use Rattle.gq_model.specs.Trace.{Turn, Own, Serving, Leaping, Losing, Returning}
 use Rattle.gq_model.specs.Lone.{lone}
 use Rattle.gq_laws.specs.Tenants.{answers_from}
 use Rattle.gq_script.specs.declared.script.TheConstants.{MOST_INPUT}
-use Rattle.gq_text.specs.Words.{Word, words_of}
-use Rattle.gq_text.specs.Lines.{lines_of}
+use Rattle.gq_lines.specs.Words.{Word, words_of}
+use Rattle.gq_lines.specs.Lines.{lines_of}
 use Rattle.gq_text.specs.Input.{event_of, line_of, server_line_of}
 use Rattle.gq_text.specs.PlanText.{plan_of}
-use Rattle.gq_text.specs.AnswerText.{spaced, told_words, who}
+use Rattle.gq_lines.specs.Written.{spaced}
+use Rattle.gq_text.specs.AnswerText.{told_words, who}
 use Rattle.gq_script.specs.Out.{lines_by, out}
 
 -- the bytes of a line before its first space

@@ -14,10 +14,11 @@ use Rattle.gq_model.specs.Lone.{is_refusal, said, past_of, first_operation}
 use Rattle.gq_model.specs.Events.{IsRequestOf}
 use Rattle.gq_laws.specs.Progress.{deliveries_left, IsOutcomeOf, QuorumsUp, state_after, StepsLeft}
 use Rattle.gq_script.specs.declared.script.TheConstants.{MOST_INPUT}
-use Rattle.gq_text.specs.Words.{Word}
-use Rattle.gq_text.specs.AnswerText.{line_text, told_words}
+use Rattle.gq_lines.specs.Words.{Word}
+use Rattle.gq_lines.specs.Written.{line_text}
+use Rattle.gq_text.specs.AnswerText.{told_words}
 use Rattle.gq_text.specs.Canonical.{line_words, FitsLine}
-use Rattle.gq_text.specs.Lines.{joined}
+use Rattle.gq_lines.specs.Lines.{joined}
 use Rattle.gq_script.specs.Out.{out, IsAccepted}
 use Rattle.gq_script.specs.Alone.{turns_of, Accepts}
 

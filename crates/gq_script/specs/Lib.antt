@@ -1,4 +1,3 @@
-pub mod Watched
 pub mod Out
 pub mod Seeing
 pub mod Faults

@@ -8,7 +8,7 @@ use Rattle.gq_laws.specs.Tenants.{answers_from}
 use Rattle.gq_script.specs.declared.script.TheConstants.{MOST_INPUT}
 use Rattle.gq_script.specs.declared.script.RunFault.{RunFault}
 use Rattle.gq_script.specs.declared.script.RunFault.TheVariants.{Plan}
-use Rattle.gq_text.specs.Lines.{lines_of, joined}
+use Rattle.gq_lines.specs.Lines.{lines_of, joined}
 use Rattle.gq_text.specs.Input.{event_of, event_cut}
 use Rattle.gq_text.specs.PlanText.{Reading, plan_of}
 use Rattle.gq_text.specs.AnswerText.{answer_line}

@@ -12,11 +12,11 @@ use Rattle.gq_script.specs.declared.stepping.TellFault.TheVariants.{Lines as Not
 use Rattle.gq_script.specs.Faults.{of_plan}
 use Rattle.gq_script.specs.declared.stepping.Stage.{Stage}
 use Rattle.gq_script.specs.declared.stepping.Stage.TheVariants.{Plan, Lines}
-use Rattle.gq_text.specs.Lines.{lines_of}
+use Rattle.gq_lines.specs.Lines.{lines_of}
 use Rattle.gq_text.specs.Input.{event_of}
-use Rattle.gq_text.specs.Words.{words_of}
+use Rattle.gq_lines.specs.Words.{words_of}
 use Rattle.gq_text.specs.PlanText.{is_room, rows_from, plan_of, IsFaultOf}
-use Rattle.gq_text.specs.Pieces.{Extends}
+use Rattle.gq_lines.specs.Written.{Extends}
 use Rattle.gq_script.specs.Out.{out}
 use Rattle.gq_script.specs.Completing.{missing_newline}
 

@@ -7,13 +7,9 @@ mod notice;
 mod script;
 mod seeing;
 mod stepping;
-mod watched;
 
 pub use gq_text::{PlanText, TextFault, read_line, read_plan, write_answer, write_script};
 pub use notice::{NoNotice, Notice};
-pub use script::{
-    MOST_INPUT, ReadFault, RunFault, WriteFault, answers_of, read_whole, run, write_whole,
-};
+pub use script::{MOST_INPUT, ReadFault, RunFault, answers_of, read_whole, run};
 pub use seeing::{Answered, answer_lines};
 pub use stepping::step;
-pub use watched::Watched;

@@ -3,12 +3,11 @@
 ghost use Rattle.std.specs.Prelude.{◌≡◌, ◌≢◌, ◌↔◌, ◌+◌, ◌<◌, ◌≤◌, ◌++◌, [], ◌∷◌, List, true, false, Some, length, vec_len, map, if◌then◌else◌, IfOk, IfErr, IfSome, OnOk, OnErr, IsOk, IsErrOf};
 ghost use Rattle.std.specs.Io.KnownBytes.{Appends, IsAtEnd, Keeps};
 
-use crate::watched::Watched;
 use gq_desk::Plan;
+use gq_lines::cut_line;
 use gq_memory::{GrowCopies, GrowVec, OutOfMemory, filled};
-use gq_text::{
-    PlanText, QuorumText, TextFault, cut_line, read_cut_line, read_plan, write_next_answer,
-};
+use gq_streams::{Watched, WriteFault, write_whole};
+use gq_text::{PlanText, QuorumText, TextFault, read_cut_line, read_plan, write_next_answer};
 use gq_world::{Ended, World};
 use std::alloc::Global;
 use std::io::{Read, Write};
@@ -24,10 +23,6 @@ pub enum ReadFault {
     /// Memory is wanting.
     Memory(OutOfMemory),
 }
-
-/// A text was not written whole: the writer failed, or took none of some bytes. It is told as [`RunFault::Write`].
-#[derive(Drop)]
-pub struct WriteFault;
 
 /// Why a run ended early. After each fault but `Write` nothing was written.
 #[derive(Debug, Drop, Error)]
@@ -91,12 +86,12 @@ pub const MOST_INPUT: usize = 16_777_216;
 
 ghost use Rattle.gq_world.specs.Tables.{Stands};
 ghost use Rattle.gq_text.specs.Input.{event_of};
-ghost use Rattle.gq_text.specs.Lines.{lines_of, joined};
+ghost use Rattle.gq_lines.specs.Lines.{lines_of, joined};
 ghost use Rattle.gq_text.specs.PlanText.{plan_of, IsFaultOf};
 ghost use Rattle.gq_model.specs.declared.events.Event.{Event};
 ghost use Rattle.gq_script.specs.Out.{answer_lines as event_lines, output_lines, out, IsAccepted, IsPlanFaultOf};
 ghost use Rattle.gq_script.specs.Alone.{IsAnswered};
-ghost use Rattle.gq_script.specs.Watched.{inner_of, has_failed, AppendsPrefix, Moves};
+ghost use Rattle.gq_streams.specs.Watched.{inner_of, has_failed, AppendsPrefix, Moves};
 
 // The bytes of one read.
 pub const CHUNK: usize = 65_536;
@@ -221,32 +216,6 @@ fn output(alloc: Global, input: &[u8]) -> Result<Vec<u8>, PlanText>
         Ok(text) => Ok(text),
         Err(refused) => Err(PlanText::Memory(refused)),
     }
-}
-
-/// Writes the whole text by a loop over `write`. At a fault the writer has failed, and a prefix of the text was
-/// written. A writer that buffers is flushed by the caller.
-pub fn write_whole<W: Write>(writer: &mut Watched<W>, text: &[u8]) -> Result<(), WriteFault>
-    requires { has_failed writer.old ≡ false }
-    ensures ok { OnOk result (Appends (W.contents (inner_of writer.old))
-        (W.contents (inner_of writer.new)) text.now) }
-    ensures fine { OnOk result (has_failed writer.new ≡ false) }
-    ensures failed { OnErr result (has_failed writer.new ≡ true) }
-    ensures prefix { OnErr result (AppendsPrefix (W.contents (inner_of writer.old))
-        (W.contents (inner_of writer.new)) text.now) }
-{
-    let mut done = 0;
-    while done < text.len() {
-        match writer.write(&text[done..]) {
-            Ok(n) => {
-                if n == 0 {
-                    return Err(WriteFault);
-                }
-                done += n;
-            }
-            Err(_) => return Err(WriteFault),
-        }
-    }
-    Ok(())
 }
 
 /// Reads the whole input, of at most [`MOST_INPUT`] bytes, and writes one line for each of its lines after `go`. Nothing

@@ -9,14 +9,15 @@ ghost use Rattle.gq_order.specs.Runs.{IsRun};
 ghost use Rattle.gq_world.specs.Tables.{Stands};
 ghost use Rattle.gq_text.specs.AnswerText.{answer_line};
 ghost use Rattle.gq_text.specs.Input.{event_cut, event_of, event_of_words};
-ghost use Rattle.gq_text.specs.Lines.{lines_of, joined};
+ghost use Rattle.gq_lines.specs.Lines.{lines_of, joined};
 ghost use Rattle.gq_script.specs.Out.{line_cut, output_lines};
 ghost use Rattle.gq_script.specs.Seeing.{is_seen, seen_events, seen_places};
-ghost use Rattle.gq_text.specs.Words.{Word};
+ghost use Rattle.gq_lines.specs.Words.{Word};
 
 use gq_desk::Plan;
+use gq_lines::cut_line;
 use gq_memory::{GrowVec, OutOfMemory};
-use gq_text::{QuorumText, cut_line, read_cut_line, write_next_answer};
+use gq_text::{QuorumText, read_cut_line, write_next_answer};
 use gq_world::{Answer, Ended, Event, World};
 use std::alloc::Global;
 

@@ -4,13 +4,12 @@ ghost use Rattle.std.specs.Prelude.{◌≡◌, ◌≢◌, ◌↔◌, ◌++◌, �
 ghost use Rattle.std.specs.Io.KnownBytes.{Appends, Consumes};
 
 use crate::notice::Notice;
-use crate::script::{
-    CHUNK, MOST_INPUT, MOST_TURNS, RunFault, WriteFault, answers, blank, read_step, write_whole,
-};
-use crate::watched::Watched;
+use crate::script::{CHUNK, MOST_INPUT, MOST_TURNS, RunFault, answers, blank, read_step};
 use gq_desk::Plan;
+use gq_lines::first_line;
 use gq_memory::OutOfMemory;
-use gq_text::{PlanText, TextFault, first_line, is_room, read_plan, row_told};
+use gq_streams::{Watched, WriteFault, write_whole};
+use gq_text::{PlanText, TextFault, is_room, read_plan, row_told};
 use gq_world::World;
 use memchr::memrchr;
 use std::alloc::Global;
@@ -70,12 +69,12 @@ impl From<TellFault> for RunFault {
 ghost use Rattle.memchr.specs.Find.{Nowhere, Passes, is_byte};
 ghost use Rattle.gq_world.specs.Tables.{Stands};
 ghost use Rattle.gq_text.specs.Input.{event_of};
-ghost use Rattle.gq_text.specs.Lines.{lines_of, joined};
+ghost use Rattle.gq_lines.specs.Lines.{lines_of, joined};
 ghost use Rattle.gq_text.specs.PlanText.{plan_of, IsFaultOf};
 ghost use Rattle.gq_script.specs.Out.{output_lines, out, IsAccepted};
 ghost use Rattle.gq_script.specs.Alone.{IsAnswered};
 ghost use Rattle.gq_script.specs.Stepping.{AllEnded, AnswersEnded, IsPlanFaultIn, IsOfPlan, IsFinal, IsLast, IsTellFaultOf, room_in, MissesGo, HasAnswered};
-ghost use Rattle.gq_script.specs.Watched.{inner_of, has_failed, AppendsPrefix};
+ghost use Rattle.gq_streams.specs.Watched.{inner_of, has_failed, AppendsPrefix};
 
 // Lines 1 and 2 are no rows of tenants.
 const FIRST_ROW: u64 = 3;

@@ -20,7 +20,7 @@ use Rattle.gq_setup.specs.Leaving.{without}
 use Rattle.gq_setup.specs.Setups.{Setup, SetupReading, holdings, is_gone, kib_of}
 use Rattle.gq_setup.specs.Texts.{first_of_setup, first_read}
 use Rattle.gq_text.specs.Input.{place_named}
-use Rattle.gq_text.specs.Words.{Word, words_of}
+use Rattle.gq_lines.specs.Words.{Word, words_of}
 use Rattle.gq_service.specs.Gone.{facts_left, facts_taken, is_of_gone, names_gone, read_left, somebody_went}
 use Rattle.gq_service.specs.Both.{setup_read}
 use Rattle.gq_service.specs.Leaving.{BeginsWith, NoneOfTheGone, NothingIsLacked, WhoStaysIsWhole, own_fact, chunk_facts_of, AllChunksStay, NoRoomIsLacked}

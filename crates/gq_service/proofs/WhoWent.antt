@@ -7,7 +7,7 @@ use Rattle.gq_keeper.specs.Plans.{first_plan, last_plan}
 use Rattle.gq_setup.specs.Leaving.{without}
 use Rattle.gq_setup.specs.Setups.{Setup, SetupReading}
 use Rattle.gq_setup.specs.Texts.{setup_of_node_text}
-use Rattle.gq_text.specs.Words.{Word}
+use Rattle.gq_lines.specs.Words.{Word}
 use Rattle.gq_service.specs.Both.{setup_read}
 use Rattle.gq_service.specs.Gone.{IsRead, first_taken, more_gone, read_left, read_without, somebody_went}
 

@@ -1,7 +1,7 @@
 -- The form of a journal.
 use Rattle.std.specs.Prelude.{ℕ, List, [], ◌∷◌, Option, None, codes, if◌then◌else◌}
 use Rattle.std.specs.Str.{bytes_eq}
-use Rattle.gq_text.specs.Words.{Word, words_of, number_of}
+use Rattle.gq_lines.specs.Words.{Word, words_of, number_of}
 use Rattle.gq_journal.specs.Batches.{Line, whole_lines}
 
 -- the form that a line of these words tells: its first word is `journal`, and its second one the form's number

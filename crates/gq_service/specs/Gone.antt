@@ -1,6 +1,6 @@
 -- Tenants that went: gone by a node's plan, and not by the last plan of its journal.
 use Rattle.std.specs.Prelude.{◌≡◌, ℕ, List, [], ◌∷◌, length, Bool, true, false, nat_lt, Ok, Err, IsErr, Option, MatchOption}
-use Rattle.gq_text.specs.Words.{Word, words_of}
+use Rattle.gq_lines.specs.Words.{Word, words_of}
 use Rattle.gq_journal.specs.Batches.{Line, batches_of, lines_text}
 use Rattle.gq_keeper.specs.LeavingOut.{facts_but}
 use Rattle.gq_keeper.specs.Plans.{first_plan, last_plan}

@@ -2,7 +2,7 @@
 use Rattle.std.specs.Prelude.{◌≡◌, ◌⊎◌, ◌<◌, ℕ, Bool, List, [], length, Option}
 use Rattle.gq_chunks.specs.Machines.{Chunks}
 use Rattle.gq_setup.specs.Setups.{Setup}
-use Rattle.gq_wire.specs.Texts.{first_text}
+use Rattle.gq_lines.specs.Written.{first_text}
 use Rattle.gq_service.specs.Both.{both}
 use Rattle.gq_service.specs.Serving.{IsDurable, ServesSomehow, registers}
 

@@ -6,7 +6,7 @@ use Rattle.std.specs.List.{list_all}
 use Rattle.std.proofs.lemmas.Bool.{and_from, cases_Bool}
 use Rattle.std.proofs.lemmas.List.Folds.{list_all-append}
 use Rattle.std.proofs.lemmas.Slice.Eq.{bytes_eq-Decides}
-use Rattle.gq_text.specs.Words.{Word, words_of}
+use Rattle.gq_lines.specs.Words.{Word, words_of}
 use Rattle.gq_text.specs.Input.{◌>>=◌, place_named}
 use Rattle.gq_text.specs.Canonical.{IsPlan}
 use Rattle.gq_desk.specs.CheckedPlan.{CheckedPlan}

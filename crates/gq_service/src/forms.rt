@@ -5,7 +5,7 @@ ghost use Rattle.std.specs.Prelude.{◌≡◌};
 ghost use Rattle.gq_service.specs.Forms.{form_of};
 
 use gq_journal::first_whole_line;
-use gq_text::{first_word, next_word, number};
+use gq_lines::{first_word, next_word, number};
 
 /// The form that the journal of this text says it has; none where it says none, as the first form does.
 #[tactic(auto, unfolding(crate::specs::Forms::form_by))]

@@ -7,9 +7,9 @@ ghost use Rattle.gq_setup.specs.Texts.{setup_of_node_text};
 ghost use Rattle.gq_service.specs.Gone.{IsRead, somebody_went, read_left, read_without};
 
 use gq_keeper::{LeavesOut, last_plan};
+use gq_lines::{first_word, next_word};
 use gq_memory::OutOfMemory;
 use gq_setup::{Setup, read_node_plan};
-use gq_text::{first_word, next_word};
 use std::alloc::Global;
 
 /// Which facts a start leaves out where tenants went: each that names one who is gone by this setup.

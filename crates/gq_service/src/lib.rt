@@ -25,7 +25,7 @@ mod this_node;
 pub use both::{Both, ByVerb, WithChunks};
 pub use console::{Console, Standard};
 pub use fault::{NodeFault, Told};
-pub use gq_words::NodeRequest;
+pub use gq_node_words::NodeRequest;
 pub use mismatch::Mismatch;
 pub use promise::Durable;
 pub use registers::RegistersAlone;

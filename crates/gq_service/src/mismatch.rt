@@ -7,9 +7,9 @@ ghost use Rattle.gq_service.specs.Serving.{TellsMismatch};
 
 use crate::this_node::ThisNode;
 use gq_keeper::last_plan;
+use gq_lines::{first_word, next_word, number};
 use gq_memory::OutOfMemory;
 use gq_setup::{NotKept, read_node_plan};
-use gq_text::{first_word, next_word, number};
 use std::alloc::Global;
 
 /// Why a journal is not one from which a node goes on.

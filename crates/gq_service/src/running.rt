@@ -1,7 +1,7 @@
 //! A node as it is asked for.
 
 ghost use Rattle.std.specs.Prelude.{◌++◌, ℕ, List, OnOk};
-ghost use Rattle.gq_wire.specs.Texts.{first_text};
+ghost use Rattle.gq_lines.specs.Written.{first_text};
 ghost use Rattle.gq_service.specs.Both.{chunks_of};
 ghost use Rattle.gq_service.specs.Kinds.{kind};
 ghost use Rattle.gq_service.specs.Promises.{IsDurableByPlan, IsDurableByRoom, ServesByPlan, ServesByRoom};
@@ -19,9 +19,9 @@ use crate::this_node::ThisNode;
 use gq_chunks::ChunkMachine;
 use gq_keeper::Output;
 use gq_machine::NodeMachine;
+use gq_node_words::NodeRequest;
 use gq_pair::Pair;
 use gq_shelf::Shelf;
-use gq_words::NodeRequest;
 use std::alloc::Global;
 use std::fs::File;
 use std::io::Read;

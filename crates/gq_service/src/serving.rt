@@ -6,7 +6,7 @@ ghost use Rattle.gq_keeper.specs.Crashes.{Elapses, Leaves, LeavesSyncing};
 ghost use Rattle.gq_keeper.specs.Plans.{first_plan, is_of};
 ghost use Rattle.gq_setup.specs.GoingOn.{goes_on_from_read};
 ghost use Rattle.gq_setup.specs.Texts.{setup_of_node_text};
-ghost use Rattle.gq_wire.specs.Texts.{first_text};
+ghost use Rattle.gq_lines.specs.Written.{first_text};
 ghost use Rattle.gq_keeper.specs.Durable.{AllSealed, IsAnew};
 ghost use Rattle.gq_keeper.specs.Restarting.{Restarts};
 ghost use Rattle.std.specs.List.{list_all};

@@ -22,9 +22,8 @@ use gq_grid::{Grid, ServerSet};
 use gq_memory::OutOfMemory;
 use gq_model::{Line, Refusal, Said};
 use gq_phase::{BeginRefused, Heard, Operation, ResendRefused};
-use gq_pool::BLOCK_BYTES;
 use gq_round::{Messages, Who};
-use gq_tag::{Body, FileId, Message};
+use gq_tag::{BLOCK_BYTES, Body, FileId, Message};
 use std::alloc::Global;
 
 /// What was said in a step, and the messages that it sent.

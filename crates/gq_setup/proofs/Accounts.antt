@@ -5,7 +5,7 @@ use Rattle.gq_desk.specs.CheckedPlan.{nobody}
 use Rattle.gq_desk.specs.declared.plans.TenantRow.{TenantRow}
 use Rattle.gq_desk.specs.Volumes.{Account, account_at, no_account}
 use Rattle.gq_desk.specs.declared.volumes.VolumeRow.{VolumeRow}
-use Rattle.gq_text.specs.Words.{Word}
+use Rattle.gq_lines.specs.Words.{Word}
 use Rattle.gq_setup.specs.GoingOn.{come_first, same_volume, account_goes_on, volumes_left, accounts_left}
 use Rattle.gq_setup.proofs.Comparing.{differs, goes}
 

@@ -6,7 +6,7 @@ use Rattle.std.proofs.lemmas.Bool.{and_parts}
 use Rattle.std.proofs.lemmas.Slice.Eq.{bytes_eq-Decides}
 use Rattle.gq_desk.specs.CheckedPlan.{CheckedPlan}
 use Rattle.gq_desk.specs.Names.{is_name}
-use Rattle.gq_text.specs.Words.{Word}
+use Rattle.gq_lines.specs.Words.{Word}
 use Rattle.gq_text.specs.Input.{place_named}
 use Rattle.gq_setup.specs.declared.openings.TheConstants.{MOST_GONE}
 use Rattle.gq_setup.specs.Setups.{is_gone, can_go, CanGo}

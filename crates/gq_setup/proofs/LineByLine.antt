@@ -5,7 +5,7 @@ use Rattle.std.proofs.Math.ListN.{length-set}
 use Rattle.gq_desk.specs.CheckedPlan.{CheckedPlan}
 use Rattle.gq_desk.specs.declared.plans.TenantRow.{TenantRow}
 use Rattle.gq_desk.specs.Volumes.{Account, OpenFault, new_account}
-use Rattle.gq_text.specs.Lines.{lines_of}
+use Rattle.gq_lines.specs.Lines.{lines_of}
 use Rattle.gq_setup.specs.declared.openings.Opening.{Opening}
 use Rattle.gq_setup.specs.declared.openings.SetupFault.{SetupFault}
 use Rattle.gq_setup.specs.declared.openings.SetupFault.TheVariants.{Plan, Live, OpenSize, OpenVolumes, OpenShare, Chunks, Replace, Gone, Memory}

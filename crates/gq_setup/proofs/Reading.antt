@@ -18,14 +18,15 @@ use Rattle.gq_model.specs.declared.events.Event.{Event}
 use Rattle.gq_model.specs.declared.events.Event.TheVariants.{Server}
 use Rattle.gq_model.specs.declared.events.Line.{Line}
 use Rattle.gq_model.specs.Events.{IsIn}
-use Rattle.gq_text.specs.Words.{Word, words_of}
-use Rattle.gq_text.specs.Lines.{lines_of}
+use Rattle.gq_lines.specs.Words.{Word, words_of}
+use Rattle.gq_lines.specs.Lines.{lines_of}
 use Rattle.gq_text.specs.Input.{◌>>=◌, line_of, server_line_of, one_number_of, two_numbers_of, three_numbers_of, file_content_of, place_named, tenant_event, event_of, event_of_words}
-use Rattle.gq_text.specs.AnswerText.{spaced}
+use Rattle.gq_lines.specs.Written.{spaced}
 use Rattle.gq_text.specs.Canonical.{event_line, plan_text, script_text, IsScriptOf, IsPlan}
-use Rattle.gq_text.proofs.Numbers.{numbers_read_back}
-use Rattle.gq_text.proofs.Plain.{is_plain, are_plain, decimal_plain, name_plain, line_inner}
-use Rattle.gq_text.proofs.LinesBack.{words_back, line_back}
+use Rattle.gq_lines.proofs.Numbers.{numbers_read_back}
+use Rattle.gq_lines.proofs.Plain.{is_plain, are_plain, decimal_plain, line_inner}
+use Rattle.gq_text.proofs.Plain.{name_plain}
+use Rattle.gq_lines.proofs.LinesBack.{words_back, line_back}
 use Rattle.gq_text.proofs.PlanNames.{HasPlace, place_of_row, ok_same}
 use Rattle.gq_text.proofs.PlanIs.{plan_is, small_grid}
 use Rattle.gq_text.proofs.ScriptBack.{plan_back}

@@ -4,7 +4,7 @@ use Rattle.std.specs.Prelude.{◌==◌, ◌||◌, nat_le}
 use Rattle.std.specs.List.{All}
 use Rattle.std.proofs.lemmas.Bool.{and_parts, eqb-true, leb-true}
 use Rattle.gq_desk.specs.CheckedPlan.{CheckedPlan}
-use Rattle.gq_text.specs.Words.{Word}
+use Rattle.gq_lines.specs.Words.{Word}
 use Rattle.gq_setup.specs.declared.openings.ChunkRoom.{ChunkRoom}
 use Rattle.gq_setup.specs.Setups.{kib_of, can_have, CanHave, is_gone_at}
 use Rattle.gq_setup.specs.GoingOn.{rooms_kept, rooms_go_on}

@@ -9,7 +9,7 @@ use Rattle.gq_desk.specs.CheckedPlan.{CheckedPlan, nobody}
 use Rattle.gq_desk.specs.declared.plans.TenantRow.{TenantRow}
 use Rattle.gq_desk.specs.declared.volumes.VolumeRow.{VolumeRow}
 use Rattle.gq_desk.specs.Volumes.{Account, account_at, no_account}
-use Rattle.gq_text.specs.Words.{Word}
+use Rattle.gq_lines.specs.Words.{Word}
 use Rattle.gq_replace.specs.Plans.{times, GoesOn}
 use Rattle.gq_replace.proofs.Chains.{times_grow}
 use Rattle.gq_node.specs.Sites.{plan_in, number_of, home_place}

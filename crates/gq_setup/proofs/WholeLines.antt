@@ -5,11 +5,11 @@ use Rattle.std.specs.List.{flat_map}
 use Rattle.gq_desk.specs.CheckedPlan.{CheckedPlan, row_at}
 use Rattle.gq_model.specs.declared.events.Event.{Event}
 use Rattle.gq_model.specs.declared.events.Event.TheVariants.{Tenant, Server, Stray}
-use Rattle.gq_text.specs.Words.{Word}
-use Rattle.gq_text.specs.Lines.{lines_of, before_first}
-use Rattle.gq_text.specs.AnswerText.{spaced, line_text}
+use Rattle.gq_lines.specs.Words.{Word}
+use Rattle.gq_lines.specs.Lines.{lines_of, before_first}
+use Rattle.gq_lines.specs.Written.{spaced, line_text}
 use Rattle.gq_text.specs.Canonical.{line_words, server_line_words, event_line}
-use Rattle.gq_text.proofs.Plain.{is_inner, inner_parts}
+use Rattle.gq_lines.proofs.Plain.{is_inner, inner_parts}
 use Rattle.gq_setup.specs.Texts.{behind_first}
 
 -- the lines of what is behind it come behind its own

@@ -3,7 +3,7 @@
 use Rattle.std.specs.Prelude.{◌≡◌, ℕ, ◌<◌, ◌≤◌, List, [], ◌++◌, length, slice_get, None, true, false}
 use Rattle.gq_desk.specs.CheckedPlan.{row_at}
 use Rattle.gq_desk.specs.Volumes.{account_at}
-use Rattle.gq_text.specs.Words.{Word}
+use Rattle.gq_lines.specs.Words.{Word}
 use Rattle.gq_text.specs.Input.{place_named}
 use Rattle.gq_replace.specs.Plans.{times, node_at}
 use Rattle.gq_node.specs.Sites.{Here, plan_in, home_place, session_at}

@@ -1,7 +1,7 @@
 -- What of a setup is left once tenants are gone.
 use Rattle.std.specs.Prelude.{ℕ, List, Bool, not, filter}
 use Rattle.gq_desk.specs.CheckedPlan.{CheckedPlan}
-use Rattle.gq_text.specs.Words.{Word}
+use Rattle.gq_lines.specs.Words.{Word}
 use Rattle.gq_setup.specs.declared.openings.Opening.{Opening}
 use Rattle.gq_setup.specs.declared.openings.ChunkRoom.{ChunkRoom}
 use Rattle.gq_setup.specs.Setups.{Setup, is_gone_at}

@@ -5,7 +5,7 @@ use Rattle.gq_desk.specs.CheckedPlan.{CheckedPlan}
 use Rattle.gq_desk.specs.declared.plans.TenantRow.{TenantRow}
 use Rattle.gq_desk.specs.declared.volumes.VolumeRow.{VolumeRow}
 use Rattle.gq_desk.specs.Volumes.{Account, account_at}
-use Rattle.gq_text.specs.Words.{Word}
+use Rattle.gq_lines.specs.Words.{Word}
 use Rattle.gq_setup.specs.declared.going_on.NotKept.{NotKept}
 use Rattle.gq_setup.specs.declared.going_on.NotKept.TheVariants.{Grid, Blocks, Loss, Gone, Tenant, Sessions, Share, Volume, Chunks}
 use Rattle.gq_setup.specs.declared.openings.ChunkRoom.{ChunkRoom}

@@ -15,8 +15,8 @@ use Rattle.gq_model.specs.declared.events.Event.TheVariants.{Tenant, Server, Str
 use Rattle.gq_model.specs.declared.events.Line.{Line}
 use Rattle.gq_model.specs.declared.events.Line.TheVariants.{NewVolume}
 use Rattle.gq_text.specs.declared.plan_text.TextFault.{TextFault}
-use Rattle.gq_text.specs.Words.{Word, words_of, number_of}
-use Rattle.gq_text.specs.Lines.{lines_of}
+use Rattle.gq_lines.specs.Words.{Word, words_of, number_of}
+use Rattle.gq_lines.specs.Lines.{lines_of}
 use Rattle.gq_text.specs.Input.{◌>>=◌, event_of, place_named}
 use Rattle.gq_text.specs.PlanText.{plan_of, Reading}
 use Rattle.gq_replace.specs.Plans.{times, node_at, place_of}

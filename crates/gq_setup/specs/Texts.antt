@@ -8,8 +8,8 @@ use Rattle.gq_desk.specs.Volumes.{account_at}
 use Rattle.gq_model.specs.declared.events.Event.{Event}
 use Rattle.gq_model.specs.declared.events.Event.TheVariants.{Tenant}
 use Rattle.gq_model.specs.declared.events.Line.TheVariants.{NewVolume}
-use Rattle.gq_text.specs.Words.{Word}
-use Rattle.gq_text.specs.AnswerText.{line_text}
+use Rattle.gq_lines.specs.Words.{Word}
+use Rattle.gq_lines.specs.Written.{line_text}
 use Rattle.gq_text.specs.Canonical.{script_text}
 use Rattle.gq_journal.specs.Batches.{Line, lines_text}
 use Rattle.gq_node.specs.Resting.{FirstPlan}

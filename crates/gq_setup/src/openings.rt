@@ -1,14 +1,15 @@
 //! What a line behind a plan says: a volume that is opened, what a tenant may have of chunks, a node that was lost, or a tenant that is gone.
 
 ghost use Rattle.std.specs.Prelude.{◌≡◌, ◌<◌, length, None, Some, IfOk, IfSome, MatchOption};
-ghost use Rattle.gq_text.specs.Words.{words_of};
+ghost use Rattle.gq_lines.specs.Words.{words_of};
 ghost use Rattle.gq_text.specs.Input.{event_of};
 ghost use Rattle.gq_setup.specs.Setups.{event_opens, many_from, many_told, word_behind, room_from, room_told, kib_of, is_gone};
 
 use gq_desk::{Name, Plan};
+use gq_lines::{first_word, is_end, next_word, number};
 use gq_memory::OutOfMemory;
 use gq_model::{Event, Line};
-use gq_text::{TextFault, first_word, is_end, next_word, number, read_line};
+use gq_text::{TextFault, read_line};
 use std::alloc::Global;
 use thiserror::Error;
 

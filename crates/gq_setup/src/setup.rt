@@ -8,9 +8,9 @@ ghost use Rattle.std.specs.List.{All, flat_map};
 ghost use Rattle.gq_desk.specs.Volumes.{account_at, free_of};
 ghost use Rattle.gq_desk.specs.declared.limits.TheConstants.{MOST_VOLUMES};
 ghost use Rattle.gq_model.specs.Events.{IsIn};
-ghost use Rattle.gq_text.specs.Words.{number_of};
-ghost use Rattle.gq_text.specs.Lines.{lines_of};
-ghost use Rattle.gq_text.specs.Pieces.{Extends};
+ghost use Rattle.gq_lines.specs.Words.{number_of};
+ghost use Rattle.gq_lines.specs.Lines.{lines_of};
+ghost use Rattle.gq_lines.specs.Written.{Extends};
 ghost use Rattle.gq_grid.specs.declared.TheConstants.{MOST_SERVERS};
 ghost use Rattle.gq_replace.specs.Plans.{times};
 ghost use Rattle.gq_node.specs.declared.lost.TheConstants.{MOST_TIMES};
@@ -34,10 +34,11 @@ use crate::openings::{
 };
 use gq_desk::{Desk, Name, OpenRefused, Plan, VolumeRow};
 use gq_grid::MOST_SERVERS;
+use gq_lines::{first_line, number};
 use gq_memory::{GrowCopies, GrowVec, OutOfMemory, RoomInVec, slice_copied};
 use gq_model::{Event, Line};
 use gq_node::{Lost, LostRefused, MOST_TIMES};
-use gq_text::{Piece, PlanText, first_line, number, put_words, read_plan, write_script};
+use gq_text::{Piece, PlanText, put_words, read_plan, write_script};
 use std::alloc::Global;
 use std::marker::Model;
 

@@ -6,7 +6,7 @@ use Rattle.std.proofs.Math.Seq.{take-length}
 use Rattle.std.proofs.lemmas.Bool.{eqb-true}
 use Rattle.std.proofs.lemmas.List.{get_or-drop}
 use Rattle.memchr.specs.Find.{IsFirstByte, is_byte}
-use Rattle.gq_text.specs.Lines.{lines_of, before_first}
+use Rattle.gq_lines.specs.Lines.{lines_of, before_first}
 
 first_onto : (x y : ℕ) (xs ys : List ℕ) → before_first x (lines_of (y ∷ xs)) ++ lines_of ys ≡ before_first x (lines_of (y ∷ xs) ++ lines_of ys)
 first_onto x y xs ys = by (y == 10) (lines_of xs)

@@ -7,7 +7,7 @@ use Rattle.std.proofs.lemmas.List.Elements.{All-append}
 use Rattle.std.proofs.lemmas.List.{drop-drop, map-append, get_or_default, get_or-set_same, get_or-set_other}
 use Rattle.gq_desk.specs.CheckedPlan.{CheckedPlan}
 use Rattle.gq_text.specs.Input.{event_of}
-use Rattle.gq_text.specs.Lines.{lines_of, before_first}
+use Rattle.gq_lines.specs.Lines.{lines_of, before_first}
 use Rattle.gq_world.specs.Tables.{Tables}
 use Rattle.gq_shards.specs.declared.dealing.Dealt.{Dealt}
 use Rattle.gq_shards.specs.declared.dealing.Section.{Section}

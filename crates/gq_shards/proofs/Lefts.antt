@@ -5,8 +5,8 @@ use Rattle.std.specs.Io.KnownBytes.{Appends}
 use Rattle.std.proofs.Math.Seq.{take-append_seam, drop-append_seam}
 use Rattle.std.proofs.lemmas.Bool.{cases_eq, ne_eqb, eq-eqb}
 use Rattle.std.proofs.lemmas.List.{drop_more, drop-drop, get_or_default, get_or-replicate, get_or-set_same, get_or-set_other, length-set, length-replicate}
-use Rattle.gq_text.specs.Lines.{joined}
-use Rattle.gq_script.specs.Watched.{AppendsPrefix}
+use Rattle.gq_lines.specs.Lines.{joined}
+use Rattle.gq_streams.specs.Watched.{AppendsPrefix}
 use Rattle.gq_shards.specs.declared.telling.Told.{Told}
 use Rattle.gq_shards.specs.declared.merging.Place.{Place}
 use Rattle.gq_shards.specs.declared.lengths.LengthPlace.{LengthPlace}

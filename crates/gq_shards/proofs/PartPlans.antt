@@ -7,7 +7,7 @@ use Rattle.std.proofs.lemmas.Bool.{eq-eqb}
 use Rattle.gq_desk.specs.Plans.{is_of}
 use Rattle.gq_desk.specs.CheckedPlan.{CheckedPlan, nobody}
 use Rattle.gq_desk.specs.declared.plans.TenantRow.{TenantRow}
-use Rattle.gq_text.specs.Words.{Word}
+use Rattle.gq_lines.specs.Words.{Word}
 use Rattle.gq_text.specs.Input.{place_named, event_of_words}
 use Rattle.gq_shards.specs.Shards.{shard_of, part_row, part_rows, IsPart}
 

@@ -4,7 +4,7 @@ use Rattle.std.proofs.Math.Seq.{take-append_seam, take-append-add}
 use Rattle.std.proofs.lemmas.List.{length-take-le, take-take, take-append-le}
 use Rattle.std.specs.Io.KnownBytes.{Appends}
 use Rattle.std.proofs.KnownBytes.{Appends-nil, Appends-trans}
-use Rattle.gq_script.specs.Watched.{AppendsPrefix}
+use Rattle.gq_streams.specs.Watched.{AppendsPrefix}
 use Rattle.gq_shards.specs.Shards.{Passes}
 
 -- what holds of an error holds where there is one

@@ -16,8 +16,9 @@ use Rattle.gq_model.specs.Events.{turn_of, own, server_turn, server_lines, answe
 use Rattle.gq_text.specs.Input.{event_of}
 use Rattle.gq_grid.specs.Grid.{Grid}
 use Rattle.gq_desk.specs.declared.plans.TenantRow.{TenantRow}
-use Rattle.gq_text.specs.AnswerText.{answer_line, line_text, told_words}
-use Rattle.gq_text.specs.Lines.{lines_of, joined}
+use Rattle.gq_lines.specs.Written.{line_text}
+use Rattle.gq_text.specs.AnswerText.{answer_line, told_words}
+use Rattle.gq_lines.specs.Lines.{lines_of, joined}
 use Rattle.gq_text.specs.PlanText.{Reading, plan_of}
 use Rattle.gq_script.specs.Out.{answer_lines, output_lines, output_of, out}
 use Rattle.gq_world.specs.Tables.{Tables, Stands}

@@ -21,7 +21,7 @@ use Rattle.gq_shards.specs.declared.merging.AnswersFault.{AnswersFault}
 use Rattle.gq_shards.specs.declared.merging.AnswersFault.TheVariants.{Memory as NoMemory, Write as NotWritten}
 use Rattle.gq_script.specs.declared.script.RunFault.TheVariants.{Memory, Write}
 use Rattle.gq_text.specs.Input.{event_of}
-use Rattle.gq_text.specs.Lines.{lines_of, joined}
+use Rattle.gq_lines.specs.Lines.{lines_of, joined}
 use Rattle.gq_text.specs.PlanText.{Reading, plan_of}
 use Rattle.gq_script.specs.Out.{output_lines}
 

@@ -3,9 +3,9 @@
 ghost use Rattle.std.specs.Prelude.{◌≡◌, ◌≤◌, ◌<◌, ℕ, List, Ok, map, vec_len, false, true, IfOk, IfErr, OnOk, IsErrOf};
 ghost use Rattle.std.specs.Io.KnownBytes.{Appends};
 ghost use Rattle.gq_shards.specs.declared.merging.AnswersFault.{AnswersFault};
-ghost use Rattle.gq_text.specs.Lines.{lines_of, joined};
+ghost use Rattle.gq_lines.specs.Lines.{lines_of, joined};
 ghost use Rattle.gq_script.specs.Out.{output_lines};
-ghost use Rattle.gq_script.specs.Watched.{inner_of, has_failed, AppendsPrefix};
+ghost use Rattle.gq_streams.specs.Watched.{inner_of, has_failed, AppendsPrefix};
 ghost use Rattle.gq_shards.specs.Shards.{of_shard, AreDealt, AreTold, EachTold, IsText, AreAnswers};
 
 use crate::dealing::{Dealt, deal_in_threads};
@@ -14,7 +14,8 @@ use crate::merging::{AnswersFault, write_told};
 use crate::telling::{Told, told_by};
 use gq_desk::Plan;
 use gq_memory::{GrowVec, OutOfMemory};
-use gq_script::{Watched, answers_of, write_whole};
+use gq_script::answers_of;
+use gq_streams::{Watched, write_whole};
 use std::alloc::Global;
 use std::io::Write;
 use std::thread;

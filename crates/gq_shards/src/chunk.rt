@@ -2,10 +2,10 @@
 
 ghost use Rattle.std.specs.Prelude.{◌≡◌, ◌+◌, ◌≤◌, ◌++◌, [], false, true, length, take, vec_len, IfOk, IfErr, OnOk, OnErr};
 ghost use Rattle.std.specs.Io.KnownBytes.{Appends};
-ghost use Rattle.gq_script.specs.Watched.{inner_of, has_failed, AppendsPrefix};
+ghost use Rattle.gq_streams.specs.Watched.{inner_of, has_failed, AppendsPrefix};
 
 use gq_memory::{OutOfMemory, filled};
-use gq_script::{Watched, WriteFault, write_whole};
+use gq_streams::{Watched, WriteFault, write_whole};
 use std::alloc::Global;
 use std::io::Write;
 

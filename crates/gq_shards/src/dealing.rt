@@ -3,15 +3,15 @@
 ghost use Rattle.std.specs.Prelude.{◌≡◌, ◌≤◌, ◌∷◌, ◌++◌, List, IfOk};
 ghost use Rattle.std.specs.Thread.{IsSync};
 ghost use Rattle.gq_desk.specs.declared.limits.TheConstants.{MOST_TENANTS};
-ghost use Rattle.gq_text.specs.Words.{Word};
-ghost use Rattle.gq_text.specs.Lines.{lines_of};
+ghost use Rattle.gq_lines.specs.Words.{Word};
+ghost use Rattle.gq_lines.specs.Lines.{lines_of};
 ghost use Rattle.gq_text.specs.Input.{event_of_words};
 ghost use Rattle.gq_shards.specs.Shards.{mark_of, AreDealt};
 
 use crate::ways::{Way, first_ways, stop_at};
 use gq_desk::Plan;
+use gq_lines::cut_line;
 use gq_memory::{GrowCopies, GrowVec, OutOfMemory, room_for};
-use gq_text::cut_line;
 use memchr::memchr;
 use std::alloc::Global;
 use std::thread::{Threads, join};

@@ -3,15 +3,16 @@
 ghost use Rattle.std.specs.Prelude.{◌≡◌, [], ◌∷◌, ◌≤◌, ℕ, List, length, replicate, take, true, false, IfErr, OnOk, OnErr, IsErrOf};
 ghost use Rattle.std.specs.Io.KnownBytes.{Appends};
 ghost use Rattle.gq_shards.specs.declared.merging.AnswersFault.{AnswersFault};
-ghost use Rattle.gq_text.specs.Lines.{joined};
-ghost use Rattle.gq_script.specs.Watched.{inner_of, has_failed, AppendsPrefix};
+ghost use Rattle.gq_lines.specs.Lines.{joined};
+ghost use Rattle.gq_streams.specs.Watched.{inner_of, has_failed, AppendsPrefix};
 ghost use Rattle.gq_shards.specs.Shards.{first_place, waiting, IsLeft, AreTold};
 
 use crate::chunk::Chunk;
 use crate::lengths::{FIRST_LENGTH, LengthPlace};
 use crate::telling::Told;
 use gq_memory::{OutOfMemory, filled};
-use gq_script::{RunFault, Watched, WriteFault};
+use gq_script::RunFault;
+use gq_streams::{Watched, WriteFault};
 use std::alloc::Global;
 use std::io::Write;
 

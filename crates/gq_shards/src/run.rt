@@ -4,15 +4,16 @@ ghost use Rattle.std.specs.Prelude.{◌≡◌, ◌≢◌, ◌↔◌, ◌<◌, tr
 ghost use Rattle.std.specs.Io.KnownBytes.{Appends};
 ghost use Rattle.gq_script.specs.declared.script.TheConstants.{MOST_INPUT};
 ghost use Rattle.gq_script.specs.declared.script.RunFault.{RunFault};
-ghost use Rattle.gq_text.specs.Lines.{lines_of};
+ghost use Rattle.gq_lines.specs.Lines.{lines_of};
 ghost use Rattle.gq_text.specs.PlanText.{plan_of, IsFaultOf};
 ghost use Rattle.gq_script.specs.Alone.{IsAnswered};
 ghost use Rattle.gq_script.specs.Out.{out, IsAccepted, IsPlanFaultOf};
-ghost use Rattle.gq_script.specs.Watched.{inner_of, has_failed, AppendsPrefix};
+ghost use Rattle.gq_streams.specs.Watched.{inner_of, has_failed, AppendsPrefix};
 ghost use Rattle.gq_shards.specs.Shards.{out_lines, AreAnswers};
 
 use crate::answering::{Answers, answers_in_shards, write_answers};
-use gq_script::{RunFault, Watched, read_whole};
+use gq_script::{RunFault, read_whole};
+use gq_streams::Watched;
 use gq_text::{PlanText, read_plan};
 use std::alloc::Global;
 use std::io::{Read, Write};

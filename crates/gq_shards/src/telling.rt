@@ -14,9 +14,10 @@ use crate::dealing::Dealt;
 use crate::lengths::{FIRST_LENGTH, Lengths};
 use crate::parts::part_of;
 use gq_desk::Plan;
+use gq_lines::cut_line;
 use gq_memory::{OutOfMemory, room_for};
 use gq_model::{Answer, Event};
-use gq_text::{QuorumText, cut_line, read_cut_line, write_next_answer};
+use gq_text::{QuorumText, read_cut_line, write_next_answer};
 use gq_world::{Ended, World};
 use std::alloc::Global;
 

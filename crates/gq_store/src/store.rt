@@ -32,7 +32,7 @@ pub enum ServeRefused {
     /// The file is not there.
     #[error("no such file")]
     File,
-    /// The content is longer than the blocks of the file: [`gq_pool::BLOCK_BYTES`] bytes for each.
+    /// The content is longer than the blocks of the file: [`gq_tag::BLOCK_BYTES`] bytes for each.
     #[error("content over the file's limit")]
     Long,
     /// Memory is wanting, for the content of a copy that an ask is to be given.
@@ -202,7 +202,7 @@ impl ServerStore {
         self.tag(file) < tag
     }
 
-    /// How many bytes the file may hold: [`gq_pool::BLOCK_BYTES`] for each of its blocks. None where the file is not there.
+    /// How many bytes the file may hold: [`gq_tag::BLOCK_BYTES`] for each of its blocks. None where the file is not there.
     pub fn limit(&self, file: FileId) -> Option<u64>
         ensures { result ≡ file_limit self.now file }
     {
@@ -283,7 +283,7 @@ impl ServerStore {
     /// Puts a copy of the file where its tag is greater than that of the file's copy, so that the file's copy is the
     /// greatest that was put; one that comes late, or twice, changes nothing. (So do the servers of Attiya, Bar-Noy and
     /// Dolev, Sharing memory robustly in message-passing systems, JACM 42(1), 1995.) The content has at most
-    /// [`gq_pool::BLOCK_BYTES`] bytes for each block of the file. It takes no memory and always finds the blocks.
+    /// [`gq_tag::BLOCK_BYTES`] bytes for each block of the file. It takes no memory and always finds the blocks.
     #[inline(always)]
     pub fn put(&mut self, file: FileId, tag: Tag, bytes: &[u8]) -> Put
         requires limit { IfSome (file_limit self.old file) (λ limit. length bytes.now ≤ limit) }

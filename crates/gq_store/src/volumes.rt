@@ -9,8 +9,8 @@ ghost use Rattle.gq_store.specs.Copies.{volume_size, copies_account, volume_copy
 use crate::entry::Entry;
 use gq_desk::TenantRow;
 use gq_memory::{OutOfMemory, RoomInVec, room_for};
-use gq_pool::{BLOCK_BYTES, Pool};
-use gq_tag::Tag;
+use gq_pool::Pool;
+use gq_tag::{BLOCK_BYTES, Tag};
 use std::alloc::Global;
 use std::marker::Model;
 

@@ -4,7 +4,7 @@ use Rattle.gq_laws.specs.declared.ops.Kind.{Kind}
 use Rattle.gq_laws.specs.declared.ops.Kind.TheVariants.{Write as Writes, Read as Reads, Row as Rows}
 use Rattle.gq_laws.specs.declared.ops.Op.{Op}
 use Rattle.gq_picture.specs.declared.drawing.Bar.{Bar}
-use Rattle.gq_text.specs.Lines.{joined}
+use Rattle.gq_lines.specs.Lines.{joined}
 use Rattle.gq_tag.specs.declared.Tag.{Tag}
 use Rattle.gq_svg.specs.Contents.{content_label, content_text, length_label, length_text}
 use Rattle.gq_svg.specs.Layout.{label_room, lane_top, x_of}

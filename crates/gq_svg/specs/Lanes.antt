@@ -2,7 +2,7 @@
 use Rattle.std.specs.Prelude.{ℕ, ◌+◌, List, [], ◌∷◌, ◌++◌, Bool, ◌==◌, codes, decimal, filter, length, if◌then◌else◌}
 use Rattle.std.specs.List.{flat_map, list_any, range_with_len}
 use Rattle.gq_picture.specs.declared.drawing.Outage.{Outage}
-use Rattle.gq_text.specs.Lines.{joined}
+use Rattle.gq_lines.specs.Lines.{joined}
 use Rattle.gq_svg.specs.Layout.{lane_top, server_top, x_of}
 
 -- ---- sessions

@@ -3,7 +3,7 @@ use Rattle.std.specs.Prelude.{ℕ, List, [], ◌∷◌, ◌++◌, codes, decimal
 use Rattle.gq_laws.specs.declared.ops.Op.{Op}
 use Rattle.gq_picture.specs.Register.{written_by}
 use Rattle.gq_picture.specs.declared.drawing.Value.{Value}
-use Rattle.gq_text.specs.Lines.{joined}
+use Rattle.gq_lines.specs.Lines.{joined}
 use Rattle.gq_svg.specs.Contents.{content_label, content_text}
 use Rattle.gq_svg.specs.Layout.{label_room, x_of}
 

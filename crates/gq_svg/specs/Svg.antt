@@ -2,7 +2,7 @@
 use Rattle.std.specs.Prelude.{ℕ, ◌+◌, List, [], ◌∷◌, ◌++◌, codes, decimal, length}
 use Rattle.std.specs.List.{flat_map}
 use Rattle.gq_picture.specs.declared.drawing.Drawing.{Drawing}
-use Rattle.gq_text.specs.Lines.{joined}
+use Rattle.gq_lines.specs.Lines.{joined}
 use Rattle.gq_svg.specs.declared.picture.Heading.{Heading}
 use Rattle.gq_svg.specs.declared.picture.TheConstants.{LEGEND, STYLE}
 use Rattle.gq_svg.specs.Bars.{drop_in, operations_text}

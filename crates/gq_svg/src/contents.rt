@@ -5,8 +5,8 @@ ghost use Rattle.std.specs.List.{list_all};
 ghost use Rattle.gq_svg.specs.Contents.{content_label, content_text, digits_label, empty_label, is_printable, is_text, length_label, length_text, quoted, text_label, unit};
 
 use crate::escaping::put_escaped;
+use gq_lines::{put_digits, put_number};
 use gq_memory::{GrowCopies, OutOfMemory};
-use gq_text::{put_digits, put_number};
 use itoa::Buffer;
 
 // The quotation marks “ and ”, and …, in UTF-8.

@@ -83,6 +83,9 @@ impl Tag {
     }
 }
 
+/// The bytes of a block, by which a content's room is counted.
+pub const BLOCK_BYTES: usize = 64;
+
 /// The most files of a volume. File numbers are from 0, and all below it.
 pub const MOST_FILES: u32 = 64;
 

@@ -3,7 +3,8 @@ ghost use Rattle.std.specs.Prelude.{◌≡◌, ◌+◌, ◌*◌, ◌<◌, length
 ghost use Rattle.gq_pool.specs.Blocks.{blocks_for};
 
 use gq_memory::filled;
-use gq_pool::{BLOCK_BYTES, Chain, Pool};
+use gq_pool::{Chain, Pool};
+use gq_tag::BLOCK_BYTES;
 use std::marker::Send;
 use std::process::Abort;
 use std::test::Fail;

@@ -17,16 +17,17 @@ use Rattle.gq_model.specs.declared.events.Line.{Line}
 use Rattle.gq_model.specs.declared.events.Line.TheVariants.{Bad, Quorum, NewVolume, Volumes, Write, Read, List as ListFiles, Deliver, Lose, Retry, Abandon}
 use Rattle.gq_model.specs.declared.events.ServerLine.{ServerLine}
 use Rattle.gq_model.specs.declared.events.ServerLine.TheVariants.{Bad as ServerBad, Down, Up, Lost as ServerLost, Repaired as ServerRepaired}
-use Rattle.gq_text.specs.Words.{Word}
-use Rattle.gq_text.specs.Lines.{lines_of}
+use Rattle.gq_lines.specs.Words.{Word}
+use Rattle.gq_lines.specs.Lines.{lines_of}
 use Rattle.gq_text.specs.Input.{line_of, server_line_of, place_named, tenant_event, event_of, event_of_words, one_number_of, two_numbers_of, three_numbers_of, file_content_of}
-use Rattle.gq_text.specs.AnswerText.{bytes_word, spaced}
+use Rattle.gq_lines.specs.Written.{bytes_word, spaced}
 use Rattle.gq_text.specs.Canonical.{line_words, server_line_words, event_line, IsPlan, IsNumber, FitsLine, FitsServerLine, Fits}
-use Rattle.gq_text.proofs.Numbers.{numbers_read_back}
-use Rattle.gq_text.proofs.Plain.{is_plain, are_plain, decimal_plain, name_plain, content_plain}
-use Rattle.gq_text.proofs.LinesBack.{words_back, line_back}
+use Rattle.gq_lines.proofs.Numbers.{numbers_read_back}
+use Rattle.gq_lines.proofs.Plain.{is_plain, are_plain, decimal_plain, content_plain}
+use Rattle.gq_text.proofs.Plain.{name_plain}
+use Rattle.gq_lines.proofs.LinesBack.{words_back, line_back}
 use Rattle.gq_text.proofs.PlanNames.{HasPlace, place_of_row}
-use Rattle.gq_text.proofs.Contents.{bytes_back, content_back}
+use Rattle.gq_lines.proofs.Contents.{bytes_back, content_back}
 
 -- ---- the words of a line
 

@@ -1,4 +1,4 @@
--- Texts that go on from others.
+-- The servers of a set are written one after another.
 use Rattle.std.proofs.Common.{◌≡◌, ℕ, ◌+◌, ◌<◌, length, get_or, take, List, [], ◌∷◌, ◌++◌, append_assoc, append-nil, Result, Ok, Err, ap, ◌∙◌, sym, refl, add-one, add-zero, arith, zero, suc, true, false, map}
 use Rattle.std.specs.Prelude.{OnErr, decimal, filter}
 use Rattle.std.specs.List.{flat_map, range_with_len}
@@ -6,18 +6,7 @@ use Rattle.std.proofs.lemmas.List.{map-append, take_more}
 use Rattle.std.proofs.lemmas.List.Concat.{flat_map-append}
 use Rattle.std.proofs.lemmas.List.Elements.{filter-append}
 use Rattle.gq_grid.specs.Grid.{Servers, below}
-use Rattle.gq_text.specs.AnswerText.{spaced}
-use Rattle.gq_text.specs.Pieces.{Extends}
-
-pub extends_more : (old mid new more : List ℕ) → mid ≡ old ++ more → Extends mid new → Extends old new
-extends_more old mid new more is h = (more ++ h.0, h.1 ∙ ap (λ x. x ++ h.0) is ∙ append_assoc old more h.0)
-
-pub extends_on : (old mid new more : List ℕ) → Extends old mid → new ≡ mid ++ more → Extends old new
-extends_on old mid new more h is = (h.0 ++ more, is ∙ ap (λ x. x ++ more) h.1 ∙ append_assoc old h.0 more)
-
-pub on_err : {T E P : Type 0} (r : Result T E) → P → OnErr r P
-on_err (Ok x) p = tt
-on_err (Err e) p = p
+use Rattle.gq_lines.specs.Written.{spaced, Extends}
 
 spaced-append : (xs ys : List (List ℕ)) → spaced (xs ++ ys) ≡ spaced xs ++ spaced ys
 spaced-append xs ys = flat_map-append (λ word. 32 ∷ word) xs ys
@@ -51,11 +40,3 @@ server_written old mid new k set before now here =
 pub server_passed : (old new : List ℕ) (k : ℕ) (set : Servers) → new ≡ old ++ spaced (map decimal (filter set (below k))) → set k ≡ false → new ≡ old ++ spaced (map decimal (filter set (below (k + 1))))
 server_passed old new k set before outside =
     before ∙ ap (λ x. old ++ x) (sym (more_text k set ∙ ap (λ x. spaced (map decimal (filter set (below k))) ++ x) (none_here k set outside) ∙ append-nil (spaced (map decimal (filter set (below k))))))
-
--- the text of one item more is written
-pub one_more : {A : Type 0} (f : A → List ℕ) (old mid new : List ℕ) (xs : List A) (i : ℕ) (x : A) → i < length xs → x ≡ get_or xs i x → mid ≡ old ++ flat_map f (take i xs) → new ≡ mid ++ f x → new ≡ old ++ flat_map f (take (i + 1) xs)
-one_more f old mid new xs i x within is before now =
-    let one : take (i + 1) xs ≡ take i xs ++ x ∷ [] = take_more xs i x within ∙ ap (λ y. take i xs ++ y ∷ []) (sym is) in
-    let text : flat_map f (take (i + 1) xs) ≡ flat_map f (take i xs) ++ (f x ++ []) = ap (flat_map f) one ∙ flat_map-append f (take i xs) (x ∷ []) in
-    now ∙ ap (λ t. t ++ f x) before ∙ append_assoc old (flat_map f (take i xs)) (f x)
-    ∙ ap (λ t. old ++ t) (ap (λ t. flat_map f (take i xs) ++ t) (sym (append-nil (f x))) ∙ sym text)

@@ -3,11 +3,11 @@ use Rattle.std.proofs.Common.{◌≡◌, ◌∙◌, ℕ, ◌+◌, ◌-◌, ◌*�
 use Rattle.std.specs.Prelude.{codes, ◌==◌, ◌&&◌, nat_le}
 use Rattle.std.specs.List.{onto_first}
 use Rattle.std.proofs.lemmas.Bool.{eqb-true}
-use Rattle.gq_text.specs.declared.words.TheConstants.{MOST_NUMBER}
+use Rattle.gq_lines.specs.declared.words.TheConstants.{MOST_NUMBER}
 use Rattle.gq_model.specs.declared.events.Line.TheVariants.{Deliver, Lose}
-use Rattle.gq_text.specs.Words.{Word, words_of, words_after, is_digit, number_of, number_up_to, number_after}
+use Rattle.gq_lines.specs.Words.{Word, words_of, words_after, is_digit, number_of, number_up_to, number_after}
 use Rattle.gq_text.specs.Input.{one_number_of, line_from, line_of}
-use Rattle.gq_text.proofs.WordsLemmas.{some_word}
+use Rattle.gq_lines.proofs.WordsLemmas.{some_word}
 
 -- what the one word gives
 abbrev sole : List Word → (Word → Option ℕ) → Option ℕ

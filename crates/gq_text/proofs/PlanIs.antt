@@ -19,7 +19,7 @@ use Rattle.gq_desk.proofs.SoundRows.{or_none, unless_none, row_numbers}
 use Rattle.gq_text.specs.declared.plan_text.TheConstants.{BLOCKS_WITHOUT_ROOM}
 use Rattle.gq_text.specs.declared.plan_text.TextFault.{TextFault}
 use Rattle.gq_text.specs.declared.plan_text.TextFault.TheVariants.{Form, Grid as GridFault, Blocks}
-use Rattle.gq_text.specs.Words.{Word, words_of}
+use Rattle.gq_lines.specs.Words.{Word, words_of}
 use Rattle.gq_text.specs.Input.{one_number_of, two_numbers_of}
 use Rattle.gq_text.specs.PlanText.{at_line, line_at, grid_from, grid_told, blocks_from, blocks_told, is_room, row_told, row_then, rows_from, checked, plan_of}
 use Rattle.gq_text.specs.Canonical.{IsPlan}

@@ -9,7 +9,7 @@ use Rattle.gq_desk.specs.CheckedPlan.{CheckedPlan}
 use Rattle.gq_desk.specs.declared.plans.TenantRow.{TenantRow}
 use Rattle.gq_desk.specs.declared.plans.PlanFault.{PlanFault}
 use Rattle.gq_desk.proofs.SoundRows.{or_none, found, row_found}
-use Rattle.gq_text.specs.Words.{Word, words_of, number_of}
+use Rattle.gq_lines.specs.Words.{Word, words_of, number_of}
 use Rattle.gq_text.specs.Input.{◌>>=◌, place_named}
 use Rattle.gq_text.specs.declared.plan_text.TheConstants.{FILE_BLOCKS_WITHOUT_ROOM, VOLUMES_WHERE_UNSAID}
 use Rattle.gq_text.specs.PlanText.{Reading, then_read, at_line, line_at, grid_told, blocks_told, is_room, volumes_told, row_from, row_told, row_then, rows_from, plan_unless, checked, plan_of}

@@ -4,7 +4,7 @@ use Rattle.gq_grid.specs.Grid.{Grid}
 use Rattle.gq_desk.specs.declared.plans.TenantRow.{TenantRow}
 use Rattle.gq_text.specs.declared.plan_text.PlanText.{PlanText}
 use Rattle.gq_text.specs.declared.plan_text.PlanText.TheVariants.{Fault, Memory}
-use Rattle.gq_text.specs.Words.{words_of}
+use Rattle.gq_lines.specs.Words.{words_of}
 use Rattle.gq_text.specs.PlanText.{Reading, then_read, at_line, line_at, grid_told, blocks_told, is_room, rows_from, checked, plan_of, IsFaultOf}
 
 -- all lines are read, and the rows are left to be tested

@@ -15,16 +15,17 @@ use Rattle.gq_desk.specs.declared.plans.PlanFault.{PlanFault}
 use Rattle.gq_desk.specs.declared.plans.PlanFault.TheVariants.{ZeroShare, Sessions, Steps, Most, Volumes}
 use Rattle.gq_desk.proofs.SoundRows.{unless_none, row_numbers}
 use Rattle.gq_model.specs.declared.events.Event.{Event}
-use Rattle.gq_text.specs.Words.{Word, words_of}
-use Rattle.gq_text.specs.Lines.{lines_of}
+use Rattle.gq_lines.specs.Words.{Word, words_of}
+use Rattle.gq_lines.specs.Lines.{lines_of}
 use Rattle.gq_text.specs.Input.{one_number_of, two_numbers_of}
 use Rattle.gq_text.specs.declared.plan_text.TheConstants.{BLOCKS_WITHOUT_ROOM, FILE_BLOCKS_WITHOUT_ROOM, VOLUMES_WHERE_UNSAID}
 use Rattle.gq_text.specs.PlanText.{then_read, at_line, line_at, grid_told, blocks_told, is_room, volumes_told, row_told, row_then, rows_from, checked, plan_of}
-use Rattle.gq_text.specs.AnswerText.{spaced, line_text}
+use Rattle.gq_lines.specs.Written.{spaced, line_text}
 use Rattle.gq_text.specs.Canonical.{event_line, is_plain_row, has_room, blocks_verb, volumes_words, most_words, row_line, plan_text, script_text, IsScriptOf, IsNumber, IsPlan, Fits}
-use Rattle.gq_text.proofs.Numbers.{numbers_read_back}
-use Rattle.gq_text.proofs.Plain.{is_plain, are_plain, decimal_plain, name_plain}
-use Rattle.gq_text.proofs.LinesBack.{words_back, line_back}
+use Rattle.gq_lines.proofs.Numbers.{numbers_read_back}
+use Rattle.gq_lines.proofs.Plain.{is_plain, are_plain, decimal_plain}
+use Rattle.gq_text.proofs.Plain.{name_plain}
+use Rattle.gq_lines.proofs.LinesBack.{words_back, line_back}
 use Rattle.gq_text.proofs.PlanReading.{plan_after_lines}
 use Rattle.gq_text.proofs.EventsBack.{events_back}
 

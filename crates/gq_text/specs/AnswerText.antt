@@ -1,8 +1,5 @@
 -- The text of an answer.
 use Rattle.std.specs.Prelude.{ℕ, zero, suc, ◌+◌, List, [], ◌∷◌, ◌++◌, map, codes, decimal, Option, Some, None}
-use Rattle.std.specs.List.{flat_map}
-use Rattle.hex.specs.Hex.{encode_lower}
-use Rattle.gq_escape.specs.Escape.{escaped}
 use Rattle.gq_grid.specs.Grid.{Grid, rising}
 use Rattle.gq_tag.specs.declared.Tag.{Tag}
 use Rattle.gq_desk.specs.declared.volumes.VolumeRow.{VolumeRow}
@@ -17,7 +14,8 @@ use Rattle.gq_model.specs.declared.events.Refusal.TheVariants.{Spent, Bad, NoSes
 use Rattle.gq_model.specs.declared.events.ServerRefusal.{ServerRefusal}
 use Rattle.gq_model.specs.declared.events.ServerRefusal.TheVariants.{Bad as ServerBad, NoServer, Lost as IsGone, Same, Last, NoPeer}
 use Rattle.gq_model.specs.Told.{Told, Chosen, Opened, VolumesAre, Began, Replied, IsDown, Stale, Noted, Round, Done, Lost, Resent, Abandoned, Refused, ServerOk, Repaired, ServerRefused, StrayBad}
-use Rattle.gq_text.specs.Words.{Word}
+use Rattle.gq_lines.specs.Words.{Word}
+use Rattle.gq_lines.specs.Written.{content_word, line_text}
 
 abbrev pub volume_word : VolumeRow → Word
 volume_word volume = decimal volume.files ++ codes "x" ++ decimal volume.blocks
@@ -25,16 +23,6 @@ volume_word volume = decimal volume.files ++ codes "x" ++ decimal volume.blocks
 -- a file of a listing: the length of its content in bytes, and its tag
 abbrev pub file_word : Row → Word
 file_word file = decimal file.length ++ codes ":" ++ decimal file.tag.number ++ codes "." ++ decimal file.tag.session
-
--- a content in hexadecimal, `-` where it is empty
-abbrev pub content_word : List ℕ → Word
-content_word [] = codes "-"
-content_word (byte ∷ bytes) = encode_lower (byte ∷ bytes)
-
--- a content as its bytes, escaped as one word after `=`; `-` for the empty content
-abbrev pub bytes_word : List ℕ → Word
-bytes_word [] = codes "-"
-bytes_word (byte ∷ bytes) = 61 ∷ escaped (byte ∷ bytes)
 
 abbrev pub tag_words : Tag → List Word
 tag_words tag = codes "tag" ∷ decimal tag.number ∷ decimal tag.session ∷ []
@@ -105,18 +93,6 @@ abbrev pub who : CheckedPlan → Event → Word
 who plan (Tenant tenant line) = (row_at plan tenant).name
 who plan (Server line) = codes "server"
 who plan Stray = codes "?"
-
--- each word after one space
-abbrev pub spaced : List Word → List ℕ
-spaced words = flat_map (λ word. 32 ∷ word) words
-
--- words to the end of a line
-abbrev pub ended : List Word → List ℕ
-ended words = spaced words ++ 10 ∷ []
-
--- a first word, the other words and the end of the line
-abbrev pub line_text : Word → List Word → List ℕ
-line_text first words = first ++ ended words
 
 -- the line of what is told to an event
 abbrev pub answer_line : CheckedPlan → Event → Told → List ℕ

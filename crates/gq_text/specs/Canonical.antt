@@ -13,11 +13,11 @@ use Rattle.gq_model.specs.declared.events.Line.TheVariants.{Bad, Quorum, NewVolu
 use Rattle.gq_model.specs.declared.events.ServerLine.{ServerLine}
 use Rattle.gq_model.specs.declared.events.ServerLine.TheVariants.{Bad as ServerBad, Down, Up, Lost as ServerLost, Repaired as ServerRepaired}
 use Rattle.gq_text.specs.declared.plan_text.TheConstants.{BLOCKS_WITHOUT_ROOM, FILE_BLOCKS_WITHOUT_ROOM, VOLUMES_WHERE_UNSAID}
-use Rattle.gq_text.specs.Words.{Word}
-use Rattle.gq_text.specs.Lines.{lines_of}
+use Rattle.gq_lines.specs.Words.{Word}
+use Rattle.gq_lines.specs.Lines.{lines_of}
 use Rattle.gq_text.specs.Input.{event_of}
 use Rattle.gq_text.specs.PlanText.{plan_of}
-use Rattle.gq_text.specs.AnswerText.{content_word, line_text}
+use Rattle.gq_lines.specs.Written.{content_word, line_text}
 
 -- the words of a tenant's line, after its name
 abbrev pub line_words : Line → List Word

@@ -10,7 +10,7 @@ use Rattle.gq_model.specs.declared.events.Line.{Line}
 use Rattle.gq_model.specs.declared.events.Line.TheVariants.{Bad, Quorum, NewVolume, Volumes, Write, Read, List as ListFiles, Deliver, Lose, Retry, Abandon}
 use Rattle.gq_model.specs.declared.events.ServerLine.{ServerLine}
 use Rattle.gq_model.specs.declared.events.ServerLine.TheVariants.{Bad as ServerBad, Down, Up, Lost as ServerLost, Repaired as ServerRepaired}
-use Rattle.gq_text.specs.Words.{Word, words_of, words_after, number_of, content_of}
+use Rattle.gq_lines.specs.Words.{Word, words_of, words_after, number_of, content_of}
 
 -- the second value, where the first is there
 infixl 10 ◌>>=◌

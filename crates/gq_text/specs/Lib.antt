@@ -1,10 +1,6 @@
-pub mod Words
-pub mod Digits
-pub mod Lines
 pub mod Input
 pub mod PlanText
 pub mod AnswerText
 pub mod Pieces
 pub mod QuorumText
-pub mod Laws
 pub mod Canonical

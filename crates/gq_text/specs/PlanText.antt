@@ -15,8 +15,8 @@ use Rattle.gq_text.specs.declared.plan_text.TextFault.{TextFault}
 use Rattle.gq_text.specs.declared.plan_text.TextFault.TheVariants.{Form, End, Grid as GridFault, Blocks, Check}
 use Rattle.gq_text.specs.declared.plan_text.PlanText.{PlanText}
 use Rattle.gq_text.specs.declared.plan_text.PlanText.TheVariants.{Fault, Memory}
-use Rattle.gq_text.specs.Words.{Word, words_of, number_of}
-use Rattle.gq_text.specs.Lines.{lines_of}
+use Rattle.gq_lines.specs.Words.{Word, words_of, number_of}
+use Rattle.gq_lines.specs.Lines.{lines_of}
 use Rattle.gq_text.specs.Input.{◌>>=◌, one_number_of, place_named, two_numbers_of}
 
 -- what lines tell, or the number of the first line at fault and its fault

@@ -3,7 +3,7 @@ use Rattle.std.specs.Prelude.{◌≡◌, ℕ, List, ◌∷◌, map, codes, decim
 use Rattle.gq_grid.specs.Grid.{Grid, rising}
 use Rattle.gq_grid.specs.Sets.{servers}
 use Rattle.gq_grid.specs.declared.Choice.{Choice}
-use Rattle.gq_text.specs.AnswerText.{ended}
+use Rattle.gq_lines.specs.Written.{ended}
 
 -- the grid, and the choice whose words are held
 pub record Held : Type 0 where

@@ -6,8 +6,8 @@ ghost use Rattle.hex.specs.Hex.{IsBytes};
 ghost use Rattle.gq_grid.specs.Grid.{is_side};
 ghost use Rattle.gq_model.specs.Events.{IsIn};
 ghost use Rattle.gq_model.specs.declared.events.Line.TheVariants.{Write};
-ghost use Rattle.gq_text.specs.AnswerText.{line_text};
-ghost use Rattle.gq_text.specs.Pieces.{words_in, Extends};
+ghost use Rattle.gq_lines.specs.Written.{line_text, Extends};
+ghost use Rattle.gq_text.specs.Pieces.{words_in};
 ghost use Rattle.gq_text.specs.Canonical.{line_words, server_line_words, event_line, is_plain_row, has_room, row_line, head_text, plan_text, script_text, IsPlan, FitsLine, FitsServerLine, Fits, IsScriptOf};
 
 use crate::pieces::{Piece, put_words};

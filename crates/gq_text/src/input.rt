@@ -2,12 +2,12 @@
 
 ghost use Rattle.std.specs.Prelude.{◌≡◌, ◌∷◌, ◌++◌, codes, IfOk, IfSome};
 ghost use Rattle.gq_model.specs.Events.{IsIn};
-ghost use Rattle.gq_text.specs.Words.{words_after};
+ghost use Rattle.gq_lines.specs.Words.{words_after};
 ghost use Rattle.gq_model.specs.declared.events.Line.TheVariants.{Deliver, Write};
 ghost use Rattle.gq_text.specs.Input.{one_number_of, two_numbers_of, three_numbers_of, file_content_of, line_from, line_of, server_line_of, event_of, event_of_words};
 
-use crate::words::{content, first_word, is_end, next_long_word, next_word, number};
 use gq_desk::Plan;
+use gq_lines::{content, first_word, is_end, next_long_word, next_word, number};
 use gq_memory::OutOfMemory;
 use gq_model::{Event, Line, ServerLine};
 use std::alloc::Global;

@@ -3,14 +3,15 @@
 ghost use Rattle.std.specs.Prelude.{◌≡◌, [], ◌∷◌, ◌++◌, codes, decimal, map, Some, None, OnOk, OnErr};
 ghost use Rattle.gq_model.specs.Events.{IsIn};
 ghost use Rattle.gq_model.specs.Shown.{shown};
-ghost use Rattle.gq_text.specs.Pieces.{Extends};
+ghost use Rattle.gq_lines.specs.Written.{Extends, ended};
 ghost use Rattle.gq_phase.specs.declared.Outcome.TheVariants.{Wrote, Gave, Listed};
-ghost use Rattle.gq_text.specs.AnswerText.{answer_line, told_words, outcome_words, refusal_words, server_refusal_word, ended, who, volume_word, range_words, round_words};
+ghost use Rattle.gq_text.specs.AnswerText.{answer_line, told_words, outcome_words, refusal_words, server_refusal_word, who, volume_word, range_words, round_words};
 
-use crate::pieces::{Piece, put_last_number, put_words};
+use crate::pieces::{Piece, put_words};
 use crate::quorum_text::{QuorumText, put_quorum};
 use gq_desk::{MOST_LETTERS, Name, Plan, VolumeRow};
 use gq_grid::{Choice, Grid};
+use gq_lines::put_last_number;
 use gq_memory::{GrowCopies, OutOfMemory};
 use gq_model::{Answer, Event, Refusal, ServerRefusal};
 use gq_phase::{Outcome, Row};

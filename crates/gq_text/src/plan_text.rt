@@ -4,14 +4,13 @@
 //! journals and laws need not tell them apart.
 
 ghost use Rattle.std.specs.Prelude.{◌≡◌, ℕ, ◌∷◌, ◌<◌, ◌≤◌, ◌^◌, length, IfOk, IfErr, Ok, drop};
-ghost use Rattle.gq_text.specs.Words.{words_of, words_after};
-ghost use Rattle.gq_text.specs.Lines.{lines_of, IsRest};
+ghost use Rattle.gq_lines.specs.Words.{words_of, words_after};
+ghost use Rattle.gq_lines.specs.Lines.{lines_of, IsRest};
 
 use crate::input::{one_number, two_numbers};
-use crate::lines::first_line;
-use crate::words::{first_word, is_end, next_word, number};
 use gq_desk::{MOST_BLOCKS, Name, Plan, PlanFault, TenantRow};
 use gq_grid::{Grid, GridFault};
+use gq_lines::{first_line, first_word, is_end, next_word, number};
 use gq_memory::{GrowVec, OutOfMemory};
 use std::alloc::Global;
 use thiserror::Error;
@@ -200,7 +199,7 @@ pub fn row_told(room: bool, line: &[u8]) -> Option<TenantRow>
 }
 
 // The rows of the lines up to `go`, of which the first is line 3, and the text after it.
-#[tactic(auto, using(crate::proofs::Rests::rest_of_rest, crate::proofs::Rests::rest_whole))]
+#[tactic(auto, using(gq_lines::proofs::Rests::rest_of_rest, gq_lines::proofs::Rests::rest_whole))]
 fn rows_from(alloc: Global, room: bool, text: &[u8]) -> Result<(Vec<TenantRow>, &[u8]), PlanText>
     requires { length text.now < 2 ^ 63 }
     ensures rows { IfOk result (λ read. rows_from room 3 (lines_of text.now) ≡ Ok (read.0.items, lines_of read.1.now)) }
@@ -272,7 +271,7 @@ fn checked(alloc: Global, grid: Grid, blocks: u32, rows: &[TenantRow]) -> Result
 /// The plan at the head of an input, and the place of the byte after its line `go`, where the other lines begin. The
 /// lines are tested in order, lines 1 and 2 for form, then for value, each later line for form; only then are the rows
 /// tested by [`Plan::check`]. The first fault is told with its line. `Memory` says nothing of the text.
-#[tactic(auto, using(crate::proofs::Rests::rest_of_rest, crate::proofs::Rests::rest_at, crate::proofs::Rests::rest_length), unfolding(crate::specs::PlanText::plan_of))]
+#[tactic(auto, using(gq_lines::proofs::Rests::rest_of_rest, gq_lines::proofs::Rests::rest_at, gq_lines::proofs::Rests::rest_length), unfolding(crate::specs::PlanText::plan_of))]
 pub fn read_plan(alloc: Global, text: &[u8]) -> Result<(Plan, usize), PlanText>
     ensures plan { IfOk result (λ read.
         plan_of (lines_of text.now) ≡ Ok (read.0, lines_of (drop read.1 text.now))) }

@@ -2,7 +2,7 @@
 
 ghost use Rattle.std.specs.Prelude.{◌≡◌, ◌++◌, None, Some, OnOk, OnErr, IfSome};
 ghost use Rattle.gq_text.specs.QuorumText.{quorum_text};
-ghost use Rattle.gq_text.specs.Pieces.{Extends};
+ghost use Rattle.gq_lines.specs.Written.{Extends};
 
 use crate::pieces::{Piece, put_words};
 use gq_grid::{Choice, Grid};

@@ -10,7 +10,7 @@ use Rattle.gq_tag.specs.declared.Message.{Message}
 use Rattle.gq_tag.specs.declared.StoredCopy.{StoredCopy}
 use Rattle.gq_desk.specs.CheckedPlan.{CheckedPlan}
 use Rattle.gq_model.specs.declared.events.Line.{Line}
-use Rattle.gq_text.specs.Words.{Word, number_of}
+use Rattle.gq_lines.specs.Words.{Word, number_of}
 use Rattle.gq_text.specs.Input.{◌>>=◌}
 use Rattle.gq_wire.specs.declared.letters.Heading.{Heading}
 use Rattle.gq_wire.specs.Values.{number_then, copy_of}

@@ -8,12 +8,12 @@ use Rattle.gq_tag.specs.declared.Body.{Body}
 use Rattle.gq_tag.specs.declared.Body.TheVariants.{Ask, Copy, Store, Stored}
 use Rattle.gq_tag.specs.declared.Message.{Message}
 use Rattle.gq_desk.specs.CheckedPlan.{CheckedPlan, row_at}
-use Rattle.gq_text.specs.Words.{Word, words_of, number_up_to, number_of}
-use Rattle.gq_text.specs.AnswerText.{spaced}
+use Rattle.gq_lines.specs.Words.{Word, words_of, number_up_to, number_of}
+use Rattle.gq_lines.specs.Written.{spaced}
 use Rattle.gq_text.specs.Canonical.{IsPlan}
-use Rattle.gq_text.proofs.Numbers.{numbers_read_back}
-use Rattle.gq_text.proofs.Plain.{is_plain, are_plain, decimal_plain, line_inner}
-use Rattle.gq_text.proofs.LinesBack.{words_back}
+use Rattle.gq_lines.proofs.Numbers.{numbers_read_back}
+use Rattle.gq_lines.proofs.Plain.{is_plain, are_plain, decimal_plain, line_inner}
+use Rattle.gq_lines.proofs.LinesBack.{words_back}
 use Rattle.gq_wire.specs.Incoming.{longest_line}
 use Rattle.gq_wire.specs.declared.incoming.Incoming.TheVariants.{Letter}
 use Rattle.gq_wire.specs.declared.letters.Heading.{Heading}

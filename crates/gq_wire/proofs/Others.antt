@@ -3,10 +3,10 @@ use Rattle.std.proofs.Common.{◌≡◌, ℕ, List, [], ◌∷◌, ◌++◌, len
 use Rattle.std.specs.Prelude.{decimal, nat_lt}
 use Rattle.std.proofs.lemmas.Bool.{ne_eqb}
 use Rattle.gq_desk.specs.CheckedPlan.{CheckedPlan, row_at}
-use Rattle.gq_text.specs.Words.{Word, words_of, number_of}
-use Rattle.gq_text.specs.AnswerText.{spaced}
-use Rattle.gq_text.proofs.Numbers.{numbers_read_back}
-use Rattle.gq_text.proofs.Plain.{is_plain, plain_parts, decimal_plain}
+use Rattle.gq_lines.specs.Words.{Word, words_of, number_of}
+use Rattle.gq_lines.specs.Written.{spaced}
+use Rattle.gq_lines.proofs.Numbers.{numbers_read_back}
+use Rattle.gq_lines.proofs.Plain.{is_plain, plain_parts, decimal_plain}
 use Rattle.gq_wire.specs.Incoming.{longest_line}
 use Rattle.gq_wire.specs.declared.incoming.Incoming.{Incoming}
 use Rattle.gq_wire.specs.declared.incoming.Incoming.TheVariants.{Nothing}

@@ -7,7 +7,7 @@ use Rattle.std.proofs.lemmas.Bool.{cases_Bool}
 use Rattle.std.proofs.lemmas.Slice.Eq.{bytes_eq-Decides}
 use Rattle.gq_model.specs.declared.events.Line.{Line}
 use Rattle.gq_model.specs.declared.events.Line.TheVariants.{Bad, Quorum, NewVolume, Volumes, Write, Read, List as ListFiles, Deliver, Lose, Retry, Abandon}
-use Rattle.gq_text.specs.Words.{Word, number_of, content_of}
+use Rattle.gq_lines.specs.Words.{Word, number_of, content_of}
 use Rattle.gq_text.specs.Input.{◌>>=◌, line_of, line_from, line_alone, one_number_of, two_numbers_of, three_numbers_of, file_content_of}
 use Rattle.gq_wire.specs.Values.{number_then, last_content, alone}
 use Rattle.gq_wire.specs.Requests.{of_session, request_of, write_by, read_by, list_by, abandon_by, line_by, request_by}

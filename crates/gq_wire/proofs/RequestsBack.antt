@@ -3,17 +3,17 @@ use Rattle.std.proofs.Common.{◌≡◌, ℕ, ◌+◌, ◌*◌, ◌^◌, ◌<◌
 use Rattle.std.specs.Prelude.{codes, decimal, nat_le, nat_lt}
 use Rattle.std.specs.List.{list_all}
 use Rattle.std.proofs.lemmas.Bool.{and_parts, eq-eqb, ne_eqb, le-leb, lt-leb, leb-true, le-ltb}
-use Rattle.gq_pool.specs.declared.TheConstants.{BLOCK_BYTES}
+use Rattle.gq_tag.specs.declared.TheConstants.{BLOCK_BYTES}
 use Rattle.gq_desk.specs.Names.{is_letter, is_name}
 use Rattle.gq_desk.specs.CheckedPlan.{CheckedPlan, row_at}
 use Rattle.gq_model.specs.declared.events.Line.{Line}
 use Rattle.gq_model.specs.declared.events.Line.TheVariants.{Write, Read, List as ListFiles, Abandon}
-use Rattle.gq_text.specs.Words.{Word, number_of, number_up_to}
-use Rattle.gq_text.specs.AnswerText.{bytes_word, content_word, spaced}
+use Rattle.gq_lines.specs.Words.{Word, number_of, number_up_to}
+use Rattle.gq_lines.specs.Written.{bytes_word, content_word, spaced}
 use Rattle.gq_text.specs.Canonical.{IsPlan, IsNumber}
-use Rattle.gq_text.proofs.Numbers.{numbers_read_back, long_numbers_read_back}
-use Rattle.gq_text.proofs.Plain.{are_plain, decimal_plain, long_plain, bytes_plain, content_plain}
-use Rattle.gq_text.proofs.LinesBack.{words_back}
+use Rattle.gq_lines.proofs.Numbers.{numbers_read_back, long_numbers_read_back}
+use Rattle.gq_lines.proofs.Plain.{are_plain, decimal_plain, long_plain, bytes_plain, content_plain}
+use Rattle.gq_lines.proofs.LinesBack.{words_back}
 use Rattle.gq_text.proofs.EventsBack.{line_of-bytes, line_of-words}
 use Rattle.gq_wire.specs.declared.incoming.Incoming.TheVariants.{Request, Plan, Look}
 use Rattle.gq_wire.specs.Questions.{mark_and_volume, look_of, look_words}

@@ -6,12 +6,12 @@ use Rattle.gq_tag.specs.declared.Tag.{Tag}
 use Rattle.gq_tag.specs.declared.Body.TheVariants.{Ask}
 use Rattle.gq_tag.specs.declared.Message.{Message}
 use Rattle.gq_desk.specs.CheckedPlan.{CheckedPlan, row_at}
-use Rattle.gq_text.specs.Words.{Word}
-use Rattle.gq_text.specs.AnswerText.{spaced}
+use Rattle.gq_lines.specs.Words.{Word}
+use Rattle.gq_lines.specs.Written.{spaced}
 use Rattle.gq_text.specs.Canonical.{IsPlan}
-use Rattle.gq_text.proofs.Numbers.{numbers_read_back, long_numbers_read_back}
-use Rattle.gq_text.proofs.Plain.{is_plain, are_plain, decimal_plain, long_plain, line_inner}
-use Rattle.gq_text.proofs.LinesBack.{words_back}
+use Rattle.gq_lines.proofs.Numbers.{numbers_read_back, long_numbers_read_back}
+use Rattle.gq_lines.proofs.Plain.{is_plain, are_plain, decimal_plain, long_plain, line_inner}
+use Rattle.gq_lines.proofs.LinesBack.{words_back}
 use Rattle.gq_node.specs.declared.lost.TheConstants.{NODE_NUMBERS}
 use Rattle.gq_node.specs.declared.shorts.Short.{Short}
 use Rattle.gq_node.specs.declared.shorts.ShortBody.{ShortBody}

@@ -9,9 +9,9 @@ use Rattle.gq_tag.specs.declared.FileId.{FileId}
 use Rattle.gq_desk.specs.CheckedPlan.{CheckedPlan}
 use Rattle.gq_model.specs.declared.events.Line.{Line}
 use Rattle.gq_model.specs.declared.events.Line.TheVariants.{Read, List as ListFiles, Abandon}
-use Rattle.gq_text.specs.Words.{Word, words_of, number_up_to, number_of, long_number_of, bytes_from, content_in_digits}
+use Rattle.gq_lines.specs.Words.{Word, words_of, number_up_to, number_of, long_number_of, bytes_from, content_in_digits}
 use Rattle.gq_text.specs.Input.{◌>>=◌, place_named}
-use Rattle.gq_text.proofs.WordsLemmas.{some_word}
+use Rattle.gq_lines.proofs.WordsLemmas.{some_word}
 use Rattle.gq_wire.specs.Incoming.{longest_line}
 use Rattle.gq_wire.specs.declared.incoming.Incoming.{Incoming}
 use Rattle.gq_wire.specs.declared.incoming.Incoming.TheVariants.{Tick, Greet, Nothing}

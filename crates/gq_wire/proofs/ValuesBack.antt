@@ -12,10 +12,11 @@ use Rattle.gq_desk.specs.CheckedPlan.{CheckedPlan, nobody, row_at}
 use Rattle.gq_desk.specs.declared.plans.TenantRow.{TenantRow}
 use Rattle.gq_text.specs.Input.{place_named}
 use Rattle.gq_text.specs.Canonical.{IsPlan}
-use Rattle.gq_text.proofs.Numbers.{numbers_read_back, long_numbers_read_back}
-use Rattle.gq_text.proofs.Plain.{is_plain, are_plain, decimal_plain, long_plain, name_plain, bytes_plain}
+use Rattle.gq_lines.proofs.Numbers.{numbers_read_back, long_numbers_read_back}
+use Rattle.gq_lines.proofs.Plain.{is_plain, are_plain, decimal_plain, long_plain, bytes_plain}
+use Rattle.gq_text.proofs.Plain.{name_plain}
 use Rattle.gq_text.proofs.PlanNames.{place_of_row}
-use Rattle.gq_text.proofs.Contents.{bytes_back, content_back}
+use Rattle.gq_lines.proofs.Contents.{bytes_back, content_back}
 use Rattle.gq_wire.specs.Values.{within_byte, copy_of}
 use Rattle.gq_wire.specs.Texts.{copy_words}
 use Rattle.gq_wire.specs.Laws.{FitsCopy, CopiesInDigitsReadBack}

@@ -3,7 +3,7 @@ use Rattle.std.specs.Prelude.{ℕ, List, [], ◌∷◌, codes, Option, Some, Non
 use Rattle.std.specs.Str.{bytes_eq}
 use Rattle.gq_tag.specs.declared.FileId.{FileId}
 use Rattle.gq_tag.specs.declared.StoredCopy.{StoredCopy}
-use Rattle.gq_text.specs.Words.{Word, number_of}
+use Rattle.gq_lines.specs.Words.{Word, number_of}
 use Rattle.gq_text.specs.Input.{◌>>=◌}
 use Rattle.gq_wire.specs.Values.{number_then, copy_of, alone}
 

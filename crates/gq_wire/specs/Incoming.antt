@@ -4,13 +4,13 @@ use Rattle.std.specs.Str.{bytes_eq}
 use Rattle.gq_tag.specs.declared.FileId.{FileId}
 use Rattle.gq_tag.specs.declared.Message.{Message}
 use Rattle.gq_tag.specs.declared.StoredCopy.{StoredCopy}
-use Rattle.gq_pool.specs.declared.TheConstants.{BLOCK_BYTES}
+use Rattle.gq_tag.specs.declared.TheConstants.{BLOCK_BYTES}
 use Rattle.gq_desk.specs.declared.plans.TenantRow.{TenantRow}
 use Rattle.gq_desk.specs.CheckedPlan.{CheckedPlan}
 use Rattle.gq_model.specs.declared.events.Line.{Line}
 use Rattle.gq_node.specs.declared.lost.TheConstants.{NODE_NUMBERS}
 use Rattle.gq_node.specs.declared.shorts.Short.{Short}
-use Rattle.gq_text.specs.Words.{Word, words_of, number_of}
+use Rattle.gq_lines.specs.Words.{Word, words_of, number_of}
 use Rattle.gq_text.specs.Input.{place_named}
 use Rattle.gq_wire.specs.declared.incoming.TheConstants.{MOST_LINE, BESIDE_CONTENT}
 use Rattle.gq_wire.specs.declared.incoming.Incoming.{Incoming}

@@ -8,7 +8,7 @@ use Rattle.gq_tag.specs.declared.Body.{Body}
 use Rattle.gq_tag.specs.declared.Body.TheVariants.{Copy, Store}
 use Rattle.gq_tag.specs.declared.Message.{Message}
 use Rattle.gq_tag.specs.Tag.{to_server}
-use Rattle.gq_pool.specs.declared.TheConstants.{BLOCK_BYTES}
+use Rattle.gq_tag.specs.declared.TheConstants.{BLOCK_BYTES}
 use Rattle.gq_desk.specs.CheckedPlan.{CheckedPlan, row_at}
 use Rattle.gq_model.specs.declared.events.Line.{Line}
 use Rattle.gq_model.specs.declared.events.Line.TheVariants.{Write, Read, List as ListFiles, Abandon}
@@ -20,8 +20,8 @@ use Rattle.gq_node.specs.Shorts.{body_with}
 use Rattle.gq_node.specs.declared.output.Transfer.{Transfer}
 use Rattle.gq_node.specs.declared.output.Transfer.TheVariants.{Wants, Brings}
 use Rattle.gq_replace.specs.Plans.{place_of}
-use Rattle.gq_text.specs.Words.{Word}
-use Rattle.gq_text.specs.AnswerText.{bytes_word, content_word, spaced}
+use Rattle.gq_lines.specs.Words.{Word}
+use Rattle.gq_lines.specs.Written.{bytes_word, content_word, spaced, first_text}
 use Rattle.gq_text.specs.Canonical.{IsPlan, IsNumber}
 use Rattle.gq_wire.specs.declared.incoming.Incoming.{Incoming}
 use Rattle.gq_wire.specs.declared.incoming.Incoming.TheVariants.{Request, Plan, Look, Bad, Letter, ShortLetter, Joins, Joined, Speaks, Fetch, Fetched, Nothing}
@@ -30,7 +30,7 @@ use Rattle.gq_wire.specs.Questions.{look_words}
 use Rattle.gq_wire.specs.Requests.{request_words}
 use Rattle.gq_wire.specs.Letters.{is_of_round}
 use Rattle.gq_wire.specs.Incoming.{incoming_of}
-use Rattle.gq_wire.specs.Texts.{first_text, letter_words, letter_line, short_words, short_line, transfer_file, transfer_to, transfer_words, transfer_line}
+use Rattle.gq_wire.specs.Texts.{letter_words, letter_line, short_words, short_line, transfer_file, transfer_to, transfer_words, transfer_line}
 
 -- the numbers of a copy fit in the words of a line
 abbrev pub FitsCopy : StoredCopy → Type 0

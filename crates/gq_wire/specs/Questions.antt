@@ -1,7 +1,7 @@
 -- What a tenant asks a node of a volume: `look N V`, where N is the number that the tenant gives the question.
 use Rattle.std.specs.Prelude.{ℕ, List, [], ◌∷◌, codes, decimal, Option, None, if◌then◌else◌}
 use Rattle.std.specs.Str.{bytes_eq}
-use Rattle.gq_text.specs.Words.{Word}
+use Rattle.gq_lines.specs.Words.{Word}
 use Rattle.gq_text.specs.Input.{◌>>=◌}
 use Rattle.gq_wire.specs.Values.{number_then, long_then, alone}
 

@@ -5,7 +5,7 @@ use Rattle.std.specs.Str.{bytes_eq}
 use Rattle.gq_model.specs.declared.events.Line.{Line}
 use Rattle.gq_model.specs.declared.events.Line.TheVariants.{Write, Read, List as ListFiles, Abandon}
 use Rattle.gq_node.specs.Local.{asker}
-use Rattle.gq_text.specs.Words.{Word, number_of}
+use Rattle.gq_lines.specs.Words.{Word, number_of}
 use Rattle.gq_text.specs.Input.{◌>>=◌, line_of}
 use Rattle.gq_text.specs.Canonical.{line_words}
 use Rattle.gq_wire.specs.Values.{number_then, last_content, alone}

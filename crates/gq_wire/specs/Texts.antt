@@ -14,8 +14,9 @@ use Rattle.gq_model.specs.declared.events.Line.{Line}
 use Rattle.gq_model.specs.declared.events.Line.TheVariants.{Write, Read, List as ListFiles}
 use Rattle.gq_model.specs.declared.events.Refusal.{Refusal}
 use Rattle.gq_model.specs.declared.events.Refusal.TheVariants.{NoVolume, NoFile, TooLong}
-use Rattle.gq_text.specs.Words.{Word}
-use Rattle.gq_text.specs.AnswerText.{bytes_word, file_word, outcome_words, refusal_words, line_text}
+use Rattle.gq_lines.specs.Words.{Word}
+use Rattle.gq_lines.specs.Written.{bytes_word, line_text}
+use Rattle.gq_text.specs.AnswerText.{file_word, outcome_words, refusal_words}
 use Rattle.gq_wire.specs.declared.answers.TheConstants.{VOLUMES_ONE_BY_ONE}
 use Rattle.gq_node.specs.declared.shorts.Short.{Short}
 use Rattle.gq_node.specs.declared.shorts.ShortBody.{ShortBody}
@@ -27,10 +28,6 @@ use Rattle.gq_node.specs.declared.output.Transfer.{Transfer}
 use Rattle.gq_node.specs.declared.output.Transfer.TheVariants.{Wants, Brings}
 use Rattle.gq_node.specs.declared.output.Answer.TheVariants.{Done, Gone, Refused, Old, Early, Busy, Away, Has, Looked, NotLooked, Bad}
 use Rattle.gq_wire.specs.declared.incoming.TheConstants.{LINE_FORM}
-
--- the first line that a node writes
-abbrev pub first_text : List ℕ
-first_text = line_text [] (codes "?" ∷ [])
 
 -- ---- a letter
 

@@ -1,7 +1,7 @@
 -- Values in a line, one after another.
 use Rattle.std.specs.Prelude.{ℕ, List, [], ◌∷◌, nat_le, Option, Some, None, if◌then◌else◌}
 use Rattle.gq_tag.specs.declared.StoredCopy.{StoredCopy}
-use Rattle.gq_text.specs.Words.{Word, number_of, long_number_of, content_of}
+use Rattle.gq_lines.specs.Words.{Word, number_of, long_number_of, content_of}
 use Rattle.gq_text.specs.Input.{◌>>=◌}
 
 -- the number of the first word, and the words behind it

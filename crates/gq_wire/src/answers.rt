@@ -6,18 +6,20 @@
 ghost use Rattle.std.specs.Prelude.{◌≡◌, [], ◌∷◌, ◌++◌, ◌<◌, length, map, codes, decimal, OnOk, OnErr};
 ghost use Rattle.std.specs.List.{flat_map};
 ghost use Rattle.gq_desk.specs.CheckedPlan.{row_at};
-ghost use Rattle.gq_text.specs.AnswerText.{line_text, spaced, outcome_words};
-ghost use Rattle.gq_text.specs.Pieces.{words_in, Extends};
+ghost use Rattle.gq_lines.specs.Written.{line_text, spaced, Extends};
+ghost use Rattle.gq_text.specs.AnswerText.{outcome_words};
+ghost use Rattle.gq_text.specs.Pieces.{words_in};
 ghost use Rattle.gq_wire.specs.Texts.{volume_in, file_in, length_in, word_of, refusal_words_of, volume_word, are_alike, run_word, runs_behind, run_words, volumes_words, holding_words, form_word, grid_words, held_word, looked_words, told_words, told_line};
 
 use crate::incoming::LINE_FORM;
 use gq_desk::{Plan, VolumeRow};
 use gq_grid::Grid;
+use gq_lines::put_number;
 use gq_memory::{GrowCopies, GrowVec, OutOfMemory};
 use gq_model::{Line, Refusal};
 use gq_node::{Answer, Holding, Look};
 use gq_phase::{Outcome, Row};
-use gq_text::{Piece, put_done, put_number, put_words};
+use gq_text::{Piece, put_done, put_words};
 
 /// The most open volumes of a tenant that are told one by one. Where there are more, those that are alike, one after another, are told at once.
 pub const VOLUMES_ONE_BY_ONE: usize = 64;

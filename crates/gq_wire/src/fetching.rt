@@ -1,13 +1,13 @@
 //! What a new node and others say to each other, so that it gets the files that it lacks.
 
 ghost use Rattle.std.specs.Prelude.{◌≡◌, Some, None, IfOk, MatchOption};
-ghost use Rattle.gq_text.specs.Words.{words_after};
+ghost use Rattle.gq_lines.specs.Words.{words_after};
 ghost use Rattle.gq_wire.specs.Fetching.{number_behind, file_then, fetch_of, fetched_of};
 
 use crate::values::{read_copy, take_number};
+use gq_lines::{is_end, next_word, number};
 use gq_memory::OutOfMemory;
 use gq_tag::{FileId, StoredCopy};
-use gq_text::{is_end, next_word, number};
 use std::alloc::Global;
 
 /// The number that is the only word behind that verb.

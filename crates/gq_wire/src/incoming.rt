@@ -1,7 +1,7 @@
 //! A line that comes to a node.
 
 ghost use Rattle.std.specs.Prelude.{◌≡◌, ◌*◌, ◌<◌, ◌≤◌, length, nat_lt, Some, IfOk};
-ghost use Rattle.gq_text.specs.Words.{words_of, words_after, number_of};
+ghost use Rattle.gq_lines.specs.Words.{words_of, words_after, number_of};
 ghost use Rattle.gq_text.specs.Input.{place_named};
 ghost use Rattle.gq_node.specs.declared.lost.TheConstants.{NODE_NUMBERS};
 ghost use Rattle.gq_wire.specs.Incoming.{is_only, is_tick, is_greet, behind_name, node_words, from_node, from_tenant, incoming_from, incoming_of_words, incoming_of, most_blocks_of, longest_line, FitsPlan};
@@ -10,12 +10,11 @@ use crate::fetching::{fetch, fetched, number_behind};
 use crate::letters::{letter, short_letter};
 use crate::requests::{look, request};
 use gq_desk::{Plan, TenantRow};
+use gq_lines::{first_word, is_end, next_word, number};
 use gq_memory::OutOfMemory;
 use gq_model::Line;
 use gq_node::{NODE_NUMBERS, Short};
-use gq_pool::BLOCK_BYTES;
-use gq_tag::{FileId, Message, StoredCopy};
-use gq_text::{first_word, is_end, next_word, number};
+use gq_tag::{BLOCK_BYTES, FileId, Message, StoredCopy};
 use std::alloc::Global;
 
 /// The most bytes of a line, its newline not counted, where no content of the plan needs more.

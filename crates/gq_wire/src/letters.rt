@@ -2,14 +2,14 @@
 
 ghost use Rattle.std.specs.Prelude.{◌≡◌, Some, None, IfOk, MatchOption};
 ghost use Rattle.gq_tag.specs.declared.Body.TheVariants.{Copy, Store};
-ghost use Rattle.gq_text.specs.Words.{words_after};
+ghost use Rattle.gq_lines.specs.Words.{words_after};
 ghost use Rattle.gq_wire.specs.Letters.{with_copy, body_of_words, heading_then, is_of_round, message_from, in_round, letter_of_words, tag_of, short_of_words, short_from, short_in_round, short_letter_of};
 
 use crate::values::{read_copy, take_byte, take_long, take_number};
+use gq_lines::{is_end, next_word};
 use gq_memory::OutOfMemory;
 use gq_node::{Short, ShortBody, place_of};
 use gq_tag::{Body, FileId, Message, StoredCopy, Tag};
-use gq_text::{is_end, next_word};
 use std::alloc::Global;
 
 // The words of a letter between its tenant and its body.

@@ -1,14 +1,14 @@
 //! What a tenant asks, read.
 
 ghost use Rattle.std.specs.Prelude.{◌≡◌, IfOk};
-ghost use Rattle.gq_text.specs.Words.{words_after};
+ghost use Rattle.gq_lines.specs.Words.{words_after};
 ghost use Rattle.gq_wire.specs.Questions.{mark_and_volume, look_of};
 ghost use Rattle.gq_wire.specs.Requests.{write_by, read_by, list_by, abandon_by, line_by, request_of};
 
 use crate::values::{last_content, take_long, take_number};
+use gq_lines::{is_end, next_word};
 use gq_memory::OutOfMemory;
 use gq_model::Line;
-use gq_text::{is_end, next_word};
 use std::alloc::Global;
 
 // The write of the session that the words tell. Only its content takes memory.

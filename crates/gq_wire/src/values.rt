@@ -1,13 +1,13 @@
 //! Values in a line, one after another.
 
 ghost use Rattle.std.specs.Prelude.{◌≡◌, Some, None, IfOk, MatchOption};
-ghost use Rattle.gq_text.specs.Words.{words_after};
+ghost use Rattle.gq_lines.specs.Words.{words_after};
 ghost use Rattle.gq_wire.specs.Values.{number_then, byte_then, long_then, within_byte, last_content, copy_of};
 
 use bytes::Bytes;
+use gq_lines::{content, is_end, long_number, next_long_word, next_word, number};
 use gq_memory::OutOfMemory;
 use gq_tag::{StoredCopy, Tag};
-use gq_text::{content, is_end, long_number, next_long_word, next_word, number};
 use std::alloc::Global;
 
 /// The number of the next word, and the text after it.

@@ -2,17 +2,18 @@
 
 ghost use Rattle.std.specs.Prelude.{◌≡◌, [], ◌∷◌, ◌++◌, ◌<◌, length, decimal, OnOk, OnErr};
 ghost use Rattle.std.specs.List.{flat_map};
-ghost use Rattle.gq_text.specs.AnswerText.{line_text};
-ghost use Rattle.gq_text.specs.Pieces.{words_in, Extends};
+ghost use Rattle.gq_lines.specs.Written.{line_text, Extends, first_text};
+ghost use Rattle.gq_text.specs.Pieces.{words_in};
 ghost use Rattle.gq_node.specs.declared.output.Transfer.TheVariants.{Wants, Brings};
 ghost use Rattle.gq_node.specs.declared.shorts.ShortBody.TheVariants.{Want};
-ghost use Rattle.gq_wire.specs.Texts.{copy_words, headed, letter_line, tag_words, short_body_words, short_headed, short_line, transfer_file, transfer_line, joins_line, joined_line, speaks_line, first_text};
+ghost use Rattle.gq_wire.specs.Texts.{copy_words, headed, letter_line, tag_words, short_body_words, short_headed, short_line, transfer_file, transfer_line, joins_line, joined_line, speaks_line};
 
 use gq_desk::Plan;
+use gq_lines::put_number;
 use gq_memory::{GrowCopies, OutOfMemory};
 use gq_node::{Short, ShortBody, Transfer};
 use gq_tag::{Body, FileId, Message, StoredCopy, Tag};
-use gq_text::{Piece, put_number, put_words};
+use gq_text::{Piece, put_words};
 
 /// Appends the first line that a node writes: with it behind them, the bytes of a line that was torn before have no form.
 pub fn put_first(out: &mut Vec<u8>) -> Result<(), OutOfMemory>

@@ -1,5 +1,5 @@
-pub mod Asking
-pub mod Faults
-pub mod Naming
 pub mod Subcommands
 pub mod Values
+pub mod Levels
+pub mod Named
+pub mod Showing

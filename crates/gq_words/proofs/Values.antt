@@ -10,12 +10,10 @@ use Rattle.clap.specs.Matches.{ReadsOne, first_value, one_text}
 use Rattle.clap.specs.Walk.{Row, Text, first_of, one_of, row_of, row_text, rows_of, texts}
 use Rattle.clap.specs.Values.{read_as}
 use Rattle.clap.specs.declared.builder.value_parser.Reading.{Reading}
-use Rattle.clap.specs.Simple.{HasMatchesOf, subcommand_rows_of}
+use Rattle.clap.specs.Simple.{App, HasMatchesOf, is_simple, subcommand_rows_of}
 use Rattle.clap.specs.declared.parser.matches.ArgMatches.{ArgMatches}
 use Rattle.clap.specs.declared.parser.matches.Found.{Found}
-use Rattle.gq_words.specs.declared.words.CommandLine.{CommandLine}
-use Rattle.gq_words.specs.Words.{gridfs}
-use Rattle.gq_words.specs.Given.{HasValues, IsFlagGiven, IsFlagIn, IsNumberGiven, IsNumberIn, given_by, rows_behind, text_given}
+use Rattle.gq_words.specs.Given.{IsFlagGiven, IsFlagIn, IsNumberGiven, IsNumberIn, given_by, rows_behind, text_given}
 
 first_text : (values : List (Bor Text)) → slice_get (texts values) 0 ≡ option_map (λ s. s.now) (slice_get values 0)
 first_text [] = refl
@@ -80,10 +78,10 @@ number_read f id read otherwise none value =
     subst P (sym (one_in_rows f id)) (number_in (one_text f id) read otherwise none value)
 
 -- what was found is what the words give
-pub given_is : (words : List Text) (m : ArgMatches) (asked : CommandLine) → HasMatchesOf gridfs words m → HasValues (rows_behind (subcommand_rows_of m)) asked → HasValues (given_by words) asked
-given_is words m asked has values =
-    let P : Option (Text × List Row) → Type 0 = λ found. HasValues (rows_behind found) asked in
-    subst P (has refl).1 values
+pub given_is : (app : App) (words : List Text) (m : ArgMatches) (P : List Row → Type 0) → is_simple app ≡ true → HasMatchesOf app words m → P (rows_behind (subcommand_rows_of m)) → P (given_by app words)
+given_is app words m P simple has values =
+    let Q : Option (Text × List Row) → Type 0 = λ found. P (rows_behind found) in
+    subst Q (has simple).1 values
 
 pub flag_read : (f : Found) (id : Text) (flag : Bool) → (one_text f id ≡ None → flag ≡ false) → (one_text f id ≡ Some (codes "true") → flag ≡ true) → (one_text f id ≡ Some (codes "false") → flag ≡ false)
     → IsFlagGiven (rows_of f) id flag

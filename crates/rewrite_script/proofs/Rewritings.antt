@@ -2,11 +2,11 @@
 use Rattle.std.proofs.Common.{◌≡◌, ℕ, ◌-◌, List, Ok, map, sym, take, drop, length}
 use Rattle.gq_desk.specs.CheckedPlan.{CheckedPlan}
 use Rattle.gq_model.specs.declared.events.Event.{Event}
-use Rattle.gq_text.specs.Lines.{lines_of}
+use Rattle.gq_lines.specs.Lines.{lines_of}
 use Rattle.gq_text.specs.Input.{event_of}
 use Rattle.gq_text.specs.PlanText.{plan_of}
 use Rattle.gq_text.specs.Canonical.{script_text, IsScriptOf}
-use Rattle.gq_text.proofs.WordsLemmas.{whole_rest}
+use Rattle.gq_lines.proofs.WordsLemmas.{whole_rest}
 use Rattle.rewrite_script.specs.Rewriting.{IsRewriting}
 
 -- the lines after the plan start at a place of the script

@@ -7,14 +7,15 @@
 ghost use Rattle.std.specs.Prelude.{◌≡◌, map, IfOk};
 ghost use Rattle.std.specs.List.{All};
 ghost use Rattle.gq_model.specs.Events.{IsIn};
-ghost use Rattle.gq_text.specs.Lines.{lines_of};
+ghost use Rattle.gq_lines.specs.Lines.{lines_of};
 ghost use Rattle.gq_text.specs.Input.{event_of};
 ghost use Rattle.rewrite_script.specs.Rewriting.{IsRewriting};
 
 use gq_desk::Plan;
+use gq_lines::first_line;
 use gq_memory::{GrowVec, OutOfMemory};
 use gq_model::Event;
-use gq_text::{PlanText, first_line, read_line, read_plan, write_script};
+use gq_text::{PlanText, read_line, read_plan, write_script};
 use std::alloc::Global;
 use std::fmt::{Display, Error as FormatError, Formatter, Write as FormatWrite};
 use std::io;

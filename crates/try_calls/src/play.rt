@@ -5,8 +5,9 @@ ghost use Rattle.gq_model.specs.Events.{IsIn};
 
 use crate::Fault;
 use gq_desk::Plan;
+use gq_lines::first_line;
 use gq_memory::{GrowCopies, GrowVec, OutOfMemory};
-use gq_text::{first_line, read_line, read_plan, write_answer};
+use gq_text::{read_line, read_plan, write_answer};
 use gq_world::{Event, World};
 use std::alloc::Global;
 

@@ -1,9 +1,9 @@
 //! A shelf in files that does what lines ask.
 
 use crate::Fault;
+use gq_lines::{first_line, first_word, long_number, next_word, number};
 use gq_memory::{GrowCopies, GrowVec, OutOfMemory};
 use gq_shelf::{Extent, FileShelf, OpenFault, Shelf, ShelfFault, ShelfPlace};
-use gq_text::{first_line, first_word, long_number, next_word, number};
 use std::alloc::Global;
 use std::fs::File;
 use std::io;

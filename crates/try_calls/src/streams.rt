@@ -3,8 +3,9 @@
 use gq_files::{OrderFault, order_run};
 use gq_live::OpenGate;
 use gq_runs::{LiveRunFault, live_run};
-use gq_script::{NoNotice, RunFault, Watched, run, step};
+use gq_script::{NoNotice, RunFault, run, step};
 use gq_shards::run_in_shards;
+use gq_streams::Watched;
 use std::alloc::Global;
 use std::io;
 use std::io::{Read, Write};

@@ -7,13 +7,14 @@ ghost use Rattle.gq_model.specs.Events.{IsIn};
 use crate::Fault;
 use crate::calls::{retry, tell, tell_kept};
 use gq_desk::Plan;
+use gq_lines::first_line;
 use gq_memory::{GrowVec, copied_bytes, slice_copied};
 use gq_phase::Outcome;
 use gq_runs::{ProgramFault, read_programs};
 use gq_script::MOST_INPUT;
 use gq_session::{Programs, SessionId, fits, sessions_of};
 use gq_tag::{StoredCopy, Tag};
-use gq_text::{first_line, read_line, read_plan, write_answer, write_script};
+use gq_text::{read_line, read_plan, write_answer, write_script};
 use gq_world::{Answer, Event};
 use std::alloc::Global;
 

@@ -1,6 +1,6 @@
 -- The chunks so far.
 use Rattle.std.proofs.Common.{◌≡◌, ◌++◌, take, map}
-use Rattle.gq_text.specs.AnswerText.{spaced}
+use Rattle.gq_lines.specs.Written.{spaced}
 use Rattle.gq_chunks.specs.Answers.{chunk_word}
 use Rattle.gq_chunks.proofs.answering.put_chunks.Given as goal
 

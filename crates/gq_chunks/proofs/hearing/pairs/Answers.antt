@@ -1,6 +1,6 @@
 use Rattle.std.proofs.Common.{List, ap, sym, ◌∙◌}
 use Rattle.gq_depot.specs.declared.answer.ListedChunk.{ListedChunk}
-use Rattle.gq_text.specs.Words.{words_after}
+use Rattle.gq_lines.specs.Words.{words_after}
 use Rattle.gq_chunks.specs.PeerLines.{pairs_behind}
 use Rattle.gq_chunks.proofs.Sayings.{pair_read}
 use Rattle.gq_chunks.proofs.hearing.pairs.Goals as goal

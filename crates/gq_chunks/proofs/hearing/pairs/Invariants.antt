@@ -1,6 +1,6 @@
 -- What is read of the rest, behind the chunks so far, is what is read of all.
 use Rattle.std.proofs.Common.{◌≡◌, [], length}
-use Rattle.gq_text.specs.Words.{words_after}
+use Rattle.gq_lines.specs.Words.{words_after}
 use Rattle.gq_chunks.specs.PeerLines.{pairs_behind}
 use Rattle.gq_chunks.proofs.hearing.pairs.Given as goal
 

@@ -1,6 +1,6 @@
 -- The pairs so far.
 use Rattle.std.proofs.Common.{◌≡◌, ◌++◌, take}
-use Rattle.gq_text.specs.AnswerText.{spaced}
+use Rattle.gq_lines.specs.Written.{spaced}
 use Rattle.gq_chunks.specs.PeerLines.{pair_words}
 use Rattle.gq_chunks.proofs.saying.put_pairs.Given as goal
 

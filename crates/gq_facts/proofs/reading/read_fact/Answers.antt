@@ -2,7 +2,7 @@
 use Rattle.std.proofs.Common.{◌≡◌, ◌<◌, ◌∷◌, length, sym, ap, subst, ◌∙◌}
 use Rattle.std.specs.Prelude.{IfSome}
 use Rattle.std.proofs.lemmas.Result.{IfOk-weaker}
-use Rattle.gq_text.specs.Words.{words_of, words_after}
+use Rattle.gq_lines.specs.Words.{words_of, words_after}
 use Rattle.gq_node.specs.Recalling.{tenant_of}
 use Rattle.gq_facts.specs.Facts.{fact_by}
 use Rattle.gq_facts.proofs.Arriving.{fact_arrives, fact_within}

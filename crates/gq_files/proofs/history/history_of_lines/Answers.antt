@@ -1,7 +1,7 @@
 use Rattle.std.proofs.Common.{◌∙◌}
 use Rattle.std.proofs.lemmas.Result.{IfOk-weaker}
 use Rattle.gq_tag.specs.Tag.{file_place}
-use Rattle.gq_text.specs.Lines.{lines_of}
+use Rattle.gq_lines.specs.Lines.{lines_of}
 use Rattle.gq_files.proofs.Histories.{history_written}
 use Rattle.gq_files.proofs.history.history_of_lines.Goals as goal
 

@@ -1,6 +1,6 @@
 use Rattle.std.proofs.Common.{◌∙◌, refl}
 use Rattle.gq_tag.specs.Tag.{file_place}
-use Rattle.gq_text.specs.Lines.{lines_of}
+use Rattle.gq_lines.specs.Lines.{lines_of}
 use Rattle.gq_files.proofs.Ordering.{order_written}
 use Rattle.gq_files.proofs.order.output_of_lines.Goals as goal
 

@@ -1,7 +1,7 @@
 use Rattle.std.proofs.Common.{◌∙◌, ◌++◌, ap}
 use Rattle.std.specs.List.{flat_map}
 use Rattle.std.proofs.lemmas.List.{get_or_default, take_all}
-use Rattle.gq_text.proofs.Extending.{one_more}
+use Rattle.gq_lines.proofs.Extending.{one_more}
 use Rattle.gq_files.specs.Orders.{operation_line_at}
 use Rattle.gq_files.proofs.Ordering.{lines_at}
 use Rattle.gq_files.proofs.order.put_ops.Goals as goal

@@ -3,7 +3,7 @@ use Rattle.std.specs.Prelude.{drop}
 use Rattle.std.specs.List.{position_from}
 use Rattle.gq_desk.specs.Plans.{is_of}
 use Rattle.gq_script.specs.Completing.{missing_newline}
-use Rattle.gq_text.specs.Lines.{lines_of}
+use Rattle.gq_lines.specs.Lines.{lines_of}
 use Rattle.gq_finish.specs.declared.finish.FinishFault.TheVariants.{Session}
 use Rattle.gq_finish.specs.Finishing.{events_of, CauseOf, Finished}
 use Rattle.gq_finish.proofs.Finishing.{above_all, below_one, cause_has, finish_of, rest_of}

@@ -1,5 +1,5 @@
 use Rattle.std.proofs.Common.{length}
-use Rattle.gq_text.specs.Lines.{lines_of}
+use Rattle.gq_lines.specs.Lines.{lines_of}
 use Rattle.gq_finish.proofs.Finishing.{Plays}
 use Rattle.gq_finish.proofs.finish.play.Given as goal
 

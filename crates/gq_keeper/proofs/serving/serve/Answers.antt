@@ -4,7 +4,7 @@ use Rattle.gq_keeper.specs.Lines.{short_lines}
 use Rattle.gq_keeper.specs.Plans.{last_plan}
 use Rattle.gq_keeper.specs.Restarting.{RestartsAsOne}
 use Rattle.gq_keeper.specs.Durable.{Durable}
-use Rattle.gq_wire.specs.Texts.{first_text}
+use Rattle.gq_lines.specs.Written.{first_text}
 use Rattle.gq_keeper.proofs.Instants.{elapses_then}
 use Rattle.gq_keeper.proofs.Running.{runs_append, runs_keep}
 use Rattle.gq_keeper.proofs.Durability.{durable_none, durable_then}

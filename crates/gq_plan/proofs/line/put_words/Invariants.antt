@@ -1,6 +1,6 @@
 -- The words so far.
 use Rattle.std.proofs.Common.{◌≡◌, ◌++◌, take, map}
-use Rattle.gq_text.specs.AnswerText.{spaced}
+use Rattle.gq_lines.specs.Written.{spaced}
 use Rattle.gq_plan.specs.PlanWords.{word_of}
 use Rattle.gq_plan.proofs.line.put_words.Given as goal
 

@@ -1,6 +1,6 @@
 use Rattle.std.proofs.Common.{ℕ, List, subst}
 use Rattle.std.specs.Io.KnownBytes.{Appends}
-use Rattle.gq_script.specs.Watched.{inner_of}
+use Rattle.gq_streams.specs.Watched.{inner_of}
 use Rattle.gq_runs.specs.LiveRuns.{AppendsLive, IsLiveScript}
 use Rattle.gq_runs.proofs.Reading.{of_whole}
 use Rattle.gq_runs.proofs.live.live_run.Goals as goal

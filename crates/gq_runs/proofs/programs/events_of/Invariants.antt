@@ -2,7 +2,7 @@ use Rattle.std.proofs.Common.{◌≡◌, ◌≤◌, ◌+◌, ◌++◌, length, m
 use Rattle.std.specs.List.{All}
 use Rattle.gq_model.specs.Events.{IsIn}
 use Rattle.gq_text.specs.Input.{event_of}
-use Rattle.gq_text.specs.Lines.{lines_of}
+use Rattle.gq_lines.specs.Lines.{lines_of}
 use Rattle.gq_runs.proofs.programs.events_of.Given as goal
 
 abbrev pub invariant-loop-rest : goal.invariant-loop-rest

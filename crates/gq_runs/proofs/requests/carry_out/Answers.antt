@@ -1,6 +1,6 @@
 use Rattle.std.proofs.Common.{IfSome, subst, sym}
-use Rattle.gq_words.specs.declared.words.Request.{Request}
-use Rattle.gq_script.specs.Watched.{inner_of}
+use Rattle.gq_script_words.specs.declared.words.Request.{Request}
+use Rattle.gq_streams.specs.Watched.{inner_of}
 use Rattle.gq_runs.specs.Requests.{Writes}
 use Rattle.gq_runs.proofs.requests.carry_out.Goals as goal
 

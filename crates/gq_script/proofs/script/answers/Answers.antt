@@ -6,8 +6,8 @@ use Rattle.gq_model.specs.Events.{answer_to}
 use Rattle.gq_model.specs.Shown.{shown}
 use Rattle.gq_world.specs.Tables.{Stands}
 use Rattle.gq_text.specs.Input.{event_of, event_of_words}
-use Rattle.gq_text.specs.Lines.{lines_of}
-use Rattle.gq_text.specs.Words.{words_after}
+use Rattle.gq_lines.specs.Lines.{lines_of}
+use Rattle.gq_lines.specs.Words.{words_after}
 use Rattle.gq_text.specs.AnswerText.{answer_line}
 use Rattle.gq_text.specs.QuorumText.{Held}
 use Rattle.gq_script.proofs.Answering.{continues_first, continues_more, continues_all}

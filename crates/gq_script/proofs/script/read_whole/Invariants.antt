@@ -1,6 +1,6 @@
 use Rattle.std.proofs.Common.{◌≡◌, ◌<◌, ◌≤◌, false, vec_len}
 use Rattle.std.specs.Io.KnownBytes.{Keeps, prepend_known}
-use Rattle.gq_script.specs.Watched.{inner_of, has_failed}
+use Rattle.gq_streams.specs.Watched.{inner_of, has_failed}
 use Rattle.gq_script.specs.declared.script.TheConstants.{MOST_INPUT}
 use Rattle.gq_script.proofs.script.read_whole.Given as goal
 

@@ -1,9 +1,9 @@
 use Rattle.std.proofs.Common.{ℕ, ◌≤◌, List, Ok, arith, length, subst}
 use Rattle.std.specs.Prelude.{IsOk}
-use Rattle.gq_text.specs.Lines.{lines_of}
+use Rattle.gq_lines.specs.Lines.{lines_of}
 use Rattle.gq_text.specs.PlanText.{plan_of}
 use Rattle.gq_script.specs.declared.script.RunFault.{RunFault}
-use Rattle.gq_script.specs.Watched.{inner_of}
+use Rattle.gq_streams.specs.Watched.{inner_of}
 use Rattle.gq_script.specs.declared.script.TheConstants.{MOST_INPUT}
 use Rattle.gq_script.proofs.Alone.{whole_answered}
 use Rattle.gq_script.proofs.script.run.Goals as goal

@@ -4,7 +4,7 @@ use Rattle.std.specs.Prelude.{Some}
 use Rattle.gq_desk.specs.CheckedPlan.{CheckedPlan}
 use Rattle.gq_model.specs.declared.events.Event.{Event}
 use Rattle.gq_text.specs.Input.{event_cut, event_of, event_of_words}
-use Rattle.gq_text.specs.Lines.{lines_of}
+use Rattle.gq_lines.specs.Lines.{lines_of}
 use Rattle.gq_text.specs.QuorumText.{Held}
 use Rattle.gq_script.proofs.Answering.{keeps_first, keeps_more, keeps_all}
 use Rattle.gq_script.proofs.Places.{counts_first, counts_more, counts_all}

@@ -1,5 +1,5 @@
 use Rattle.std.proofs.Common.{◌≡◌, ◌+◌, ◌≤◌, Some, length}
-use Rattle.gq_text.specs.Lines.{lines_of}
+use Rattle.gq_lines.specs.Lines.{lines_of}
 use Rattle.gq_script.proofs.Answering.{Keeps}
 use Rattle.gq_script.proofs.Places.{Counts}
 use Rattle.gq_script.proofs.seeing.answer_lines.Given as goal

@@ -1,6 +1,6 @@
 use Rattle.std.proofs.Common.{◌-◌, subst, take, drop, length}
 use Rattle.gq_script.specs.declared.stepping.Stage.{Stage}
-use Rattle.gq_text.specs.Lines.{lines_of}
+use Rattle.gq_lines.specs.Lines.{lines_of}
 use Rattle.gq_text.specs.PlanText.{plan_of}
 use Rattle.gq_script.specs.Stepping.{HasAnswered, MissesGo}
 use Rattle.gq_script.proofs.Turns.{goes_on, is_plan, nothing_yet, rows_later, told_more}

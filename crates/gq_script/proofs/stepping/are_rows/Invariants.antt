@@ -1,5 +1,5 @@
 use Rattle.std.proofs.Common.{length}
-use Rattle.gq_text.specs.Lines.{lines_of}
+use Rattle.gq_lines.specs.Lines.{lines_of}
 use Rattle.gq_script.specs.Stepping.{MissesGo}
 use Rattle.gq_script.proofs.stepping.are_rows.Given as goal
 

@@ -1,4 +1,4 @@
-use Rattle.gq_script.specs.Watched.{inner_of}
+use Rattle.gq_streams.specs.Watched.{inner_of}
 use Rattle.gq_script.proofs.Alone.{answered_on}
 use Rattle.gq_script.proofs.Turns.{first_missing}
 use Rattle.gq_script.proofs.stepping.step.Goals as goal

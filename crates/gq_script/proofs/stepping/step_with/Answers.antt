@@ -5,11 +5,11 @@ use Rattle.std.proofs.KnownBytes.{Consumes-kept}
 use Rattle.std.proofs.lemmas.Result.{err_from_is_err_and}
 use Rattle.gq_script.specs.declared.stepping.TellFault.{TellFault}
 use Rattle.gq_script.specs.declared.stepping.TellFault.TheVariants.{Write as NotWritten}
-use Rattle.gq_text.specs.Lines.{lines_of}
+use Rattle.gq_lines.specs.Lines.{lines_of}
 use Rattle.gq_text.specs.PlanText.{plan_of}
 use Rattle.gq_script.specs.Out.{out}
 use Rattle.gq_script.specs.Stepping.{HasAnswered, IsTellFaultOf, AllEnded}
-use Rattle.gq_script.specs.Watched.{AppendsPrefix, inner_of}
+use Rattle.gq_streams.specs.Watched.{AppendsPrefix, inner_of}
 use Rattle.gq_script.proofs.KnownBytesLemmas.{IfSome-of_rest}
 use Rattle.gq_script.proofs.Turns.{all_held, all_of, answers_ended, end_nothing, end_prefix, ended_fault, ended_nothing, ended_prefix, first_answered, held_first, held_more, is_not_read, is_too_much, kept_consumes, more_answered, nothing_at, outputs_later, plan_untouched, same_front, take_of_take, told_prefix}
 use Rattle.gq_script.proofs.stepping.step_with.Goals as goal

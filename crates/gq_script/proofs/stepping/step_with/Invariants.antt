@@ -2,10 +2,10 @@ use Rattle.std.proofs.Common.{◌≡◌, ◌<◌, ◌≤◌, false, length, take
 use Rattle.std.specs.Prelude.{IsErr}
 use Rattle.std.specs.Io.KnownBytes.{Appends, Keeps, prepend_known}
 use Rattle.memchr.specs.Find.{Nowhere, Passes, is_byte}
-use Rattle.gq_text.specs.Lines.{lines_of}
+use Rattle.gq_lines.specs.Lines.{lines_of}
 use Rattle.gq_text.specs.PlanText.{plan_of}
 use Rattle.gq_script.specs.Out.{out}
-use Rattle.gq_script.specs.Watched.{inner_of, has_failed}
+use Rattle.gq_streams.specs.Watched.{inner_of, has_failed}
 use Rattle.gq_script.specs.Stepping.{AllEnded, HasAnswered}
 use Rattle.gq_script.specs.declared.script.TheConstants.{MOST_INPUT}
 use Rattle.gq_script.proofs.stepping.step_with.Given as goal

@@ -1,7 +1,7 @@
 use Rattle.std.proofs.Common.{◌∙◌, List, ap}
 use Rattle.std.specs.Prelude.{Some}
 use Rattle.gq_setup.specs.Leaving.{without}
-use Rattle.gq_text.specs.Words.{Word}
+use Rattle.gq_lines.specs.Words.{Word}
 use Rattle.gq_service.proofs.gone.left_of.Goals as goal
 
 pub returns : goal.returns

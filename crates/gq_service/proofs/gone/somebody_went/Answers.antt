@@ -4,7 +4,7 @@ use Rattle.std.specs.Prelude.{Ok, Option, IsErr, MatchOption}
 use Rattle.std.proofs.lemmas.Bool.{eqb-true}
 use Rattle.gq_setup.specs.Setups.{Setup}
 use Rattle.gq_setup.specs.Texts.{setup_of_node_text}
-use Rattle.gq_text.specs.Words.{Word}
+use Rattle.gq_lines.specs.Words.{Word}
 use Rattle.gq_service.proofs.WhoWent.{nobody_went, none_went, went_by}
 use Rattle.gq_service.proofs.gone.somebody_went.Goals as goal
 

@@ -4,7 +4,7 @@ use Rattle.gq_journal.specs.Batches.{whole_lines}
 use Rattle.gq_keeper.specs.Durable.{Durable}
 use Rattle.gq_keeper.specs.Lines.{short_lines}
 use Rattle.gq_setup.specs.Texts.{node_text}
-use Rattle.gq_wire.specs.Texts.{first_text}
+use Rattle.gq_lines.specs.Written.{first_text}
 use Rattle.gq_chunks.specs.Longest.{longest_of}
 use Rattle.gq_service.specs.Kinds.{kind}
 use Rattle.gq_service.specs.Serving.{journal_found}

@@ -1,4 +1,4 @@
-use Rattle.gq_text.proofs.Extending.{extends_more, on_err}
+use Rattle.gq_lines.proofs.Extending.{extends_more, on_err}
 use Rattle.gq_setup.proofs.setup.put_losses.Goals as goal
 
 pub returns-in_err-put_loss-clause-err : goal.returns-in_err-put_loss-clause-err

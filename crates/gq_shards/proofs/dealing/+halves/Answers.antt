@@ -1,5 +1,5 @@
 use Rattle.std.proofs.Common.{List, ℕ}
-use Rattle.gq_text.specs.Lines.{lines_of}
+use Rattle.gq_lines.specs.Lines.{lines_of}
 use Rattle.gq_shards.specs.Shards.{AreDealt}
 use Rattle.gq_shards.proofs.Going.{dealt_both}
 use Rattle.gq_shards.proofs.dealing.+halves.Goals as goal

@@ -1,8 +1,8 @@
 use Rattle.std.proofs.Common.{◌≡◌, ◌∙◌, ℕ, ◌+◌, List, [], ◌∷◌, ◌++◌, ap, sym, arith, append_assoc, append-nil, length, length-append, get_or, take, drop}
 use Rattle.std.proofs.Math.Seq.{take-append_seam}
 use Rattle.std.proofs.lemmas.List.{drop_all, take_rest}
-use Rattle.gq_text.specs.Words.{words_after}
-use Rattle.gq_text.specs.Lines.{lines_of}
+use Rattle.gq_lines.specs.Words.{words_after}
+use Rattle.gq_lines.specs.Lines.{lines_of}
 use Rattle.gq_text.specs.Input.{event_of, event_of_words}
 use Rattle.gq_shards.specs.declared.dealing.Section.{Section}
 use Rattle.gq_shards.specs.declared.ways.Way.{Way}

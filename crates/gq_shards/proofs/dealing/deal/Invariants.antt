@@ -1,5 +1,5 @@
 use Rattle.std.proofs.Common.{◌≡◌, ◌-◌, ◌<◌, ◌++◌, ℕ, vec_len, length, get_or, drop}
-use Rattle.gq_text.specs.Lines.{lines_of}
+use Rattle.gq_lines.specs.Lines.{lines_of}
 use Rattle.gq_shards.specs.declared.ways.Way.{Way}
 use Rattle.gq_shards.specs.Shards.{marks_of, gaps_of}
 use Rattle.gq_shards.proofs.Going.{Goes}

@@ -1,5 +1,5 @@
 use Rattle.std.proofs.Common.{◌≡◌, false, ℕ, List, drop}
-use Rattle.gq_script.specs.Watched.{inner_of, has_failed}
+use Rattle.gq_streams.specs.Watched.{inner_of, has_failed}
 use Rattle.gq_shards.specs.Shards.{waiting, AreTold}
 use Rattle.gq_shards.proofs.Lefts.{Going}
 use Rattle.gq_shards.proofs.merging.write_lines.Given as goal

@@ -2,8 +2,8 @@ use Rattle.std.proofs.Common.{◌≡◌, ◌∙◌, ℕ, ◌+◌, ◌<◌, List,
 use Rattle.std.proofs.lemmas.List.{drop_all, drop_more, take_rest}
 use Rattle.std.proofs.lemmas.List.Elements.{All-get_or}
 use Rattle.gq_desk.specs.CheckedPlan.{CheckedPlan}
-use Rattle.gq_text.specs.Words.{words_after}
-use Rattle.gq_text.specs.Lines.{lines_of}
+use Rattle.gq_lines.specs.Words.{words_after}
+use Rattle.gq_lines.specs.Lines.{lines_of}
 use Rattle.gq_text.specs.Input.{event_cut, event_of, event_of_words}
 use Rattle.gq_text.specs.QuorumText.{Held}
 use Rattle.gq_shards.specs.declared.dealing.Section.{Section}

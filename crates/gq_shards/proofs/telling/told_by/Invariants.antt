@@ -1,5 +1,5 @@
 use Rattle.std.proofs.Common.{◌≡◌, ◌+◌, ◌-◌, ◌++◌, List, ℕ, drop, length}
-use Rattle.gq_text.specs.Lines.{lines_of}
+use Rattle.gq_lines.specs.Lines.{lines_of}
 use Rattle.gq_shards.specs.Shards.{marks_of, gaps_of, lines_of_sections, AreDealt, AreLeft}
 use Rattle.gq_shards.proofs.Seeing.{Tells}
 use Rattle.gq_shards.proofs.telling.told_by.Given as goal

@@ -1,5 +1,5 @@
 use Rattle.std.proofs.lemmas.List.{get_or_default}
-use Rattle.gq_text.proofs.Extending.{one_more}
+use Rattle.gq_lines.proofs.Extending.{one_more}
 use Rattle.gq_svg.specs.Register.{value_text}
 use Rattle.gq_svg.proofs.register.put_values.Goals as goal
 

@@ -1,7 +1,7 @@
 use Rattle.std.proofs.Common.{subst}
 use Rattle.std.proofs.lemmas.List.Elements.{All-more}
 use Rattle.gq_text.specs.Canonical.{event_line, Fits}
-use Rattle.gq_text.proofs.Extending.{one_more}
+use Rattle.gq_lines.proofs.Extending.{one_more}
 use Rattle.gq_text.proofs.canonical.put_events.Goals as goal
 
 pub loop-event-preserved : goal.loop-event-preserved

@@ -1,4 +1,4 @@
-use Rattle.gq_text.proofs.Extending.{extends_more, on_err}
+use Rattle.gq_lines.proofs.Extending.{extends_more, on_err}
 use Rattle.gq_text.proofs.canonical.put_rows.Goals as goal
 
 pub returns-in_err-put_row-clause-err : goal.returns-in_err-put_row-clause-err

@@ -1,5 +1,5 @@
 use Rattle.std.proofs.lemmas.Result.{on_ok_weaker, on_err_weaker}
-use Rattle.gq_text.proofs.Extending.{extends_more}
+use Rattle.gq_lines.proofs.Extending.{extends_more}
 use Rattle.gq_text.proofs.ScriptBack.{scripts_read_back}
 use Rattle.gq_text.proofs.canonical.put_script.Goals as goal
 

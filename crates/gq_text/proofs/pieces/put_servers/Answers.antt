@@ -1,5 +1,6 @@
 use Rattle.std.proofs.Common.{sym}
-use Rattle.gq_text.proofs.Extending.{extends_more, on_err, server_written, server_passed}
+use Rattle.gq_lines.proofs.Extending.{extends_more, on_err}
+use Rattle.gq_text.proofs.Extending.{server_written, server_passed}
 use Rattle.gq_grid.specs.Sets.{servers}
 use Rattle.gq_text.proofs.pieces.put_servers.Goals as goal
 use Rattle.gq_text.proofs.pieces.put_servers.Goals.{then-has+in_ok-put_spaced_number, else-has}

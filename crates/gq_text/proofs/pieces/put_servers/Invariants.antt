@@ -2,7 +2,7 @@ use Rattle.std.proofs.Common.{◌≡◌, ◌++◌, map}
 use Rattle.std.specs.Prelude.{decimal, filter}
 use Rattle.gq_grid.specs.Grid.{below}
 use Rattle.gq_grid.specs.Sets.{servers}
-use Rattle.gq_text.specs.AnswerText.{spaced}
+use Rattle.gq_lines.specs.Written.{spaced}
 use Rattle.gq_text.proofs.pieces.put_servers.Given as goal
 
 -- the servers so far are written

@@ -1,4 +1,4 @@
-use Rattle.gq_text.proofs.Extending.{extends_more, on_err}
+use Rattle.gq_lines.proofs.Extending.{extends_more, on_err}
 use Rattle.gq_text.proofs.pieces.put_volumes.Goals as goal
 
 pub returns-in_err-put_volume-clause-err : goal.returns-in_err-put_volume-clause-err

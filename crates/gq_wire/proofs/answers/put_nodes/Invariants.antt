@@ -1,5 +1,5 @@
 use Rattle.std.proofs.Common.{◌≡◌, ◌++◌, take, map, decimal}
-use Rattle.gq_text.specs.AnswerText.{spaced}
+use Rattle.gq_lines.specs.Written.{spaced}
 use Rattle.gq_wire.proofs.answers.put_nodes.Given as goal
 
 abbrev pub invariant-loop-node : goal.invariant-loop-node

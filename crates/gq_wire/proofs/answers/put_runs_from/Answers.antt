@@ -1,7 +1,7 @@
 -- One volume more.
 use Rattle.std.proofs.Common.{◌∙◌, ℕ, Vec, Global, sym, ap}
 use Rattle.std.proofs.lemmas.Result.{on_err_weaker}
-use Rattle.gq_text.proofs.Extending.{extends_more}
+use Rattle.gq_lines.proofs.Extending.{extends_more}
 use Rattle.gq_wire.proofs.Runs.{goes_on, ends}
 use Rattle.gq_wire.proofs.answers.put_runs_from.Goals as goal
 use Rattle.gq_wire.proofs.answers.put_runs_from.Goals.{then-are_alike, else-are_alike+in_ok-put_run}

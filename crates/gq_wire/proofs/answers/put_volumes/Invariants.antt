@@ -1,5 +1,5 @@
 use Rattle.std.proofs.Common.{◌≡◌, ◌++◌, take, map}
-use Rattle.gq_text.specs.AnswerText.{spaced}
+use Rattle.gq_lines.specs.Written.{spaced}
 use Rattle.gq_wire.specs.Texts.{volume_word}
 use Rattle.gq_wire.proofs.answers.put_volumes.Given as goal
 

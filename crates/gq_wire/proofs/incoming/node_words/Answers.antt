@@ -1,6 +1,6 @@
 -- A line about a tenant that the plan has.
 use Rattle.std.proofs.Common.{sym, subst}
-use Rattle.gq_text.specs.Words.{words_after}
+use Rattle.gq_lines.specs.Words.{words_after}
 use Rattle.gq_wire.specs.Incoming.{FitsPlan}
 use Rattle.gq_wire.proofs.Arriving.{behind_fits, ok_more}
 use Rattle.gq_wire.proofs.incoming.node_words.Goals as goal

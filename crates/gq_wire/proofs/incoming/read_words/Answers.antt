@@ -1,6 +1,6 @@
 -- A line to this node is what its words are.
 use Rattle.std.proofs.Common.{◌∷◌, Some, sym, ap, ◌∙◌}
-use Rattle.gq_text.specs.Words.{words_of, words_after}
+use Rattle.gq_lines.specs.Words.{words_of, words_after}
 use Rattle.gq_wire.proofs.Arriving.{line_arrives, is_some_of}
 use Rattle.gq_wire.proofs.incoming.read_words.Goals as goal
 

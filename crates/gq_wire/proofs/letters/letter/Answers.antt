@@ -1,6 +1,6 @@
 -- The letter is that of the words.
 use Rattle.std.proofs.Common.{sym, ap, ◌∙◌}
-use Rattle.gq_text.specs.Words.{words_after}
+use Rattle.gq_lines.specs.Words.{words_after}
 use Rattle.gq_wire.specs.Letters.{in_round}
 use Rattle.gq_wire.proofs.Arriving.{letter_arrives}
 use Rattle.gq_wire.proofs.letters.letter.Goals as goal

@@ -1,6 +1,6 @@
 -- The request is that of the words, or one of its first words is wanting.
 use Rattle.std.proofs.Common.{◌∙◌, sym, Some, None}
-use Rattle.gq_text.specs.Words.{words_after}
+use Rattle.gq_lines.specs.Words.{words_after}
 use Rattle.gq_wire.proofs.Arriving.{request_arrives, no_words, no_session, no_number}
 use Rattle.gq_wire.proofs.requests.request.Goals as goal
 

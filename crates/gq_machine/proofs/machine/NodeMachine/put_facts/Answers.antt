@@ -2,7 +2,7 @@ use Rattle.std.proofs.Common.{◌∙◌, ◌++◌, subst, ap}
 use Rattle.gq_desk.specs.CheckedPlan.{CheckedPlan}
 use Rattle.gq_node.specs.declared.output.Fact.{Fact}
 use Rattle.gq_node.specs.Recalling.{own_fact}
-use Rattle.gq_text.proofs.Extending.{one_more}
+use Rattle.gq_lines.proofs.Extending.{one_more}
 use Rattle.gq_facts.specs.Facts.{fact_text}
 use Rattle.gq_facts.specs.Laws.{FitsOwn}
 use Rattle.gq_machine.proofs.Fitting.{fits_more}

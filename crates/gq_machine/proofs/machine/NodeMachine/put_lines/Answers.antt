@@ -2,7 +2,7 @@
 use Rattle.std.proofs.Common.{false}
 use Rattle.gq_tag.specs.declared.Message.{Message}
 use Rattle.gq_node.specs.Tables.{Tables}
-use Rattle.gq_text.proofs.Extending.{one_more}
+use Rattle.gq_lines.proofs.Extending.{one_more}
 use Rattle.gq_parts.specs.Steps.{table_line}
 use Rattle.gq_machine.proofs.machine.NodeMachine.put_lines.Goals as goal
 

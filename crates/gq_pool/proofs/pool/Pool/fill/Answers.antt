@@ -1,5 +1,5 @@
 use Rattle.std.proofs.Common.{◌*◌, ◌-◌, length, ap, arith}
-use Rattle.gq_pool.specs.declared.TheConstants.{BLOCK_BYTES}
+use Rattle.gq_tag.specs.declared.TheConstants.{BLOCK_BYTES}
 use Rattle.gq_pool.proofs.Contents.{fill_step, fill_part}
 use Rattle.gq_pool.proofs.pool.Pool.fill.Goals as goal
 

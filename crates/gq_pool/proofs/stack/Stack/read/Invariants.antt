@@ -1,6 +1,6 @@
 use Rattle.std.proofs.Common.{◌≡◌, ◌*◌, ◌-◌, ◌++◌, map, take, drop, min}
 use Rattle.gq_pool.specs.Linked.{first_place}
-use Rattle.gq_pool.specs.declared.TheConstants.{BLOCK_BYTES}
+use Rattle.gq_tag.specs.declared.TheConstants.{BLOCK_BYTES}
 use Rattle.gq_pool.specs.Blocks.{content_of}
 use Rattle.gq_pool.proofs.stack.Stack.read.Given as goal
 

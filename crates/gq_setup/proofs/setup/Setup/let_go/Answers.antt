@@ -1,6 +1,6 @@
 -- The tenant may be gone behind those before it.
 use Rattle.std.proofs.Common.{◌≡◌, ◌++◌, ◌∷◌, [], List, true, sym, ap, ◌∙◌, subst}
-use Rattle.gq_text.specs.Words.{Word}
+use Rattle.gq_lines.specs.Words.{Word}
 use Rattle.gq_setup.specs.Setups.{Setup, can_go, CanGo}
 use Rattle.gq_setup.proofs.Going.{one_gone}
 use Rattle.gq_setup.proofs.setup.Setup.let_go.Goals as goal

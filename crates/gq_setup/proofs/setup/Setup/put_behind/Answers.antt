@@ -2,7 +2,7 @@
 use Rattle.std.proofs.Common.{List, ◌<◌, length, sym, subst}
 use Rattle.std.specs.List.{All}
 use Rattle.std.proofs.lemmas.Result.{on_err_weaker}
-use Rattle.gq_text.proofs.Extending.{extends_more}
+use Rattle.gq_lines.proofs.Extending.{extends_more}
 use Rattle.gq_setup.specs.declared.openings.ChunkRoom.{ChunkRoom}
 use Rattle.gq_setup.proofs.Rooms.{all_there}
 use Rattle.gq_setup.proofs.setup.Setup.put_behind.Goals as goal

@@ -1,5 +1,5 @@
 use Rattle.std.proofs.lemmas.Result.{on_err_weaker}
-use Rattle.gq_text.proofs.Extending.{extends_more}
+use Rattle.gq_lines.proofs.Extending.{extends_more}
 use Rattle.gq_setup.proofs.setup.Setup.put_end.Goals as goal
 
 pub returns-clause-err : goal.returns-clause-err

@@ -1,7 +1,7 @@
 use Rattle.std.proofs.Common.{◌≡◌, ap, ◌∙◌, subst}
 use Rattle.std.specs.Prelude.{map, Ok}
 use Rattle.std.proofs.lemmas.Result.{on_err_weaker}
-use Rattle.gq_text.proofs.Extending.{extends_more}
+use Rattle.gq_lines.proofs.Extending.{extends_more}
 use Rattle.gq_setup.specs.Texts.{opening_event, setup_text}
 use Rattle.gq_setup.specs.Setups.{Setup, setup_of}
 use Rattle.gq_setup.proofs.Reading.{all_in, text_tells, on_ok}

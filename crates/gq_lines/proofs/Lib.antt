@@ -1,0 +1,13 @@
+pub mod Extending
+pub mod LinesLemmas
+pub mod Numbers
+pub mod Rests
+pub mod WordsLemmas
+pub mod Cutting
+pub mod Marking
+pub mod Contents
+pub mod Digits
+pub mod DigitLanes
+pub mod DigitParts
+pub mod Plain
+pub mod LinesBack

@@ -1,5 +1,0 @@
-use Rattle.gq_text.proofs.DigitLanes.{all_digits}
-use Rattle.gq_text.proofs.hex_digits.are_digits.Goals as goal
-
-pub returns : goal.returns
-returns c = all_digits c.args.values c.fits-values.0

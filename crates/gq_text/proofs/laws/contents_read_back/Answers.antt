@@ -1,5 +1,0 @@
-use Rattle.gq_text.proofs.Contents.{bytes_back, content_back}
-use Rattle.gq_text.proofs.laws.contents_read_back.Goals as goal
-
-pub returns : goal.returns
-returns c = record { digits = content_back; bytes = bytes_back }
