@@ -69,7 +69,7 @@ class Server:
 
     def forget(self, session, floor, words):
         first, last = map(int, words)
-        if last > floor:
+        if last > floor or max(1 << 63, self.floors.get(session, 0)) < floor and not any(key >= (session, floor) for key in self.chunks if key[0] == session):
             return b"refused bad"
         self.floors[session] = max(floor, self.floors.get(session, 0))
         if self.lacks:

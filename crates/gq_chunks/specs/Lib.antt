@@ -9,6 +9,7 @@ pub mod Takers
 pub mod Laws
 pub mod Longest
 pub mod Machines
+pub mod Having
 pub mod Lasting
 pub mod Needed
 pub mod Alone

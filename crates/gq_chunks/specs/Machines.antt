@@ -6,6 +6,7 @@ use Rattle.gq_shelf.specs.Notes.{Noted, GoesOn}
 use Rattle.gq_shelf.specs.Places.{long_at}
 use Rattle.gq_desk.specs.CheckedPlan.{CheckedPlan, row_at}
 use Rattle.gq_journal.specs.Batches.{Line, lines_text, is_batch_line, are_batch_lines}
+use Rattle.gq_keeper.specs.Runs.{Takes}
 use Rattle.gq_keeper.specs.declared.fault.Fault.{Fault}
 use Rattle.gq_keeper.specs.declared.fault.Fault.TheVariants as Ends
 use Rattle.gq_shelf.specs.declared.fault.ShelfFault.{ShelfFault}
@@ -103,6 +104,10 @@ pub record Stays (old : Chunks) (facts : List Line) (told : List ℕ) (text : Li
   pub same : new ≡ old
   pub facts_are : facts ≡ []
   pub told_is : told ≡ text
+
+-- A step that hangs on no line was taken: the lines of its facts stand behind what was given, and its text behind what was told.
+abbrev pub Adds : (Chunks → List Line → List ℕ → Chunks → Type 0) → (old : Chunks) → (given given_after told told_after : List ℕ) → (new : Chunks) → Type 0
+Adds step old given given_after told told_after new = Takes (λ old line facts text new. step old facts text new) old [] given given_after told told_after new
 
 -- ---- a node that lacks chunks, and one that gives them
 

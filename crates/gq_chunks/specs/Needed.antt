@@ -12,7 +12,7 @@ use Rattle.gq_depot.specs.declared.depot.Depot.{Depot}
 use Rattle.gq_depot.specs.declared.fact.ChunkFact.{ChunkFact}
 use Rattle.gq_depot.specs.declared.gone.Gone.{Gone}
 use Rattle.gq_chunks.specs.Facts.{chunk_fact_line}
-use Rattle.gq_chunks.specs.Machines.{Chunks, IsSite, FactStands, chunk_reads, ChunkRecalls, lacks_at_first}
+use Rattle.gq_chunks.specs.Machines.{Chunks, IsSite, FactStands, AllFit, GoneFits, chunk_reads, ChunkRecalls, lacks_at_first}
 
 -- ---- one tenant
 
@@ -32,6 +32,18 @@ pub record Wrote (plan : CheckedPlan) (t sessions : ℕ) (before after : List �
   pub text : after ≡ before ++ lines_text (map (chunk_fact_line plan t) facts)
   pub stand : FactsStand plan t sessions facts
   pub makes : IsSame (after_facts facts was) is
+
+-- the same of a depot: of the one part of what it has they make the other
+abbrev pub WroteOf : CheckedPlan → (t : ℕ) → Depot → (before after : List ℕ) → (was is : Standing → Standing) → Type 0
+WroteOf plan t depot before after was is = Wrote plan t (length depot.stock.sessions.items) before after (was (standing_of depot)) (is (standing_of depot))
+
+-- no chunk of the depot is too long
+abbrev pub ChunksFit : Depot → Type 0
+ChunksFit depot = AllFit (standing_of depot)
+
+-- what was forgotten is of its sessions, and not above their floors
+abbrev pub ForgottenFit : Depot → Type 0
+ForgottenFit depot = GoneFits (length depot.stock.sessions.items) (standing_of depot)
 
 -- ---- a part of what a tenant has
 

@@ -8,7 +8,8 @@ ghost use Rattle.std.specs.Prelude.{◌≡◌, ◌<◌, ◌≤◌, ◌^◌, ℕ,
 ghost use Rattle.gq_text.specs.Canonical.{IsPlan};
 ghost use Rattle.gq_shelf.specs.Notes.{GoesOn, after_sync};
 ghost use Rattle.gq_stock.specs.Sure.{PutsStay};
-ghost use Rattle.gq_chunks.specs.Machines.{chunks, IsShelfRefusal, MoveDone, MovedSoFar, AddsMoves, AddsMovesBy};
+ghost use Rattle.gq_chunks.specs.Having.{chunks_of};
+ghost use Rattle.gq_chunks.specs.Machines.{IsShelfRefusal, MoveDone, MovedSoFar, AddsMoves, AddsMovesBy};
 ghost use Rattle.gq_chunks.specs.Coming.{coming, moves_at};
 
 use crate::came::Came;
@@ -63,7 +64,7 @@ impl<S: Shelf + Drop> ChunkMachine<S> {
         source: &Source,
     ) -> Result<Option<ChunkFact>, Fault>
         requires { tenant < length self.old.depots.depots.items }
-        ensures done { IfOk result (λ fact. MoveDone (chunks self.old.plan self.old.node self.old.lost self.old.depots.losses self.old.depots.depots.items (S.noted self.old.depots.shelf)) tenant fact (chunks self.new.plan self.new.node self.new.lost self.new.depots.losses self.new.depots.depots.items (S.noted self.new.depots.shelf))) }
+        ensures done { IfOk result (λ fact. MoveDone (chunks_of S.noted self.old) tenant fact (chunks_of S.noted self.new)) }
         ensures refused { IfErr result (λ fault. IsShelfRefusal fault (S.noted self.old.depots.shelf) (S.noted self.new.depots.shelf)) }
     {
         match self.depots.shelve(tenant as usize, session, number, source) {
@@ -88,7 +89,7 @@ impl<S: Shelf + Drop> ChunkMachine<S> {
         requires tenant { tenant < length self.old.plan.rows }
         requires there { tenant < length self.old.depots.depots.items }
         requires sound { IsPlan self.old.plan }
-        ensures moved { OnOk result (MovedSoFar (chunks self.old.plan self.old.node self.old.lost self.old.depots.losses self.old.depots.depots.items (S.noted self.old.depots.shelf)) facts.old.items facts.new.items (chunks self.new.plan self.new.node self.new.lost self.new.depots.losses self.new.depots.depots.items (S.noted self.new.depots.shelf))) }
+        ensures moved { OnOk result (MovedSoFar (chunks_of S.noted self.old) facts.old.items facts.new.items (chunks_of S.noted self.new)) }
         ensures refused { IfErr result (λ fault. IsShelfRefusal fault (S.noted self.old.depots.shelf) (S.noted self.new.depots.shelf)) }
     {
         let fact = self.shelved(tenant, session, number, source)?;
@@ -98,7 +99,7 @@ impl<S: Shelf + Drop> ChunkMachine<S> {
 
     // The next chunk that is to be moved. A look for segments that fails begins anew later.
     fn next_to_move(&mut self) -> Option<Spot>
-        ensures same { (chunks self.new.plan self.new.node self.new.lost self.new.depots.losses self.new.depots.depots.items (S.noted self.new.depots.shelf)) ≡ (chunks self.old.plan self.old.node self.old.lost self.old.depots.losses self.old.depots.depots.items (S.noted self.old.depots.shelf)) }
+        ensures same { (chunks_of S.noted self.new) ≡ (chunks_of S.noted self.old) }
         ensures tenant { IfSome result (λ spot. spot.tenant < length self.new.plan.rows) }
         ensures there { IfSome result (λ spot. spot.tenant < length self.new.depots.depots.items) }
         ensures few { IfSome result (λ spot. spot.tenant < 2 ^ 8) }
@@ -122,7 +123,7 @@ impl<S: Shelf + Drop> ChunkMachine<S> {
     // Moves the next chunk, if there is one, and says how many bytes it has.
     fn move_next(&mut self, facts: &mut Vec<u8>) -> Result<Option<u64>, Fault>
         requires { IsPlan self.old.plan }
-        ensures moved { OnOk result (MovedSoFar (chunks self.old.plan self.old.node self.old.lost self.old.depots.losses self.old.depots.depots.items (S.noted self.old.depots.shelf)) facts.old.items facts.new.items (chunks self.new.plan self.new.node self.new.lost self.new.depots.losses self.new.depots.depots.items (S.noted self.new.depots.shelf))) }
+        ensures moved { OnOk result (MovedSoFar (chunks_of S.noted self.old) facts.old.items facts.new.items (chunks_of S.noted self.new)) }
         ensures refused { IfErr result (λ fault. IsShelfRefusal fault (S.noted self.old.depots.shelf) (S.noted self.new.depots.shelf)) }
     {
         let Some(spot) = self.next_to_move() else {
@@ -139,7 +140,7 @@ impl<S: Shelf + Drop> ChunkMachine<S> {
     // Moves chunks of so many bytes, or somewhat more.
     fn move_some(&mut self, most: u64, facts: &mut Vec<u8>) -> Result<(), Fault>
         requires { IsPlan self.old.plan }
-        ensures moved { OnOk result (MovedSoFar (chunks self.old.plan self.old.node self.old.lost self.old.depots.losses self.old.depots.depots.items (S.noted self.old.depots.shelf)) facts.old.items facts.new.items (chunks self.new.plan self.new.node self.new.lost self.new.depots.losses self.new.depots.depots.items (S.noted self.new.depots.shelf))) }
+        ensures moved { OnOk result (MovedSoFar (chunks_of S.noted self.old) facts.old.items facts.new.items (chunks_of S.noted self.new)) }
         ensures refused { IfErr result (λ fault. IsShelfRefusal fault (S.noted self.old.depots.shelf) (S.noted self.new.depots.shelf)) }
     {
         let mut moved: u64 = 0;
@@ -167,7 +168,7 @@ impl<S: Shelf + Drop> ChunkMachine<S> {
         facts: &mut Vec<u8>,
     ) -> Result<(), Fault>
         requires { IsPlan self.old.plan }
-        ensures moved { OnOk result (MovedSoFar (chunks self.old.plan self.old.node self.old.lost self.old.depots.losses self.old.depots.depots.items (S.noted self.old.depots.shelf)) facts.old.items facts.new.items (chunks self.new.plan self.new.node self.new.lost self.new.depots.losses self.new.depots.depots.items (S.noted self.new.depots.shelf))) }
+        ensures moved { OnOk result (MovedSoFar (chunks_of S.noted self.old) facts.old.items facts.new.items (chunks_of S.noted self.new)) }
         ensures refused { IfErr result (λ fault. IsShelfRefusal fault (S.noted self.old.depots.shelf) (S.noted self.new.depots.shelf)) }
     {
         let place = tenant as usize;
@@ -210,7 +211,7 @@ impl<S: Shelf + Drop> ChunkMachine<S> {
 
     // Reads the next content that is to be read by now. False: there is none.
     fn read_next(&mut self) -> Result<bool, Fault>
-        ensures read { (text : List ℕ) → OnOk result (MovedSoFar (chunks self.old.plan self.old.node self.old.lost self.old.depots.losses self.old.depots.depots.items (S.noted self.old.depots.shelf)) text text (chunks self.new.plan self.new.node self.new.lost self.new.depots.losses self.new.depots.depots.items (S.noted self.new.depots.shelf))) }
+        ensures read { (text : List ℕ) → OnOk result (MovedSoFar (chunks_of S.noted self.old) text text (chunks_of S.noted self.new)) }
         ensures refused { IfErr result (λ fault. IsShelfRefusal fault (S.noted self.old.depots.shelf) (S.noted self.new.depots.shelf)) }
     {
         let Some(spot) = self.depots.next_to_read(&mut self.scrub) else {
@@ -227,7 +228,7 @@ impl<S: Shelf + Drop> ChunkMachine<S> {
 
     // Reads the contents that are to be read by now.
     fn read_some(&mut self) -> Result<(), Fault>
-        ensures read { (text : List ℕ) → OnOk result (MovedSoFar (chunks self.old.plan self.old.node self.old.lost self.old.depots.losses self.old.depots.depots.items (S.noted self.old.depots.shelf)) text text (chunks self.new.plan self.new.node self.new.lost self.new.depots.losses self.new.depots.depots.items (S.noted self.new.depots.shelf))) }
+        ensures read { (text : List ℕ) → OnOk result (MovedSoFar (chunks_of S.noted self.old) text text (chunks_of S.noted self.new)) }
         ensures refused { IfErr result (λ fault. IsShelfRefusal fault (S.noted self.old.depots.shelf) (S.noted self.new.depots.shelf)) }
     {
         self.depots.begin_scrub(&mut self.scrub);
@@ -244,7 +245,7 @@ impl<S: Shelf + Drop> ChunkMachine<S> {
     // Reads the contents that are to be read by now, and moves chunks of so many bytes, or somewhat more.
     fn read_and_move(&mut self, most: u64, facts: &mut Vec<u8>) -> Result<(), Fault>
         requires { IsPlan self.old.plan }
-        ensures moved { OnOk result (MovedSoFar (chunks self.old.plan self.old.node self.old.lost self.old.depots.losses self.old.depots.depots.items (S.noted self.old.depots.shelf)) facts.old.items facts.new.items (chunks self.new.plan self.new.node self.new.lost self.new.depots.losses self.new.depots.depots.items (S.noted self.new.depots.shelf))) }
+        ensures moved { OnOk result (MovedSoFar (chunks_of S.noted self.old) facts.old.items facts.new.items (chunks_of S.noted self.new)) }
         ensures refused { IfErr result (λ fault. IsShelfRefusal fault (S.noted self.old.depots.shelf) (S.noted self.new.depots.shelf)) }
     {
         self.read_some()?;
@@ -255,7 +256,7 @@ impl<S: Shelf + Drop> ChunkMachine<S> {
     // Does what is due.
     fn do_due(&mut self, due: Due, facts: &mut Vec<u8>) -> Result<(), Fault>
         requires { IsPlan self.old.plan }
-        ensures moved { OnOk result (MovedSoFar (chunks self.old.plan self.old.node self.old.lost self.old.depots.losses self.old.depots.depots.items (S.noted self.old.depots.shelf)) facts.old.items facts.new.items (chunks self.new.plan self.new.node self.new.lost self.new.depots.losses self.new.depots.depots.items (S.noted self.new.depots.shelf))) }
+        ensures moved { OnOk result (MovedSoFar (chunks_of S.noted self.old) facts.old.items facts.new.items (chunks_of S.noted self.new)) }
         ensures refused { IfErr result (λ fault. IsShelfRefusal fault (S.noted self.old.depots.shelf) (S.noted self.new.depots.shelf)) }
     {
         match due {
@@ -289,7 +290,7 @@ impl<S: Shelf + Drop> ChunkMachine<S> {
     // Does what is due. The shelf made sure of all that was put for it before the facts are told.
     fn clean(&mut self, due: Due, facts: &mut Vec<u8>) -> Result<(), Fault>
         requires { IsPlan self.old.plan }
-        ensures moves { OnOk result (AddsMoves (chunks self.old.plan self.old.node self.old.lost self.old.depots.losses self.old.depots.depots.items (S.noted self.old.depots.shelf)) facts.old.items facts.new.items (chunks self.new.plan self.new.node self.new.lost self.new.depots.losses self.new.depots.depots.items (S.noted self.new.depots.shelf))) }
+        ensures moves { OnOk result (AddsMoves (chunks_of S.noted self.old) facts.old.items facts.new.items (chunks_of S.noted self.new)) }
         ensures refused { IfErr result (λ fault. IsShelfRefusal fault (S.noted self.old.depots.shelf) (S.noted self.new.depots.shelf)) }
     {
         self.cleaner.begin_part();
@@ -299,7 +300,7 @@ impl<S: Shelf + Drop> ChunkMachine<S> {
 
     // A content of so many bytes is to be kept: how many bytes are to be moved before, if some are.
     fn due_at_keep(&mut self, bytes: usize) -> Option<Due>
-        ensures { (chunks self.new.plan self.new.node self.new.lost self.new.depots.losses self.new.depots.depots.items (S.noted self.new.depots.shelf)) ≡ (chunks self.old.plan self.old.node self.old.lost self.old.depots.losses self.old.depots.depots.items (S.noted self.old.depots.shelf)) }
+        ensures { (chunks_of S.noted self.new) ≡ (chunks_of S.noted self.old) }
     {
         self.kept = self.kept.saturating_add((bytes as u64).max(LEAST_BYTES));
         if self.kept < KEPT_BYTES {
@@ -331,7 +332,7 @@ impl<S: Shelf + Drop> ChunkMachine<S> {
 
     // What is to be done before this is taken, if something is.
     fn due(&mut self, came: &Came) -> Result<Option<Due>, OutOfMemory>
-        ensures same { (chunks self.new.plan self.new.node self.new.lost self.new.depots.losses self.new.depots.depots.items (S.noted self.new.depots.shelf)) ≡ (chunks self.old.plan self.old.node self.old.lost self.old.depots.losses self.old.depots.depots.items (S.noted self.old.depots.shelf)) }
+        ensures same { (chunks_of S.noted self.new) ≡ (chunks_of S.noted self.old) }
         ensures may { IfOk result (λ due. IfSome due (λ it. moves_at (coming came.now) ≡ true)) }
     {
         match came {
@@ -361,7 +362,7 @@ impl<S: Shelf + Drop> ChunkMachine<S> {
         ensures plan { OnOk result (self.new.plan ≡ self.old.plan) }
         ensures tenants { OnOk result (length self.new.depots.depots.items ≡ length self.old.depots.depots.items) }
         ensures rises { OnOk result ((S.noted self.old.depots.shelf).refused ≤ (S.noted self.new.depots.shelf).refused) }
-        ensures moves { OnOk result (AddsMovesBy (coming came.now) (chunks self.old.plan self.old.node self.old.lost self.old.depots.losses self.old.depots.depots.items (S.noted self.old.depots.shelf)) facts.old.items facts.new.items (chunks self.new.plan self.new.node self.new.lost self.new.depots.losses self.new.depots.depots.items (S.noted self.new.depots.shelf))) }
+        ensures moves { OnOk result (AddsMovesBy (coming came.now) (chunks_of S.noted self.old) facts.old.items facts.new.items (chunks_of S.noted self.new)) }
         ensures refused { IfErr result (λ fault. IsShelfRefusal fault (S.noted self.old.depots.shelf) (S.noted self.new.depots.shelf)) }
     {
         let Some(due) = self.due(came)? else {

@@ -3,11 +3,11 @@
 ghost use Rattle.std.specs.Prelude.{◌≡◌, ◌⊎◌, ◌<◌, ◌++◌, [], true, false, length, slice_get, Some, IfOk, IfSome, IfErr, OnOk};
 ghost use Rattle.gq_journal.specs.Batches.{lines_text};
 ghost use Rattle.gq_text.specs.Canonical.{IsPlan};
-ghost use Rattle.gq_keeper.specs.Runs.{Takes};
 ghost use Rattle.gq_depot.specs.Seeking.{Sought, sought_of, AreAsks};
 ghost use Rattle.gq_depot.specs.declared.depot.Depot.{Depot};
 ghost use Rattle.gq_chunks.specs.PeerLines.{saying_of, Found, Gives};
-ghost use Rattle.gq_chunks.specs.Machines.{chunks, may_answer, fact_lines, FactStands, IsShelfRefusal, AnswersPeer, AddsAsks, AsksOfOne, AddsFacts, FillsDone, GivenAs, Fed, Unfed, Waits, SaidBy, Ticks};
+ghost use Rattle.gq_chunks.specs.Having.{chunks_of};
+ghost use Rattle.gq_chunks.specs.Machines.{Adds, may_answer, fact_lines, FactStands, IsShelfRefusal, AnswersPeer, AddsAsks, AsksOfOne, AddsFacts, FillsDone, GivenAs, Fed, Unfed, Waits, SaidBy, Ticks};
 ghost use Rattle.gq_chunks.specs.Search.{seeks_of, Hears, IsGiven, IsHeard, IsSameSearch, IsSettled, OnlyGivenAreFilled, SearchHears};
 
 use crate::machine::fault_of;
@@ -36,7 +36,7 @@ impl<S: Shelf + Drop> ChunkMachine<S> {
     fn filled(&mut self, tenant: u8, filling: Filling) -> Result<Option<ChunkFact>, Fault>
         requires { tenant < length self.old.depots.depots.items }
         ensures search { self.new.search ≡ self.old.search }
-        ensures done { IfOk result (λ fact. FillsDone (chunks self.old.plan self.old.node self.old.lost self.old.depots.losses self.old.depots.depots.items (S.noted self.old.depots.shelf)) tenant filling fact (chunks self.new.plan self.new.node self.new.lost self.new.depots.losses self.new.depots.depots.items (S.noted self.new.depots.shelf))) }
+        ensures done { IfOk result (λ fact. FillsDone (chunks_of S.noted self.old) tenant filling fact (chunks_of S.noted self.new)) }
         ensures refused { IfErr result (λ fault. IsShelfRefusal fault (S.noted self.old.depots.shelf) (S.noted self.new.depots.shelf)) }
     {
         match self.depots.fill(self.alloc, tenant as usize, filling) {
@@ -51,7 +51,7 @@ impl<S: Shelf + Drop> ChunkMachine<S> {
         requires there { tenant < length self.old.depots.depots.items }
         requires sound { IsPlan self.old.plan }
         ensures search { self.new.search ≡ self.old.search }
-        ensures done { OnOk result (AddsFacts (chunks self.old.plan self.old.node self.old.lost self.old.depots.losses self.old.depots.depots.items (S.noted self.old.depots.shelf)) tenant filling facts.old.items facts.new.items (chunks self.new.plan self.new.node self.new.lost self.new.depots.losses self.new.depots.depots.items (S.noted self.new.depots.shelf))) }
+        ensures done { OnOk result (AddsFacts (chunks_of S.noted self.old) tenant filling facts.old.items facts.new.items (chunks_of S.noted self.new)) }
         ensures refused { IfErr result (λ fault. IsShelfRefusal fault (S.noted self.old.depots.shelf) (S.noted self.new.depots.shelf)) }
     {
         let fact = self.filled(tenant, filling)?;
@@ -63,7 +63,7 @@ impl<S: Shelf + Drop> ChunkMachine<S> {
     fn given(&mut self, tenant: u8, gift: Filling) -> Result<Given, Fault>
         requires { tenant < length self.old.depots.depots.items }
         ensures search { self.new.search ≡ self.old.search }
-        ensures given { IfOk result (λ given. GivenAs (chunks self.old.plan self.old.node self.old.lost self.old.depots.losses self.old.depots.depots.items (S.noted self.old.depots.shelf)) tenant gift given (chunks self.new.plan self.new.node self.new.lost self.new.depots.losses self.new.depots.depots.items (S.noted self.new.depots.shelf))) }
+        ensures given { IfOk result (λ given. GivenAs (chunks_of S.noted self.old) tenant gift given (chunks_of S.noted self.new)) }
         ensures refused { IfErr result (λ fault. IsShelfRefusal fault (S.noted self.old.depots.shelf) (S.noted self.new.depots.shelf)) }
     {
         match self.depots.fill(self.alloc, tenant as usize, gift) {
@@ -82,7 +82,7 @@ impl<S: Shelf + Drop> ChunkMachine<S> {
         told: &mut Vec<u8>,
     ) -> Result<(), OutOfMemory>
         requires { tenant < length self.now.plan.rows }
-        ensures { (sought : Sought) → AreAsks sought asks.now → OnOk result (AddsAsks (chunks self.now.plan self.now.node self.now.lost self.now.depots.losses self.now.depots.depots.items (S.noted self.now.depots.shelf)) tenant told.old.items told.new.items) }
+        ensures { (sought : Sought) → AreAsks sought asks.now → OnOk result (AddsAsks (chunks_of S.noted self.now) tenant told.old.items told.new.items) }
     {
         let Some(to) = peer_in_row(&self.plan, self.node, &self.lost, row) else {
             return Ok(());
@@ -101,7 +101,7 @@ impl<S: Shelf + Drop> ChunkMachine<S> {
     // Whether a node is answered about the tenant, whose plan tells so many losses of the column.
     fn may_answer(&self, tenant: u8, losses: u64) -> bool
         requires { tenant < length self.now.depots.depots.items }
-        ensures { result ≡ may_answer (chunks self.now.plan self.now.node self.now.lost self.now.depots.losses self.now.depots.depots.items (S.noted self.now.depots.shelf)) tenant losses }
+        ensures { result ≡ may_answer (chunks_of S.noted self.now) tenant losses }
     {
         !self.depots.depots[tenant as usize].lacks && losses <= self.depots.losses
     }
@@ -119,7 +119,7 @@ impl<S: Shelf + Drop> ChunkMachine<S> {
         requires there { tenant < length self.old.depots.depots.items }
         requires sound { IsPlan self.old.plan }
         ensures search { self.new.search ≡ self.old.search }
-        ensures took { OnOk result (Takes (λ old line facts told new. AnswersPeer true old tenant from request facts told new) (chunks self.old.plan self.old.node self.old.lost self.old.depots.losses self.old.depots.depots.items (S.noted self.old.depots.shelf)) [] facts.old.items facts.new.items told.old.items told.new.items (chunks self.new.plan self.new.node self.new.lost self.new.depots.losses self.new.depots.depots.items (S.noted self.new.depots.shelf))) }
+        ensures took { OnOk result (Adds (λ old. AnswersPeer true old tenant from request) (chunks_of S.noted self.old) facts.old.items facts.new.items told.old.items told.new.items (chunks_of S.noted self.new)) }
         ensures refused { IfErr result (λ fault. IsShelfRefusal fault (S.noted self.old.depots.shelf) (S.noted self.new.depots.shelf)) }
     {
         let answered = self.answer(tenant, request)?;
@@ -142,7 +142,7 @@ impl<S: Shelf + Drop> ChunkMachine<S> {
         requires there { tenant < length self.old.depots.depots.items }
         requires sound { IsPlan self.old.plan }
         ensures search { self.new.search ≡ self.old.search }
-        ensures took { OnOk result (Takes (λ old line facts told new. AnswersPeer (may_answer old tenant losses) old tenant from request facts told new) (chunks self.old.plan self.old.node self.old.lost self.old.depots.losses self.old.depots.depots.items (S.noted self.old.depots.shelf)) [] facts.old.items facts.new.items told.old.items told.new.items (chunks self.new.plan self.new.node self.new.lost self.new.depots.losses self.new.depots.depots.items (S.noted self.new.depots.shelf))) }
+        ensures took { OnOk result (Adds (λ old. AnswersPeer (may_answer old tenant losses) old tenant from request) (chunks_of S.noted self.old) facts.old.items facts.new.items told.old.items told.new.items (chunks_of S.noted self.new)) }
         ensures refused { IfErr result (λ fault. IsShelfRefusal fault (S.noted self.old.depots.shelf) (S.noted self.new.depots.shelf)) }
     {
         if !self.may_answer(tenant, losses) {
@@ -171,8 +171,8 @@ impl<S: Shelf + Drop> ChunkMachine<S> {
     ) -> Result<(), OutOfMemory>
         requires tenant { tenant < length self.old.plan.rows }
         requires there { tenant < length self.old.depots.depots.items }
-        ensures same { (chunks self.new.plan self.new.node self.new.lost self.new.depots.losses self.new.depots.depots.items (S.noted self.new.depots.shelf)) ≡ (chunks self.old.plan self.old.node self.old.lost self.old.depots.losses self.old.depots.depots.items (S.noted self.old.depots.shelf)) }
-        ensures asks { OnOk result (AddsAsks (chunks self.old.plan self.old.node self.old.lost self.old.depots.losses self.old.depots.depots.items (S.noted self.old.depots.shelf)) tenant told.old.items told.new.items) }
+        ensures same { (chunks_of S.noted self.new) ≡ (chunks_of S.noted self.old) }
+        ensures asks { OnOk result (AddsAsks (chunks_of S.noted self.old) tenant told.old.items told.new.items) }
         ensures hears { (depot : Depot) → slice_get self.new.depots.depots.items tenant ≡ Some depot → OnOk result (Hears tenant self.new.depots.depots.items self.old.search self.new.search (IsHeard depot session after is_all found.now self.old.search self.new.search)) }
     {
         if !self.seeks_of(tenant) {
@@ -196,8 +196,8 @@ impl<S: Shelf + Drop> ChunkMachine<S> {
     ) -> Result<(), OutOfMemory>
         requires tenant { tenant < length self.old.plan.rows }
         requires there { tenant < length self.old.depots.depots.items }
-        ensures same { (chunks self.new.plan self.new.node self.new.lost self.new.depots.losses self.new.depots.depots.items (S.noted self.new.depots.shelf)) ≡ (chunks self.old.plan self.old.node self.old.lost self.old.depots.losses self.old.depots.depots.items (S.noted self.old.depots.shelf)) }
-        ensures asks { OnOk result (AddsAsks (chunks self.old.plan self.old.node self.old.lost self.old.depots.losses self.old.depots.depots.items (S.noted self.old.depots.shelf)) tenant told.old.items told.new.items) }
+        ensures same { (chunks_of S.noted self.new) ≡ (chunks_of S.noted self.old) }
+        ensures asks { OnOk result (AddsAsks (chunks_of S.noted self.old) tenant told.old.items told.new.items) }
         ensures hears { OnOk result (Hears tenant self.new.depots.depots.items self.old.search self.new.search (IsSettled session number is_spoilt self.old.search self.new.search)) }
     {
         if !self.seeks_of(tenant) {
@@ -226,7 +226,7 @@ impl<S: Shelf + Drop> ChunkMachine<S> {
         requires there { tenant < length self.old.depots.depots.items }
         requires sound { IsPlan self.old.plan }
         ensures hears { OnOk result (SearchHears (Found session after floor is_all found.now) tenant self.new.depots.depots.items self.old.search self.new.search) }
-        ensures took { OnOk result (Takes (λ old line facts told new. Fed old tenant (Filling.Raise session floor) facts told new) (chunks self.old.plan self.old.node self.old.lost self.old.depots.losses self.old.depots.depots.items (S.noted self.old.depots.shelf)) [] facts.old.items facts.new.items told.old.items told.new.items (chunks self.new.plan self.new.node self.new.lost self.new.depots.losses self.new.depots.depots.items (S.noted self.new.depots.shelf))) }
+        ensures took { OnOk result (Adds (λ old. Fed old tenant (Filling.Raise session floor)) (chunks_of S.noted self.old) facts.old.items facts.new.items told.old.items told.new.items (chunks_of S.noted self.new)) }
         ensures refused { IfErr result (λ fault. IsShelfRefusal fault (S.noted self.old.depots.shelf) (S.noted self.new.depots.shelf)) }
     {
         self.fill(tenant, Filling::Raise { session, floor }, facts)?;
@@ -247,11 +247,11 @@ impl<S: Shelf + Drop> ChunkMachine<S> {
         requires tenant { tenant < length self.old.plan.rows }
         requires there { tenant < length self.old.depots.depots.items }
         requires sound { IsPlan self.old.plan }
-        ensures same { (chunks self.new.plan self.new.node self.new.lost self.new.depots.losses self.new.depots.depots.items (S.noted self.new.depots.shelf)) ≡ (chunks self.old.plan self.old.node self.old.lost self.old.depots.losses self.old.depots.depots.items (S.noted self.old.depots.shelf)) }
+        ensures same { (chunks_of S.noted self.new) ≡ (chunks_of S.noted self.old) }
         ensures kept { OnOk result (facts.new.items ≡ facts.old.items ++ lines_text (fact_lines self.old.plan tenant fact.now)) }
         ensures stands { OnOk result (FactStands self.old.plan tenant fact.now) }
         ensures hears { OnOk result (Hears tenant self.new.depots.depots.items self.old.search self.new.search (IsSettled session number false self.old.search self.new.search)) }
-        ensures asks { OnOk result (AddsAsks (chunks self.old.plan self.old.node self.old.lost self.old.depots.losses self.old.depots.depots.items (S.noted self.old.depots.shelf)) tenant told.old.items told.new.items) }
+        ensures asks { OnOk result (AddsAsks (chunks_of S.noted self.old) tenant told.old.items told.new.items) }
     {
         self.put_fact(tenant, fact, facts)?;
         self.settled(tenant, session, number, false, told)
@@ -271,7 +271,7 @@ impl<S: Shelf + Drop> ChunkMachine<S> {
         requires there { tenant < length self.old.depots.depots.items }
         requires sound { IsPlan self.old.plan }
         ensures hears { OnOk result (SearchHears (Gives session number bytes) tenant self.new.depots.depots.items self.old.search self.new.search) }
-        ensures took { OnOk result (Takes (λ old line facts told new. Fed old tenant (Filling.Give session number bytes) facts told new ⊎ Unfed old tenant facts told new) (chunks self.old.plan self.old.node self.old.lost self.old.depots.losses self.old.depots.depots.items (S.noted self.old.depots.shelf)) [] facts.old.items facts.new.items told.old.items told.new.items (chunks self.new.plan self.new.node self.new.lost self.new.depots.losses self.new.depots.depots.items (S.noted self.new.depots.shelf))) }
+        ensures took { OnOk result (Adds (λ old facts told new. Fed old tenant (Filling.Give session number bytes) facts told new ⊎ Unfed old tenant facts told new) (chunks_of S.noted self.old) facts.old.items facts.new.items told.old.items told.new.items (chunks_of S.noted self.new)) }
         ensures refused { IfErr result (λ fault. IsShelfRefusal fault (S.noted self.old.depots.shelf) (S.noted self.new.depots.shelf)) }
     {
         let given = Filling::Give {
@@ -304,7 +304,7 @@ impl<S: Shelf + Drop> ChunkMachine<S> {
         requires tenant { tenant < length self.old.plan.rows }
         requires there { tenant < length self.old.depots.depots.items }
         ensures hears { OnOk result (Hears tenant self.new.depots.depots.items self.old.search self.new.search (IsSettled session number is_spoilt self.old.search self.new.search)) }
-        ensures took { OnOk result (Takes (λ old line facts told new. Waits old tenant facts told new) (chunks self.old.plan self.old.node self.old.lost self.old.depots.losses self.old.depots.depots.items (S.noted self.old.depots.shelf)) [] facts.old.items facts.new.items told.old.items told.new.items (chunks self.new.plan self.new.node self.new.lost self.new.depots.losses self.new.depots.depots.items (S.noted self.new.depots.shelf))) }
+        ensures took { OnOk result (Adds (λ old. Waits old tenant) (chunks_of S.noted self.old) facts.old.items facts.new.items told.old.items told.new.items (chunks_of S.noted self.new)) }
     {
         let _facts = facts.len();
         self.settled(tenant, session, number, is_spoilt, told)
@@ -323,7 +323,7 @@ impl<S: Shelf + Drop> ChunkMachine<S> {
         requires there { tenant < length self.old.depots.depots.items }
         requires sound { IsPlan self.old.plan }
         ensures hears { OnOk result (SearchHears (saying_of line) tenant self.new.depots.depots.items self.old.search self.new.search) }
-        ensures took { OnOk result (Takes (λ old came facts told new. SaidBy (saying_of line) old tenant from facts told new) (chunks self.old.plan self.old.node self.old.lost self.old.depots.losses self.old.depots.depots.items (S.noted self.old.depots.shelf)) [] facts.old.items facts.new.items told.old.items told.new.items (chunks self.new.plan self.new.node self.new.lost self.new.depots.losses self.new.depots.depots.items (S.noted self.new.depots.shelf))) }
+        ensures took { OnOk result (Adds (λ old. SaidBy (saying_of line) old tenant from) (chunks_of S.noted self.old) facts.old.items facts.new.items told.old.items told.new.items (chunks_of S.noted self.new)) }
         ensures refused { IfErr result (λ fault. IsShelfRefusal fault (S.noted self.old.depots.shelf) (S.noted self.new.depots.shelf)) }
     {
         match line {
@@ -385,7 +385,7 @@ impl<S: Shelf + Drop> ChunkMachine<S> {
 
     // What is done at a tick.
     fn turn(&mut self) -> Result<Turn, OutOfMemory>
-        ensures same { (chunks self.new.plan self.new.node self.new.lost self.new.depots.losses self.new.depots.depots.items (S.noted self.new.depots.shelf)) ≡ (chunks self.old.plan self.old.node self.old.lost self.old.depots.losses self.old.depots.depots.items (S.noted self.old.depots.shelf)) }
+        ensures same { (chunks_of S.noted self.new) ≡ (chunks_of S.noted self.old) }
         ensures ends { IfOk result (λ turn. turn.ends ≡ true → IsGiven self.new.depots.depots.items self.new.search) }
         ensures asks { IfOk result (λ turn. AreAsks (sought_of self.new.search.seeking) turn.asks.items) }
     {
@@ -409,8 +409,8 @@ impl<S: Shelf + Drop> ChunkMachine<S> {
 
     // Asks the next peer for chunks that are damaged, if some are known.
     fn ask_for_damaged(&mut self, told: &mut Vec<u8>) -> Result<(), OutOfMemory>
-        ensures same { (chunks self.new.plan self.new.node self.new.lost self.new.depots.losses self.new.depots.depots.items (S.noted self.new.depots.shelf)) ≡ (chunks self.old.plan self.old.node self.old.lost self.old.depots.losses self.old.depots.depots.items (S.noted self.old.depots.shelf)) }
-        ensures asks { OnOk result (AsksOfOne (chunks self.old.plan self.old.node self.old.lost self.old.depots.losses self.old.depots.depots.items (S.noted self.old.depots.shelf)) told.old.items told.new.items) }
+        ensures same { (chunks_of S.noted self.new) ≡ (chunks_of S.noted self.old) }
+        ensures asks { OnOk result (AsksOfOne (chunks_of S.noted self.old) told.old.items told.new.items) }
     {
         let rows = self.plan.grid().rows();
         let Some(call) = self.mending.tick(self.alloc, rows)? else {
@@ -426,7 +426,7 @@ impl<S: Shelf + Drop> ChunkMachine<S> {
     pub(crate) fn tick(&mut self, facts: &mut Vec<u8>, told: &mut Vec<u8>) -> Result<(), Fault>
         requires { IsPlan self.old.plan }
         ensures filled { OnOk result (OnlyGivenAreFilled self.old.depots.depots.items self.new.depots.depots.items self.new.search) }
-        ensures took { OnOk result (Takes (λ old line facts told new. Ticks old facts told new) (chunks self.old.plan self.old.node self.old.lost self.old.depots.losses self.old.depots.depots.items (S.noted self.old.depots.shelf)) [] facts.old.items facts.new.items told.old.items told.new.items (chunks self.new.plan self.new.node self.new.lost self.new.depots.losses self.new.depots.depots.items (S.noted self.new.depots.shelf))) }
+        ensures took { OnOk result (Adds Ticks (chunks_of S.noted self.old) facts.old.items facts.new.items told.old.items told.new.items (chunks_of S.noted self.new)) }
         ensures refused { IfErr result (λ fault. IsShelfRefusal fault (S.noted self.old.depots.shelf) (S.noted self.new.depots.shelf)) }
     {
         let Turn { ends, asks } = self.turn()?;

@@ -10,7 +10,8 @@ ghost use Rattle.gq_depot.specs.Segments.{NoneLies};
 ghost use Rattle.gq_depot.specs.declared.answer.ChunkAnswer.TheVariants.{Bad};
 ghost use Rattle.gq_chunks.specs.Answers.{chunk_answer_text};
 ghost use Rattle.gq_chunks.specs.Coming.{coming, IsWithin};
-ghost use Rattle.gq_chunks.specs.Machines.{chunks, StepsBy, fact_lines, FactStands, depot_reads, IsFaultOf, IsShelfRefusal, Answers, Took, Recalled, IsNewFor};
+ghost use Rattle.gq_chunks.specs.Having.{chunks_of};
+ghost use Rattle.gq_chunks.specs.Machines.{Adds, StepsBy, fact_lines, FactStands, depot_reads, IsFaultOf, IsShelfRefusal, Answers, Took, Recalled, IsNewFor};
 
 use crate::came::{Came, read_came};
 use crate::mending::Mending;
@@ -84,7 +85,7 @@ impl<S: Shelf + Drop> ChunkMachine<S> {
         shelf: S,
         ticks: u64,
     ) -> Result<ChunkMachine<S>, OutOfMemory>
-        ensures is_new { IfOk result (λ m. IsNewFor setup.now first.now node (chunks m.plan m.node m.lost m.depots.losses m.depots.depots.items (S.noted m.depots.shelf))) }
+        ensures is_new { IfOk result (λ m. IsNewFor setup.now first.now node (chunks_of S.noted m)) }
         ensures noted { IfOk result (λ m. S.noted m.depots.shelf ≡ S.noted shelf) }
     {
         let cols = setup.plan().grid().cols();
@@ -171,7 +172,7 @@ impl<S: Shelf + Drop> ChunkMachine<S> {
     pub(crate) fn answer(&mut self, tenant: u8, request: ChunkRequest) -> Result<Answered, Fault>
         requires { tenant < length self.old.depots.depots.items }
         ensures search { self.new.search ≡ self.old.search }
-        ensures answered { IfOk result (λ answered. Answers (chunks self.old.plan self.old.node self.old.lost self.old.depots.losses self.old.depots.depots.items (S.noted self.old.depots.shelf)) tenant request answered (chunks self.new.plan self.new.node self.new.lost self.new.depots.losses self.new.depots.depots.items (S.noted self.new.depots.shelf))) }
+        ensures answered { IfOk result (λ answered. Answers (chunks_of S.noted self.old) tenant request answered (chunks_of S.noted self.new)) }
         ensures refused { IfErr result (λ fault. IsShelfRefusal fault (S.noted self.old.depots.shelf) (S.noted self.new.depots.shelf)) }
     {
         match self.depots.answer(self.alloc, tenant as usize, request) {
@@ -194,7 +195,7 @@ impl<S: Shelf + Drop> ChunkMachine<S> {
         requires tenant { tenant < length self.old.plan.rows }
         requires there { tenant < length self.old.depots.depots.items }
         requires sound { IsPlan self.old.plan }
-        ensures took { OnOk result (Takes (λ old line facts told new. Took (chunk_answer_text old.plan old.node tenant) old tenant request facts told new) (chunks self.old.plan self.old.node self.old.lost self.old.depots.losses self.old.depots.depots.items (S.noted self.old.depots.shelf)) [] facts.old.items facts.new.items told.old.items told.new.items (chunks self.new.plan self.new.node self.new.lost self.new.depots.losses self.new.depots.depots.items (S.noted self.new.depots.shelf))) }
+        ensures took { OnOk result (Adds (λ old. Took (chunk_answer_text old.plan old.node tenant) old tenant request) (chunks_of S.noted self.old) facts.old.items facts.new.items told.old.items told.new.items (chunks_of S.noted self.new)) }
         ensures refused { IfErr result (λ fault. IsShelfRefusal fault (S.noted self.old.depots.shelf) (S.noted self.new.depots.shelf)) }
     {
         let answered = self.answer(tenant, request)?;
@@ -213,7 +214,7 @@ impl<S: Shelf + Drop> ChunkMachine<S> {
         requires tenant { IsWithin (length self.old.plan.rows) came }
         requires there { IsWithin (length self.old.depots.depots.items) came }
         requires sound { IsPlan self.old.plan }
-        ensures took { OnOk result (Takes (λ old line facts told new. StepsBy (coming came) old facts told new) (chunks self.old.plan self.old.node self.old.lost self.old.depots.losses self.old.depots.depots.items (S.noted self.old.depots.shelf)) [] facts.old.items facts.new.items told.old.items told.new.items (chunks self.new.plan self.new.node self.new.lost self.new.depots.losses self.new.depots.depots.items (S.noted self.new.depots.shelf))) }
+        ensures took { OnOk result (Adds (λ old. StepsBy (coming came) old) (chunks_of S.noted self.old) facts.old.items facts.new.items told.old.items told.new.items (chunks_of S.noted self.new)) }
         ensures refused { IfErr result (λ fault. IsShelfRefusal fault (S.noted self.old.depots.shelf) (S.noted self.new.depots.shelf)) }
     {
         match came {
@@ -243,7 +244,7 @@ impl<S: Shelf + Drop> ChunkMachine<S> {
     fn recall_fact(&mut self, tenant: u8, fact: ChunkFact) -> Result<bool, OutOfMemory>
         requires { tenant < length self.old.depots.depots.items }
         ensures read { IfOk result (λ is_read. is_read ≡ depot_reads (slice_get self.old.depots.depots.items tenant) fact) }
-        ensures leads { IfOk result (λ is_read. is_read ≡ true → Recalled (chunks self.old.plan self.old.node self.old.lost self.old.depots.losses self.old.depots.depots.items (S.noted self.old.depots.shelf)) tenant fact (chunks self.new.plan self.new.node self.new.lost self.new.depots.losses self.new.depots.depots.items (S.noted self.new.depots.shelf))) }
+        ensures leads { IfOk result (λ is_read. is_read ≡ true → Recalled (chunks_of S.noted self.old) tenant fact (chunks_of S.noted self.new)) }
     {
         self.facts = self.facts.saturating_add(1);
         self.depots.recall(self.alloc, tenant as usize, fact)
@@ -254,11 +255,11 @@ impl<S: Shelf + Drop> Machine for ChunkMachine<S> {
     ghost use Rattle.gq_chunks.specs.Machines.{ChunkSteps, ChunkRecalls, chunk_reads};
     ghost use Rattle.gq_chunks.specs.Lasting.{reads_on};
 
-    ghost steps = { λ old line facts told new. ChunkSteps (chunks old.plan old.node old.lost old.depots.losses old.depots.depots.items (S.noted old.depots.shelf)) line facts told (chunks new.plan new.node new.lost new.depots.losses new.depots.depots.items (S.noted new.depots.shelf)) };
+    ghost steps = { λ old line facts told new. ChunkSteps (chunks_of S.noted old) line facts told (chunks_of S.noted new) };
 
-    ghost recalls = { λ old line new. ChunkRecalls (chunks old.plan old.node old.lost old.depots.losses old.depots.depots.items (S.noted old.depots.shelf)) line (chunks new.plan new.node new.lost new.depots.losses new.depots.depots.items (S.noted new.depots.shelf)) };
+    ghost recalls = { λ old line new. ChunkRecalls (chunks_of S.noted old) line (chunks_of S.noted new) };
 
-    ghost readable = { λ m line. chunk_reads (chunks m.plan m.node m.lost m.depots.losses m.depots.depots.items (S.noted m.depots.shelf)) line };
+    ghost readable = { λ m line. chunk_reads (chunks_of S.noted m) line };
 
     fn recall(&mut self, line: &[u8]) -> Result<(), Unread> {
         let Some((tenant, fact)) = read_chunk_fact(self.alloc, line, &self.plan)? else {
@@ -273,10 +274,10 @@ impl<S: Shelf + Drop> Machine for ChunkMachine<S> {
         Ok(())
     }
 
-    ghost reads_on = { λ old line new other recalled. reads_on (chunks old.plan old.node old.lost old.depots.losses old.depots.depots.items (S.noted old.depots.shelf)) line (chunks new.plan new.node new.lost new.depots.losses new.depots.depots.items (S.noted new.depots.shelf)) other recalled };
+    ghost reads_on = { λ old line new other recalled. reads_on (chunks_of S.noted old) line (chunks_of S.noted new) other recalled };
 
     fn take(&mut self, line: &[u8], facts: &mut Vec<u8>, told: &mut Vec<u8>) -> Result<(), Fault>
-        ensures takes { OnOk result (Takes (λ old line facts told new. ChunkSteps (chunks old.plan old.node old.lost old.depots.losses old.depots.depots.items (S.noted old.depots.shelf)) line facts told (chunks new.plan new.node new.lost new.depots.losses new.depots.depots.items (S.noted new.depots.shelf))) self.old line.now facts.old.items facts.new.items told.old.items told.new.items self.new) }
+        ensures takes { OnOk result (Takes (λ old line facts told new. ChunkSteps (chunks_of S.noted old) line facts told (chunks_of S.noted new)) self.old line.now facts.old.items facts.new.items told.old.items told.new.items self.new) }
         ensures refused { IfErr result (λ fault. IsShelfRefusal fault (S.noted self.old.depots.shelf) (S.noted self.new.depots.shelf)) }
     {
         plan_is_sound(&self.plan);
@@ -293,11 +294,11 @@ impl<S: Shelf + Drop> Lasting for ChunkMachine<S> {
     ghost use Rattle.gq_chunks.specs.Machines.{ChunkSteps, ChunkRecalls, ChunksAreBlank, ChunksAreOf, ChunksRest, in_journals};
     ghost use Rattle.gq_chunks.specs.Lasting.{on_chunks, gives_facts, gives_readable, keeps_blank, keeps_plan, recalls_plan, keeps_rest, reads_again, starts_again};
 
-    ghost blank = { λ plan m new. ChunksAreBlank plan (chunks m.plan m.node m.lost m.depots.losses m.depots.depots.items (S.noted m.depots.shelf)) (chunks new.plan new.node new.lost new.depots.losses new.depots.depots.items (S.noted new.depots.shelf)) };
+    ghost blank = { λ plan m new. ChunksAreBlank plan (chunks_of S.noted m) (chunks_of S.noted new) };
 
-    ghost is_of = { λ plan m. ChunksAreOf plan (chunks m.plan m.node m.lost m.depots.losses m.depots.depots.items (S.noted m.depots.shelf)) };
+    ghost is_of = { λ plan m. ChunksAreOf plan (chunks_of S.noted m) };
 
-    ghost rests = { λ m again. ChunksRest (chunks m.plan m.node m.lost m.depots.losses m.depots.depots.items (S.noted m.depots.shelf)) (chunks again.plan again.node again.lost again.depots.losses again.depots.depots.items (S.noted again.depots.shelf)) };
+    ghost rests = { λ m again. ChunksRest (chunks_of S.noted m) (chunks_of S.noted again) };
 
     ghost contents = { λ m. min (in_journals m.depots.depots.items) (2 ^ 64 - 1) };
 
@@ -314,19 +315,19 @@ impl<S: Shelf + Drop> Lasting for ChunkMachine<S> {
         Ok(put_tenants(self.node, &self.plan, self.depots.depots.as_slice(), facts)?)
     }
 
-    ghost gives_facts = { λ old line facts told new step. gives_facts (chunks old.plan old.node old.lost old.depots.losses old.depots.depots.items (S.noted old.depots.shelf)) line facts told (chunks new.plan new.node new.lost new.depots.losses new.depots.depots.items (S.noted new.depots.shelf)) step };
+    ghost gives_facts = { λ old line facts told new step. gives_facts (chunks_of S.noted old) line facts told (chunks_of S.noted new) step };
 
-    ghost gives_readable = { λ plan old line facts told new other step blank. gives_readable plan (chunks old.plan old.node old.lost old.depots.losses old.depots.depots.items (S.noted old.depots.shelf)) line facts told (chunks new.plan new.node new.lost new.depots.losses new.depots.depots.items (S.noted new.depots.shelf)) (chunks other.plan other.node other.lost other.depots.losses other.depots.depots.items (S.noted other.depots.shelf)) step blank };
+    ghost gives_readable = { λ plan old line facts told new other step blank. gives_readable plan (chunks_of S.noted old) line facts told (chunks_of S.noted new) (chunks_of S.noted other) step blank };
 
-    ghost keeps_blank = { λ plan old line facts told new other step blank. keeps_blank plan (chunks old.plan old.node old.lost old.depots.losses old.depots.depots.items (S.noted old.depots.shelf)) line facts told (chunks new.plan new.node new.lost new.depots.losses new.depots.depots.items (S.noted new.depots.shelf)) (chunks other.plan other.node other.lost other.depots.losses other.depots.depots.items (S.noted other.depots.shelf)) step blank };
+    ghost keeps_blank = { λ plan old line facts told new other step blank. keeps_blank plan (chunks_of S.noted old) line facts told (chunks_of S.noted new) (chunks_of S.noted other) step blank };
 
-    ghost keeps_plan = { λ plan old line facts told new step of. keeps_plan plan (chunks old.plan old.node old.lost old.depots.losses old.depots.depots.items (S.noted old.depots.shelf)) line facts told (chunks new.plan new.node new.lost new.depots.losses new.depots.depots.items (S.noted new.depots.shelf)) step of };
+    ghost keeps_plan = { λ plan old line facts told new step of. keeps_plan plan (chunks_of S.noted old) line facts told (chunks_of S.noted new) step of };
 
-    ghost recalls_plan = { λ plan old line new recalled of. recalls_plan plan (chunks old.plan old.node old.lost old.depots.losses old.depots.depots.items (S.noted old.depots.shelf)) line (chunks new.plan new.node new.lost new.depots.losses new.depots.depots.items (S.noted new.depots.shelf)) recalled of };
+    ghost recalls_plan = { λ plan old line new recalled of. recalls_plan plan (chunks_of S.noted old) line (chunks_of S.noted new) recalled of };
 
-    ghost keeps_rest = { λ old line facts told new before after step rests r. keeps_rest (chunks old.plan old.node old.lost old.depots.losses old.depots.depots.items (S.noted old.depots.shelf)) line facts told (chunks new.plan new.node new.lost new.depots.losses new.depots.depots.items (S.noted new.depots.shelf)) (chunks before.plan before.node before.lost before.depots.losses before.depots.depots.items (S.noted before.depots.shelf)) (chunks after.plan after.node after.lost after.depots.losses after.depots.depots.items (S.noted after.depots.shelf)) step rests (on_chunks (λ m. chunks m.plan m.node m.lost m.depots.losses m.depots.depots.items (S.noted m.depots.shelf)) facts before after r) };
+    ghost keeps_rest = { λ old line facts told new before after step rests r. keeps_rest (chunks_of S.noted old) line facts told (chunks_of S.noted new) (chunks_of S.noted before) (chunks_of S.noted after) step rests (on_chunks (λ m. chunks_of S.noted m) facts before after r) };
 
-    ghost reads_again = { λ plan first last new lines blank r other. reads_again plan (chunks first.plan first.node first.lost first.depots.losses first.depots.depots.items (S.noted first.depots.shelf)) (chunks last.plan last.node last.lost last.depots.losses last.depots.depots.items (S.noted last.depots.shelf)) (chunks new.plan new.node new.lost new.depots.losses new.depots.depots.items (S.noted new.depots.shelf)) lines blank (on_chunks (λ m. chunks m.plan m.node m.lost m.depots.losses m.depots.depots.items (S.noted m.depots.shelf)) lines first last r) other };
+    ghost reads_again = { λ plan first last new lines blank r other. reads_again plan (chunks_of S.noted first) (chunks_of S.noted last) (chunks_of S.noted new) lines blank (on_chunks (λ m. chunks_of S.noted m) lines first last r) other };
 
-    ghost starts_again = { λ plan first last new again lines blank r other s. starts_again plan (chunks first.plan first.node first.lost first.depots.losses first.depots.depots.items (S.noted first.depots.shelf)) (chunks last.plan last.node last.lost last.depots.losses last.depots.depots.items (S.noted last.depots.shelf)) (chunks new.plan new.node new.lost new.depots.losses new.depots.depots.items (S.noted new.depots.shelf)) (chunks again.plan again.node again.lost again.depots.losses again.depots.depots.items (S.noted again.depots.shelf)) lines blank (on_chunks (λ m. chunks m.plan m.node m.lost m.depots.losses m.depots.depots.items (S.noted m.depots.shelf)) lines first last r) other (on_chunks (λ m. chunks m.plan m.node m.lost m.depots.losses m.depots.depots.items (S.noted m.depots.shelf)) lines new again s) };
+    ghost starts_again = { λ plan first last new again lines blank r other s. starts_again plan (chunks_of S.noted first) (chunks_of S.noted last) (chunks_of S.noted new) (chunks_of S.noted again) lines blank (on_chunks (λ m. chunks_of S.noted m) lines first last r) other (on_chunks (λ m. chunks_of S.noted m) lines new again s) };
 }

@@ -8,7 +8,7 @@ ghost use Rattle.gq_ledger.specs.Ledgers.{book_of};
 ghost use Rattle.gq_depot.specs.Answers.{In};
 ghost use Rattle.gq_depot.specs.Depots.{standing_of, bare};
 ghost use Rattle.gq_chunks.specs.Machines.{chunks, AllFit, GoneFits, IsSound, AreSound};
-ghost use Rattle.gq_chunks.specs.Needed.{Wrote, before_place, before_chunks, RunFits, with_run, before_number, lacking, first_lacks, written_of, WroteTenants};
+ghost use Rattle.gq_chunks.specs.Needed.{WroteOf, ChunksFit, ForgottenFit, before_place, before_chunks, RunFits, with_run, before_number, lacking, first_lacks, written_of, WroteTenants};
 
 use crate::ChunkFact;
 use crate::new_depots::lacks_at_first;
@@ -30,7 +30,7 @@ fn put_floor(
     requires tenant { tenant < length plan.now.rows }
     requires few { place + 1 < 2 ^ 32 }
     requires place { place < length depot.now.stock.sessions.items }
-    ensures { (lacks : Bool) → OnOk result (Wrote plan.now tenant (length depot.now.stock.sessions.items) facts.old.items facts.new.items (before_place (standing_of depot.now) lacks place) (before_chunks (standing_of depot.now) lacks place (λ n. false))) }
+    ensures { (lacks : Bool) → OnOk result (WroteOf plan.now tenant depot.now facts.old.items facts.new.items (λ it. before_place it lacks place) (λ it. before_chunks it lacks place (λ n. false))) }
 {
     let floor = depot.stock.sessions[place as usize].floor();
     if floor == 0 {
@@ -57,7 +57,7 @@ fn put_run(
     requires tenant { tenant < length plan.now.rows }
     requires few { place + 1 < 2 ^ 32 }
     requires place { place < length depot.now.stock.sessions.items }
-    ensures { (lacks : Bool) (before : ℕ → Bool) → RunFits depot.now place gone → OnOk result (Wrote plan.now tenant (length depot.now.stock.sessions.items) facts.old.items facts.new.items (before_chunks (standing_of depot.now) lacks place before) (before_chunks (standing_of depot.now) lacks place (with_run before place gone))) }
+    ensures { (lacks : Bool) (before : ℕ → Bool) → RunFits depot.now place gone → OnOk result (WroteOf plan.now tenant depot.now facts.old.items facts.new.items (λ it. before_chunks it lacks place before) (λ it. before_chunks it lacks place (with_run before place gone))) }
 {
     if gone.place != place as usize || gone.run.last < gone.run.first {
         return Ok(());
@@ -82,7 +82,7 @@ fn put_runs(
     requires tenant { tenant < length plan.now.rows }
     requires few { place + 1 < 2 ^ 32 }
     requires place { place < length depot.now.stock.sessions.items }
-    ensures { (lacks : Bool) → GoneFits (length depot.now.stock.sessions.items) (standing_of depot.now) → OnOk result (Wrote plan.now tenant (length depot.now.stock.sessions.items) facts.old.items facts.new.items (before_chunks (standing_of depot.now) lacks place (λ n. false)) (before_number (standing_of depot.now) lacks place 0)) }
+    ensures { (lacks : Bool) → ForgottenFit depot.now → OnOk result (WroteOf plan.now tenant depot.now facts.old.items facts.new.items (λ it. before_chunks it lacks place (λ n. false)) (λ it. before_number it lacks place 0)) }
 {
     if !depot.lacks {
         return Ok(());
@@ -107,7 +107,7 @@ fn put_chunk(
     requires few { place + 1 < 2 ^ 32 }
     requires place { place < length depot.now.stock.sessions.items }
     requires chunk { In depot.now.stock.sessions.items place (λ session. IsSome ((book_of session.chunks).at number)) }
-    ensures { (lacks : Bool) → AllFit (standing_of depot.now) → OnOk result (Wrote plan.now tenant (length depot.now.stock.sessions.items) facts.old.items facts.new.items (before_number (standing_of depot.now) lacks place number) (before_number (standing_of depot.now) lacks place (number + 1))) }
+    ensures { (lacks : Bool) → ChunksFit depot.now → OnOk result (WroteOf plan.now tenant depot.now facts.old.items facts.new.items (λ it. before_number it lacks place number) (λ it. before_number it lacks place (number + 1))) }
 {
     let fact = depot.fact_at(place as usize, place + 1, number)?;
     put_sound_fact(facts, plan, tenant, &fact)
@@ -125,7 +125,7 @@ fn put_zero(
     requires tenant { tenant < length plan.now.rows }
     requires few { place + 1 < 2 ^ 32 }
     requires place { place < length depot.now.stock.sessions.items }
-    ensures { (lacks : Bool) → AllFit (standing_of depot.now) → OnOk result (Wrote plan.now tenant (length depot.now.stock.sessions.items) facts.old.items facts.new.items (before_number (standing_of depot.now) lacks place 0) (before_number (standing_of depot.now) lacks place 1)) }
+    ensures { (lacks : Bool) → ChunksFit depot.now → OnOk result (WroteOf plan.now tenant depot.now facts.old.items facts.new.items (λ it. before_number it lacks place 0) (λ it. before_number it lacks place 1)) }
 {
     let Some(_chunk) = depot.stock.sessions[place as usize].get(0) else {
         return Ok(());
@@ -145,7 +145,7 @@ fn put_others(
     requires tenant { tenant < length plan.now.rows }
     requires few { place + 1 < 2 ^ 32 }
     requires place { place < length depot.now.stock.sessions.items }
-    ensures { (lacks : Bool) → AllFit (standing_of depot.now) → OnOk result (Wrote plan.now tenant (length depot.now.stock.sessions.items) facts.old.items facts.new.items (before_number (standing_of depot.now) lacks place 1) (before_place (standing_of depot.now) lacks (place + 1))) }
+    ensures { (lacks : Bool) → ChunksFit depot.now → OnOk result (WroteOf plan.now tenant depot.now facts.old.items facts.new.items (λ it. before_number it lacks place 1) (λ it. before_place it lacks (place + 1))) }
 {
     let mut last = 0;
     while let Some((number, _)) = depot.stock.sessions[place as usize].after(last) {
@@ -166,7 +166,7 @@ fn put_session(
     requires sound { IsPlan plan.now }
     requires tenant { tenant < length plan.now.rows }
     requires few { place + 1 < 2 ^ 32 }
-    ensures { (lacks : Bool) → AllFit (standing_of depot.now) → GoneFits (length depot.now.stock.sessions.items) (standing_of depot.now) → OnOk result (place < length depot.now.stock.sessions.items → Wrote plan.now tenant (length depot.now.stock.sessions.items) facts.old.items facts.new.items (before_place (standing_of depot.now) lacks place) (before_place (standing_of depot.now) lacks (place + 1))) }
+    ensures { (lacks : Bool) → ChunksFit depot.now → ForgottenFit depot.now → OnOk result (place < length depot.now.stock.sessions.items → WroteOf plan.now tenant depot.now facts.old.items facts.new.items (λ it. before_place it lacks place) (λ it. before_place it lacks (place + 1))) }
 {
     if place as usize >= depot.stock.sessions.len() {
         return Ok(());
@@ -186,7 +186,7 @@ fn put_sessions(
 ) -> Result<(), OutOfMemory>
     requires sound { IsPlan plan.now }
     requires tenant { tenant < length plan.now.rows }
-    ensures { (lacks : Bool) → AllFit (standing_of depot.now) → GoneFits (length depot.now.stock.sessions.items) (standing_of depot.now) → length depot.now.stock.sessions.items ≡ (row_at plan.now tenant).sessions → OnOk result (Wrote plan.now tenant (length depot.now.stock.sessions.items) facts.old.items facts.new.items (bare lacks) (lacking lacks (standing_of depot.now))) }
+    ensures { (lacks : Bool) → ChunksFit depot.now → ForgottenFit depot.now → length depot.now.stock.sessions.items ≡ (row_at plan.now tenant).sessions → OnOk result (WroteOf plan.now tenant depot.now facts.old.items facts.new.items (λ it. bare lacks) (λ it. lacking lacks it)) }
 {
     let sessions = plan.row(tenant).sessions;
     for place in 0..sessions {
@@ -205,7 +205,7 @@ fn put_filled(
 ) -> Result<(), OutOfMemory>
     requires sound { IsPlan plan.now }
     requires tenant { tenant < length plan.now.rows }
-    ensures { OnOk result (Wrote plan.now tenant (length depot.now.stock.sessions.items) facts.old.items facts.new.items (lacking (first_lacks node depot.now) (standing_of depot.now)) (written_of node depot.now)) }
+    ensures { OnOk result (WroteOf plan.now tenant depot.now facts.old.items facts.new.items (λ it. lacking (first_lacks node depot.now) it) (λ it. written_of node depot.now)) }
 {
     let allowed = depot.stock.allowed;
     if depot.lacks || !lacks_at_first(node, allowed, allowed) {
@@ -224,7 +224,7 @@ fn put_tenant(
 ) -> Result<(), OutOfMemory>
     requires sound { IsPlan plan.now }
     requires tenant { tenant < length plan.now.rows }
-    ensures { IsSound plan.now tenant depot.now → OnOk result (Wrote plan.now tenant (length depot.now.stock.sessions.items) facts.old.items facts.new.items (bare (first_lacks node depot.now)) (written_of node depot.now)) }
+    ensures { IsSound plan.now tenant depot.now → OnOk result (WroteOf plan.now tenant depot.now facts.old.items facts.new.items (λ it. bare (first_lacks node depot.now)) (λ it. written_of node depot.now)) }
 {
     put_sessions(plan, tenant, depot, facts)?;
     put_filled(node, plan, tenant, depot, facts)

@@ -307,8 +307,8 @@ impl Search {
         self.begin(alloc, tenant);
     }
 
-    // Whether it is time to ask, at a tick.
-    fn is_time(&mut self) -> bool
+    // Passes a tick: whether it is time to ask.
+    fn pass_tick(&mut self) -> bool
         ensures seeking { self.new.seeking ≡ self.old.seeking }
         ensures spoilt { self.new.is_spoilt ≡ self.old.is_spoilt }
         ensures tenant { self.new.tenant ≡ self.old.tenant }
@@ -361,7 +361,7 @@ impl Search {
             return Ok(no_turn(alloc));
         }
         if !self.is_through(sessions_of(depots, self.tenant)) {
-            if !self.is_time() {
+            if !self.pass_tick() {
                 return Ok(no_turn(alloc));
             }
             return Ok(Turn {

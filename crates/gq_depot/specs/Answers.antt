@@ -1,5 +1,5 @@
 -- What is told of a request.
-use Rattle.std.specs.Prelude.{◌≡◌, ℕ, ◌-◌, ◌≤◌, ◌<◌, Bool, true, false, not, ◌||◌, ◌&&◌, nat_le, min, ◌^◌, List, [], ◌∷◌, length, Option, Some, None, option_map, MatchOption, slice_get, ⊤}
+use Rattle.std.specs.Prelude.{◌≡◌, ℕ, ◌-◌, ◌≤◌, ◌<◌, Bool, true, false, not, ◌||◌, ◌&&◌, nat_le, min, ◌^◌, List, [], ◌∷◌, length, Option, Some, None, IsSome, option_map, MatchOption, slice_get, ⊤}
 use Rattle.gq_shelf.specs.Notes.{Noted}
 use Rattle.gq_shelf.specs.Places.{content_at, long_at}
 use Rattle.gq_shelf.specs.declared.extent.Extent.{Extent}
@@ -16,7 +16,7 @@ use Rattle.gq_stock.specs.declared.keeping.Keeping.TheVariants.{New, Damaged, No
 use Rattle.gq_stock.specs.declared.run.Run.{Run}
 use Rattle.gq_stock.specs.declared.session.Session.{Session}
 use Rattle.gq_depot.specs.Depots.{place_in, StandsIn}
-use Rattle.gq_depot.specs.declared.limits.TheConstants.{MOST_CHUNK, MOST_GONE, MOST_LISTED}
+use Rattle.gq_depot.specs.declared.limits.TheConstants.{MOST_CHUNK, MOST_FLOOR, MOST_GONE, MOST_LISTED}
 use Rattle.gq_depot.specs.declared.answer.ChunkAnswer.{ChunkAnswer}
 use Rattle.gq_depot.specs.declared.answer.ChunkAnswer.TheVariants as Told
 use Rattle.gq_depot.specs.declared.answer.ListedChunk.{ListedChunk}
@@ -102,6 +102,16 @@ abbrev pub ForgotAt : (new : Depot) → (place s : ℕ) → Run → ChunkAnswer 
 ForgotAt new place s run (Told.Forgot s' floor run') = (s' ≡ s) × (run' ≡ run) × In new.stock.sessions.items place (λ session. floor ≡ (book_of session.chunks).floor)
 ForgotAt new place s run _ = ⊥
 
+-- whether a chunk of the number, or of a greater one, is there
+abbrev pub Reaches : Book Chunk → (n : ℕ) → Bool → Type 0
+Reaches b n true = (m : ℕ) × (n ≤ m) × IsSome (b.at m)
+Reaches b n false = (m : ℕ) → n ≤ m → b.at m ≡ None
+
+-- Whether a floor that was at the one number may be at the other. One in the upper half of all numbers has to be reached by a chunk, or be there already: else one
+-- line would end what a session puts, for good.
+abbrev pub may_be : (was floor : ℕ) → (is_reached : Bool) → Bool
+may_be was floor is_reached = nat_le floor MOST_FLOOR || nat_le floor was || is_reached
+
 -- while chunks are lacked no more runs of numbers are forgotten than so many
 abbrev pub is_full : Depot → Run → Bool
 is_full depot run = depot.lacks && (nat_le run.first run.last && nat_le MOST_GONE (length depot.gone.items))
@@ -110,10 +120,18 @@ abbrev pub ForgetIn : (is_full : Bool) → (new : Depot) → (place s floor : �
 ForgetIn true new place s floor run answer = answer ≡ Told.Lacking s floor
 ForgetIn false new place s floor run answer = ForgotAt new place s run answer
 
+abbrev pub ForgetRising : (may_be : Bool) → (old : Depot) → (new : Depot) → (place s floor : ℕ) → Run → ChunkAnswer → Type 0
+ForgetRising false old new place s floor run answer = answer ≡ Told.Bad
+ForgetRising true old new place s floor run answer = ForgetIn (is_full old run) new place s floor run answer
+
+-- what is told where the session is there
+abbrev pub ForgetAt : Depot → (place s floor : ℕ) → Run → (new : Depot) → ChunkAnswer → Type 0
+ForgetAt old place s floor run new answer = In old.stock.sessions.items place (λ session. (is_reached : Bool) × Reaches (book_of session.chunks) floor is_reached × ForgetRising (may_be (book_of session.chunks).floor floor is_reached) old new place s floor run answer)
+
 -- no number above the floor is forgotten
 abbrev pub ForgetTellsBy : (is_within : Bool) → Depot → (s floor : ℕ) → Run → (new : Depot) → ChunkAnswer → Type 0
 ForgetTellsBy false depot s floor run new answer = answer ≡ Told.Bad
-ForgetTellsBy true depot s floor run new answer = BySession depot s (answer ≡ Told.NoSession s floor) (λ place. ForgetIn (is_full depot run) new place s floor run answer)
+ForgetTellsBy true depot s floor run new answer = BySession depot s (answer ≡ Told.NoSession s floor) (λ place. ForgetAt depot place s floor run new answer)
 
 abbrev pub ForgetTells : Depot → (s floor : ℕ) → Run → (new : Depot) → ChunkAnswer → Type 0
 ForgetTells depot s floor run new answer = ForgetTellsBy (nat_le run.last floor) depot s floor run new answer
@@ -122,9 +140,16 @@ abbrev pub ForgetGivesIn : (is_full : Bool) → (s floor : ℕ) → Run → Opti
 ForgetGivesIn true s floor run fact = fact ≡ None
 ForgetGivesIn false s floor run fact = fact ≡ Some (Forgot s floor run)
 
+abbrev pub ForgetGivesRising : (may_be : Bool) → Depot → (s floor : ℕ) → Run → Option ChunkFact → Type 0
+ForgetGivesRising false depot s floor run fact = fact ≡ None
+ForgetGivesRising true depot s floor run fact = ForgetGivesIn (is_full depot run) s floor run fact
+
+abbrev pub ForgetGivesAt : Depot → (place s floor : ℕ) → Run → Option ChunkFact → Type 0
+ForgetGivesAt depot place s floor run fact = In depot.stock.sessions.items place (λ session. (is_reached : Bool) × Reaches (book_of session.chunks) floor is_reached × ForgetGivesRising (may_be (book_of session.chunks).floor floor is_reached) depot s floor run fact)
+
 abbrev pub ForgetGivesBy : (is_within : Bool) → Depot → (s floor : ℕ) → Run → Option ChunkFact → Type 0
 ForgetGivesBy false depot s floor run fact = fact ≡ None
-ForgetGivesBy true depot s floor run fact = BySession depot s (fact ≡ None) (λ place. ForgetGivesIn (is_full depot run) s floor run fact)
+ForgetGivesBy true depot s floor run fact = BySession depot s (fact ≡ None) (λ place. ForgetGivesAt depot place s floor run fact)
 
 abbrev pub ForgetGives : Depot → (s floor : ℕ) → Run → Option ChunkFact → Type 0
 ForgetGives depot s floor run fact = ForgetGivesBy (nat_le run.last floor) depot s floor run fact

@@ -8,17 +8,17 @@
 //! may be given once more, by a line that comes late. A forget is refused where too much is noted, since each run that is noted
 //! takes memory until the node is filled.
 
-ghost use Rattle.std.specs.Prelude.{◌≡◌, ◌≢◌, ◌+◌, ◌<◌, ◌≤◌, ℕ, List, Some, None, not, length, IfOk, IfErr, OnOk, IsSome, option_map, slice_get};
-ghost use Rattle.gq_shelf.specs.Notes.{IsClean, GoesOn};
+ghost use Rattle.std.specs.Prelude.{◌≡◌, ◌≢◌, ◌+◌, ◌<◌, ◌≤◌, ℕ, Bool, List, Some, None, not, length, IfOk, IfErr, OnOk, IsSome, option_map, slice_get};
+ghost use Rattle.gq_shelf.specs.Notes.{IsClean, GoesOn, Noted};
 ghost use Rattle.gq_shelf.specs.declared.extent.Extent.{Extent};
 ghost use Rattle.gq_ledger.specs.Ledgers.{book_of};
 ghost use Rattle.gq_stock.specs.Finding.{IsRefused};
-ghost use Rattle.gq_depot.specs.Answers.{ListedAs};
+ghost use Rattle.gq_depot.specs.Answers.{ListedAs, Reaches};
 
 use crate::depot::{run_bytes, same_place};
 use crate::{
-    Answered, ChunkAnswer, ChunkFact, ChunkRequest, Depot, ListedChunk, MOST_CHUNK, MOST_GONE,
-    MOST_LISTED,
+    Answered, ChunkAnswer, ChunkFact, ChunkRequest, Depot, ListedChunk, MOST_CHUNK, MOST_FLOOR,
+    MOST_GONE, MOST_LISTED,
 };
 use bytes::Bytes;
 use gq_memory::{GrowVec, OutOfMemory};
@@ -32,6 +32,13 @@ fn only(answer: ChunkAnswer) -> Answered
     ensures fact { result.fact ≡ None }
 {
     Answered { answer, fact: None }
+}
+
+// Whether a chunk of the number, or of a greater one, is there.
+fn reaches(session: &Session, number: u64) -> bool
+    ensures { Reaches (book_of session.now.chunks) number result }
+{
+    session.get(number).is_some() || session.after(number).is_some()
 }
 
 // The first chunks above a number, and whether these are all.
@@ -62,7 +69,7 @@ impl Depot {
     ghost use Rattle.gq_stock.specs.Held.{held_by};
     ghost use Rattle.gq_stock.specs.Stocks.{DamagedIn};
     ghost use Rattle.gq_depot.specs.Depots.{LeadsTo, StandsIn, FactIsSure, ReadsFact, StaysWithin, in_memory};
-    ghost use Rattle.gq_depot.specs.Answers.{In, is_told, KeptAt, KeepTells, KeepGives, FoundAt, GetTells, GivesFor, told_if, is_full, ForgotAt, ForgetIn, ForgetTells, ForgetGivesIn, ForgetGives, ListedAt, ListTells, RoomTells, Tells, Gives, DamageIs};
+    ghost use Rattle.gq_depot.specs.Answers.{In, is_told, KeptAt, KeepTells, KeepGives, FoundAt, GetTells, GivesFor, told_if, may_be, is_full, ForgotAt, ForgetAt, ForgetTells, ForgetGivesAt, ForgetGives, ListedAt, ListTells, RoomTells, Tells, Gives, DamageIs};
 
     /// The fact of the chunk of this number, in the session at this place, which a start needs. Where memory is wanting nothing is made.
     pub fn fact_at(&self, place: usize, session: u32, number: u64) -> Result<ChunkFact, OutOfMemory>
@@ -325,7 +332,17 @@ impl Depot {
         self.lacks && run.first <= run.last && self.gone.len() >= MOST_GONE
     }
 
-    // Numbers of the session at this place are forgotten, if they can be noted where chunks are lacked.
+    // Whether the floor of the session at this place may be at this number.
+    fn may_be(&self, place: usize, floor: u64) -> bool
+        requires { place < length self.now.stock.sessions.items }
+        ensures { In self.now.stock.sessions.items place (λ session. (is_reached : Bool) × Reaches (book_of session.chunks) floor is_reached × (result ≡ may_be (book_of session.chunks).floor floor is_reached)) }
+    {
+        let session = &self.stock.sessions[place];
+        let is_reached = reaches(session, floor);
+        floor <= MOST_FLOOR || floor <= session.floor() || is_reached
+    }
+
+    // Numbers of the session at this place are forgotten, if its floor may be at this one, and they can be noted where chunks are lacked.
     fn forget_in(
         &mut self,
         place: usize,
@@ -336,12 +353,17 @@ impl Depot {
         requires there { place < length self.old.stock.sessions.items }
         requires number { session ≡ place + 1 }
         requires within { run.last ≤ floor }
-        ensures tells { IfOk result (λ a. ForgetIn (is_full self.old run) self.new place session floor run a.answer) }
-        ensures gives { IfOk result (λ a. ForgetGivesIn (is_full self.old run) session floor run a.fact) }
+        ensures tells { IfOk result (λ a. ForgetAt self.old place session floor run self.new a.answer) }
+        ensures gives { IfOk result (λ a. ForgetGivesAt self.old place session floor run a.fact) }
         ensures leads { IfOk result (λ a. LeadsTo self.old a.fact self.new) }
         ensures reads { IfOk result (λ a. ReadsFact (length self.old.stock.sessions.items) a.fact) }
+        ensures sure { (noted : Noted) → IfOk result (λ a. FactIsSure a.fact noted) }
+        ensures damaged { (old new : Noted) → IfOk result (λ a. DamageIs self.old old new a.answer) }
         ensures memory { IfOk result (λ a. StaysWithin self.old self.new) }
     {
+        if !self.may_be(place, floor) {
+            return Ok(only(ChunkAnswer::Bad));
+        }
         if self.is_noted_full(run) {
             return Ok(only(ChunkAnswer::Lacking { session, floor }));
         }
@@ -361,6 +383,8 @@ impl Depot {
         ensures gives { IfOk result (λ a. ForgetGives self.old session floor run a.fact) }
         ensures leads { IfOk result (λ a. LeadsTo self.old a.fact self.new) }
         ensures reads { IfOk result (λ a. ReadsFact (length self.old.stock.sessions.items) a.fact) }
+        ensures sure { (noted : Noted) → IfOk result (λ a. FactIsSure a.fact noted) }
+        ensures damaged { (old new : Noted) → IfOk result (λ a. DamageIs self.old old new a.answer) }
         ensures memory { IfOk result (λ a. StaysWithin self.old self.new) }
     {
         if run.last > floor {

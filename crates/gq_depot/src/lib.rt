@@ -31,7 +31,7 @@ pub use depots::Depots;
 pub use fact::ChunkFact;
 pub use filling::Filling;
 pub use gone::Gone;
-pub use limits::{MOST_CHUNK, MOST_GONE, MOST_LISTED};
+pub use limits::{MOST_CHUNK, MOST_FLOOR, MOST_GONE, MOST_LISTED};
 pub use request::ChunkRequest;
 pub use scrubbing::Scrub;
 pub use seeking::{Ask, MOST_ASKED, MOST_ASKED_BYTES, Seeking};

@@ -168,7 +168,7 @@ module _ (grid : Grid) (row : TenantRow) (turns : List Turn) (file : File) (has 
           inr (j, moved_op turn_place w, c.bytes, at_first (map (moved_op turn_place) (lone_operations grid row turns file)) (map look_op looks) j (moved_op turn_place w) (op_is turn_place (lone_operations grid row turns file) j w lone_at), (wrote.0, wrote.1), omega (arith, before), refl)
 
       go : IsKnown (trace_at grid row turns look.end) file c → Result
-      go (inl first) = inl (ap (λ (z : StoredCopy). z.tag) first, ap (λ (z : StoredCopy). length z.bytes) first)
+      go (inl first) = inl (ap (λ (z : StoredCopy). z.tag) first, ap (λ (z : StoredCopy). z.bytes) first)
       go (inr within) = from (source (record { file = file; copy = c }) (reach_at grid row turns look.end is.within) within)
 
   module _ (looks : List Look) (are : AreLooks grid row turns file looks) where

@@ -9,7 +9,7 @@ use Rattle.gq_desk.specs.declared.plans.TenantRow.{TenantRow}
 use Rattle.gq_phase.specs.Quorums.{collect_quorum, store_quorum, ends_collect, ends_store, are_peers}
 use Rattle.gq_model.specs.declared.events.Line.TheVariants.{NewVolume, Write, Deliver}
 use Rattle.gq_model.specs.Trace.{Turn, Own, Losing, Returning}
-use Rattle.gq_laws.specs.declared.ops.Kind.TheVariants.{Write as Writes, Row as Rows}
+use Rattle.gq_laws.specs.declared.ops.Kind.TheVariants.{Write as Writes, Read as Reads}
 use Rattle.gq_laws.specs.Orders.{order}
 use Rattle.gq_looks.specs.Looks.{Seen, Look, IsLook, WasSeen}
 use Rattle.gq_looks.specs.Laws.{HasFile, with_looks}
@@ -72,7 +72,7 @@ it_has_the_file = refl
 pub among_operations : with_looks square row turns file (look ∷ []) ≡
     record { kind = Writes (104 ∷ 105 ∷ []); session = 1; op = 1; begin = 5; end = Some 29; tag = Some (record { number = 1; session = 1 }) }
     ∷ record { kind = Writes (106 ∷ []); session = 2; op = 1; begin = 38; end = None; tag = Some (record { number = 2; session = 2 }) }
-    ∷ record { kind = Rows (Some 2); session = 0; op = 0; begin = 36; end = Some 55; tag = Some (record { number = 1; session = 1 }) }
+    ∷ record { kind = Reads (Some (104 ∷ 105 ∷ [])); session = 0; op = 0; begin = 36; end = Some 55; tag = Some (record { number = 1; session = 1 }) }
     ∷ []
 unfolding collect_quorum store_quorum ends_collect ends_store are_peers
 among_operations = refl

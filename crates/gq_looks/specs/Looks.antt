@@ -11,7 +11,7 @@ use Rattle.gq_desk.specs.declared.plans.TenantRow.{TenantRow}
 use Rattle.gq_phase.specs.Quorums.{ends_collect, ends_store}
 use Rattle.gq_model.specs.Trace.{Turn, Trace, is_loss, lacks, held, questions}
 use Rattle.gq_model.specs.Lone.{past_of}
-use Rattle.gq_laws.specs.declared.ops.Kind.TheVariants.{Row as Rows}
+use Rattle.gq_laws.specs.declared.ops.Kind.TheVariants.{Read as Reads}
 use Rattle.gq_laws.specs.declared.ops.Op.{Op}
 
 -- a server, when it was seen, and the copy that it had then
@@ -82,6 +82,6 @@ begin_place moment = 3 * moment
 abbrev pub end_place : ℕ → ℕ
 end_place moment = 3 * moment + 1
 
--- the look as an operation, a read that tells the length
+-- the look as an operation, a read that tells the content
 abbrev pub look_op : Look → Op
-look_op look = record { kind = Rows (Some (length (copy_of look).bytes)); session = 0; op = 0; begin = begin_place look.begin; end = Some (end_place look.end); tag = Some (copy_of look).tag }
+look_op look = record { kind = Reads (Some (copy_of look).bytes); session = 0; op = 0; begin = begin_place look.begin; end = Some (end_place look.end); tag = Some (copy_of look).tag }

@@ -1,7 +1,6 @@
 -- A node that keeps registers and chunks. What has the chunks, and over which shelf, is left open: `has` says which it has.
 use Rattle.std.specs.Prelude.{ℕ, List, Option, Some, None, Ok, Err}
-use Rattle.gq_chunks.specs.declared.machine.ChunkMachine.{ChunkMachine}
-use Rattle.gq_chunks.specs.Machines.{Chunks, chunks, ChunkSteps, ChunkRecalls, chunk_reads, ChunksAreBlank, ChunksRest, IsNewFor as ChunksAreNewFor}
+use Rattle.gq_chunks.specs.Machines.{Chunks, ChunkSteps, ChunkRecalls, chunk_reads, ChunksAreBlank, ChunksRest, IsNewFor as ChunksAreNewFor}
 use Rattle.gq_chunks.specs.Takers.{line_taker, tells_chunk}
 use Rattle.gq_machine.specs.declared.machine.NodeMachine.{NodeMachine}
 use Rattle.gq_machine.specs.Machines.{tables_of, MachineSteps, MachineRecalls, machine_reads, MachineIsBlank, MachineRests}
@@ -9,7 +8,6 @@ use Rattle.gq_pair.specs.declared.pair.Pair.{Pair}
 use Rattle.gq_pair.specs.Pairs.{StepsBy, RecallsBy, readable_by}
 use Rattle.gq_setup.specs.Setups.{Setup, SetupReading}
 use Rattle.gq_setup.specs.Texts.{first_read}
-use Rattle.gq_shelf.specs.Notes.{Noted}
 use Rattle.gq_service.specs.Kinds.{Kind, kind}
 use Rattle.gq_service.specs.Serving.{IsNewFor}
 use Rattle.gq_service.specs.declared.both.ByVerb.{ByVerb}
@@ -17,10 +15,6 @@ use Rattle.gq_service.specs.declared.both.ByVerb.{ByVerb}
 -- registers, and chunks
 abbrev pub Both : Type 0 → Type 0
 Both C = Pair NodeMachine C ByVerb
-
--- what a machine of chunks has, by what was noted of its shelf
-abbrev pub chunks_of : {S : Type 0} → (noted : S → Noted) → ChunkMachine S → Chunks
-chunks_of noted m = chunks m.plan m.node m.lost m.depots.losses m.depots.depots.items (noted m.depots.shelf)
 
 -- the setup that was read, if one was
 abbrev pub setup_read : SetupReading Setup → Option Setup

@@ -4,7 +4,7 @@ ghost use Rattle.std.specs.Prelude.{◌+◌, ◌≤◌, IfOk, IfSome};
 ghost use Rattle.gq_shelf.specs.Extents.{place_of};
 ghost use Rattle.gq_depot.specs.Segments.{NoneLies};
 ghost use Rattle.gq_chunks.specs.Machines.{IsNewFor};
-ghost use Rattle.gq_service.specs.Both.{chunks_of};
+ghost use Rattle.gq_chunks.specs.Having.{chunks_of};
 
 use crate::fault::NodeFault;
 use crate::registers::new_registers;
@@ -31,7 +31,7 @@ pub struct ByVerb;
 
 impl<S: Shelf + Drop> Parts<NodeMachine, ChunkMachine<S>> for ByVerb {
     ghost use Rattle.gq_chunks.specs.Takers.{line_taker, tells_chunk};
-    ghost use Rattle.gq_service.specs.Both.{chunks_of};
+    ghost use Rattle.gq_chunks.specs.Having.{chunks_of};
     ghost use Rattle.gq_service.specs.Verbs.{first_facts, second_facts, first_reads, second_reads};
 
     ghost takes = { line_taker };
@@ -59,7 +59,8 @@ impl<S: Shelf + Drop> Parts<NodeMachine, ChunkMachine<S>> for ByVerb {
 pub type Both<S> = Pair<NodeMachine, ChunkMachine<S>, ByVerb>;
 
 impl<S: Shelf + Drop> Served for Pair<NodeMachine, ChunkMachine<S>, ByVerb> {
-    ghost use Rattle.gq_service.specs.Both.{BothAreNewFor, chunks_of};
+    ghost use Rattle.gq_chunks.specs.Having.{chunks_of};
+    ghost use Rattle.gq_service.specs.Both.{BothAreNewFor};
 
     ghost is_new = { BothAreNewFor (chunks_of S.noted) };
 

@@ -12,31 +12,31 @@ pub trait Console {
     fn check(&self) -> Result<(), NodeFault>;
 
     /// A wrong end of the journal was cut off at this byte.
-    fn is_cut(&self, at: usize);
+    fn tell_cut(&self, at: usize);
 
     /// The node of this number takes lines. So many facts were read, and its server lacks so many files.
-    fn is_ready(&self, number: u16, rows: usize, cols: usize, facts: u64, lacked: usize);
+    fn tell_ready(&self, number: u16, rows: usize, cols: usize, facts: u64, lacked: usize);
 
     /// The server of the node of this number lacked files, and has all now.
-    fn has_all(&self, number: u16);
+    fn tell_all_files(&self, number: u16);
 
     /// The node of this number could not remove a segment of its shelf in which no chunk lies. It tries again.
-    fn keeps_segment(&self, number: u16);
+    fn tell_kept_segment(&self, number: u16);
 
     /// The node of this number lacks chunks of so many tenants. So many of their contents came since it was started.
-    fn lacks_chunks(&self, number: u16, tenants: usize, contents: u64);
+    fn tell_lacking_chunks(&self, number: u16, tenants: usize, contents: u64);
 
     /// The node of this number lacked chunks, and has all now.
-    fn has_chunks(&self, number: u16);
+    fn tell_all_chunks(&self, number: u16);
 
     /// The node of this number found so many contents on its shelf damaged since it was started, and so many of them are mended.
-    fn is_damaged(&self, number: u16, found: u64, mended: u64);
+    fn tell_damage(&self, number: u16, found: u64, mended: u64);
 
     /// The node of this number has read all contents on its shelf once more, to see whether they can be.
-    fn has_read_all(&self, number: u16);
+    fn tell_all_read(&self, number: u16);
 
     /// To the node of this number the other one told that it speaks all forms of lines between nodes up to this one.
-    fn speaks(&self, number: u16, other: u16, form: u32);
+    fn tell_form(&self, number: u16, other: u16, form: u32);
 }
 
 /// The standard streams themselves, of a node whose journal has this path.
@@ -76,12 +76,12 @@ impl<I: AsFd + Drop, O: AsFd + Drop, E: AsFd + Eprint + Drop> Console for Standa
         Ok(())
     }
 
-    fn is_cut(&self, at: usize) {
+    fn tell_cut(&self, at: usize) {
         let journal = self.journal;
         let _ = eprintln!(self.errors; "gridfs: {journal}: cut at byte {at}");
     }
 
-    fn is_ready(&self, number: u16, rows: usize, cols: usize, facts: u64, lacked: usize) {
+    fn tell_ready(&self, number: u16, rows: usize, cols: usize, facts: u64, lacked: usize) {
         if lacked == 0 {
             let _ = eprintln!(self.errors;
                 "gridfs: node {number} of {rows} by {cols}: {facts} facts"
@@ -93,42 +93,42 @@ impl<I: AsFd + Drop, O: AsFd + Drop, E: AsFd + Eprint + Drop> Console for Standa
         }
     }
 
-    fn has_all(&self, number: u16) {
+    fn tell_all_files(&self, number: u16) {
         let _ = eprintln!(self.errors; "gridfs: node {number}: has all files");
     }
 
-    fn keeps_segment(&self, number: u16) {
+    fn tell_kept_segment(&self, number: u16) {
         let journal = self.journal;
         let _ = eprintln!(self.errors;
             "gridfs: node {number}: {journal}.shelf: a segment without chunks can't be removed"
         );
     }
 
-    fn lacks_chunks(&self, number: u16, tenants: usize, contents: u64) {
+    fn tell_lacking_chunks(&self, number: u16, tenants: usize, contents: u64) {
         let _ = eprintln!(self.errors;
             "gridfs: node {number}: lacks chunks of {tenants} tenants; {contents} contents came"
         );
     }
 
-    fn has_chunks(&self, number: u16) {
+    fn tell_all_chunks(&self, number: u16) {
         let _ = eprintln!(self.errors; "gridfs: node {number}: has all chunks");
     }
 
-    fn is_damaged(&self, number: u16, found: u64, mended: u64) {
+    fn tell_damage(&self, number: u16, found: u64, mended: u64) {
         let journal = self.journal;
         let _ = eprintln!(self.errors;
             "gridfs: node {number}: {journal}.shelf: {found} contents were damaged, {mended} of them are mended"
         );
     }
 
-    fn has_read_all(&self, number: u16) {
+    fn tell_all_read(&self, number: u16) {
         let journal = self.journal;
         let _ = eprintln!(self.errors;
             "gridfs: node {number}: {journal}.shelf: all contents were read"
         );
     }
 
-    fn speaks(&self, number: u16, other: u16, form: u32) {
+    fn tell_form(&self, number: u16, other: u16, form: u32) {
         let _ = eprintln!(self.errors;
             "gridfs: node {number}: node {other} speaks form {form} of lines, this one form {LINE_FORM}"
         );

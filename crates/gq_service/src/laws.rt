@@ -1,6 +1,6 @@
 //! What a node's process writes.
 
-ghost use Rattle.gq_service.specs.Both.{chunks_of};
+ghost use Rattle.gq_chunks.specs.Having.{chunks_of};
 ghost use Rattle.gq_service.specs.Leaving.{AllChunksStay, NoneOfTheGone, NoRoomIsLacked, NothingIsLacked, WhoStaysIsWhole};
 ghost use Rattle.gq_service.specs.Writing.{AllRegistersRun, AllServedByParts, RegistersServedByParts};
 

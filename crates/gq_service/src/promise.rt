@@ -1,6 +1,6 @@
 //! What is promised of all that a node's process writes.
 
-ghost use Rattle.gq_service.specs.Both.{chunks_of};
+ghost use Rattle.gq_chunks.specs.Having.{chunks_of};
 ghost use Rattle.gq_service.specs.Promises.{IsDurableBySome};
 
 use gq_keeper::Promise;

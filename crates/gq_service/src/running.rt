@@ -2,7 +2,7 @@
 
 ghost use Rattle.std.specs.Prelude.{◌++◌, ℕ, List, OnOk};
 ghost use Rattle.gq_lines.specs.Written.{first_text};
-ghost use Rattle.gq_service.specs.Both.{chunks_of};
+ghost use Rattle.gq_chunks.specs.Having.{chunks_of};
 ghost use Rattle.gq_service.specs.Kinds.{kind};
 ghost use Rattle.gq_service.specs.Promises.{IsDurableByPlan, IsDurableByRoom, ServesByPlan, ServesByRoom};
 ghost use Rattle.gq_service.specs.Serving.{IsDurable, ServesSomehow};

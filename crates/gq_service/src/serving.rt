@@ -158,14 +158,14 @@ fn go_on<M: Served, D: Disk, C: Console>(
 // Tells where a wrong end was cut off.
 fn tell_cut<C: Console>(console: &C, cut: Option<usize>) {
     if let Some(at) = cut {
-        console.is_cut(at);
+        console.tell_cut(at);
     }
 }
 
 // Tells that the node takes lines.
 fn tell_ready<C: Console>(console: &C, node: &ThisNode, facts: u64, lacked: usize) {
     let grid = node.plan.setup().plan().grid();
-    console.is_ready(node.number, grid.rows(), grid.cols(), facts, lacked);
+    console.tell_ready(node.number, grid.rows(), grid.cols(), facts, lacked);
 }
 
 // Begins a journal, or goes on from the one that is there. Answers the number of the next batch.

@@ -49,7 +49,7 @@ impl<'x, C: Console> Telling<'x, C> {
     ) -> Telling<'x, C> {
         let (tenants, contents) = chunks;
         if tenants > 0 {
-            console.lacks_chunks(number, tenants, contents);
+            console.tell_lacking_chunks(number, tenants, contents);
         }
         Telling {
             console,
@@ -81,9 +81,10 @@ impl<'x, C: Console> Telling<'x, C> {
         self.tenants = tenants;
         self.contents = contents / CONTENTS;
         if tenants > 0 {
-            self.console.lacks_chunks(self.number, tenants, contents);
+            self.console
+                .tell_lacking_chunks(self.number, tenants, contents);
         } else {
-            self.console.has_chunks(self.number);
+            self.console.tell_all_chunks(self.number);
         }
     }
 
@@ -98,10 +99,10 @@ impl<'x, C: Console> Telling<'x, C> {
         }
         if damage.found != self.damage.found || damage.mended != self.damage.mended {
             self.console
-                .is_damaged(self.number, damage.found, damage.mended);
+                .tell_damage(self.number, damage.found, damage.mended);
         }
         if damage.rounds != self.damage.rounds {
-            self.console.has_read_all(self.number);
+            self.console.tell_all_read(self.number);
         }
         self.damage = damage;
         self.passed = TURNS_PASSED;
@@ -119,7 +120,7 @@ impl<'x, C: Console> Telling<'x, C> {
         match form {
             Some(form) if form != LINE_FORM => {
                 self.console
-                    .speaks(self.number, machine.node_at(place), form);
+                    .tell_form(self.number, machine.node_at(place), form);
             }
             _ => {}
         }
@@ -133,7 +134,7 @@ impl<'x, C: Console> Telling<'x, C> {
             Err(_) => {
                 if !self.is_told {
                     self.is_told = true;
-                    self.console.keeps_segment(self.number);
+                    self.console.tell_kept_segment(self.number);
                 }
             }
         }
@@ -150,7 +151,7 @@ impl<C: Console, M: Served> Watch<M> for Telling<'_, C> {
         let machine = machine.registers();
         if self.lacks && !machine.lacks_some() {
             self.lacks = false;
-            self.console.has_all(self.number);
+            self.console.tell_all_files(self.number);
         }
         for place in 0..MOST_SERVERS {
             self.look_at(machine, place);

@@ -1,4 +1,4 @@
-use Rattle.gq_service.specs.Both.{chunks_of}
+use Rattle.gq_chunks.specs.Having.{chunks_of}
 use Rattle.gq_service.proofs.ByParts.{registers_run}
 use Rattle.gq_service.proofs.laws.registers_run.Goals as goal
 

@@ -4,7 +4,7 @@ use Rattle.std.specs.Prelude.{Result, Ok, Err, Option}
 use Rattle.gq_chunks.specs.Machines.{Chunks}
 use Rattle.gq_setup.specs.Setups.{Setup}
 use Rattle.gq_lines.specs.Written.{first_text}
-use Rattle.gq_service.specs.Both.{chunks_of}
+use Rattle.gq_chunks.specs.Having.{chunks_of}
 use Rattle.gq_service.specs.Promises.{IsDurableByRoom, ServesByRoom, ServesByPlan}
 use Rattle.gq_service.proofs.running.run_node.Goals as goal
 

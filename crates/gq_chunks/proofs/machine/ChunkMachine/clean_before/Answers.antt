@@ -2,7 +2,8 @@ use Rattle.std.proofs.Common.{◌≡◌, ℕ, length, true, Option, ap, subst, �
 use Rattle.std.specs.Prelude.{IfSome}
 use Rattle.gq_chunks.specs.Coming.{coming, moves_at}
 use Rattle.gq_chunks.specs.declared.cleaning.Due.{Due}
-use Rattle.gq_chunks.specs.Machines.{Chunks, chunks}
+use Rattle.gq_chunks.specs.Having.{chunks_of}
+use Rattle.gq_chunks.specs.Machines.{Chunks}
 use Rattle.gq_chunks.proofs.Cleaned.{moves_none, moves_from}
 use Rattle.gq_chunks.proofs.Taken.{refused_on}
 use Rattle.gq_chunks.proofs.machine.ChunkMachine.clean_before.Goals as goal
@@ -20,7 +21,7 @@ pub returns-in_default-clause-moves : goal.returns-in_default-clause-moves
 returns-in_default-clause-moves g c =
     let m = c.args.self.now in
     let n = c.due.new.self in
-    moves_none (coming c.args.came.now) (chunks m.plan m.node m.lost m.depots.losses m.depots.depots.items (g.S.Shelf.noted m.depots.shelf)) (chunks n.plan n.node n.lost n.depots.losses n.depots.depots.items (g.S.Shelf.noted n.depots.shelf)) c.args.facts.now.items c.due.ensures.same
+    moves_none (coming c.args.came.now) (chunks_of g.S.Shelf.noted m) (chunks_of g.S.Shelf.noted n) c.args.facts.now.items c.due.ensures.same
 
 pub returns-in-Ok-clause-plan : goal.returns-in-Ok-clause-plan
 returns-in-Ok-clause-plan g c = c.in-Ok.ensures.moves.site.plan ∙ ap (λ (z : Chunks). z.plan) c.due.ensures.same
@@ -36,7 +37,7 @@ returns-in-Ok-clause-moves g c =
     let m = c.args.self.now in
     let n = c.due.new.self in
     let k = c.clean.new.self in
-    moves_from (coming c.args.came.now) (chunks m.plan m.node m.lost m.depots.losses m.depots.depots.items (g.S.Shelf.noted m.depots.shelf)) (chunks n.plan n.node n.lost n.depots.losses n.depots.depots.items (g.S.Shelf.noted n.depots.shelf)) (chunks k.plan k.node k.lost k.depots.losses k.depots.depots.items (g.S.Shelf.noted k.depots.shelf)) c.args.facts.now.items c.clean.new.facts.items c.due.ensures.same (subst (λ (o : Option Due). IfSome o (λ due. moves_at (coming c.args.came.now) ≡ true)) c.in-Some.is c.in_ok-due.ensures.may) c.in-Ok.ensures.moves
+    moves_from (coming c.args.came.now) (chunks_of g.S.Shelf.noted m) (chunks_of g.S.Shelf.noted n) (chunks_of g.S.Shelf.noted k) c.args.facts.now.items c.clean.new.facts.items c.due.ensures.same (subst (λ (o : Option Due). IfSome o (λ due. moves_at (coming c.args.came.now) ≡ true)) c.in-Some.is c.in_ok-due.ensures.may) c.in-Ok.ensures.moves
 
 pub returns-in-Err-clause-refused : goal.returns-in-Err-clause-refused
 returns-in-Err-clause-refused g c =

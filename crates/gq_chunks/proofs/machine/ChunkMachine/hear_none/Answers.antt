@@ -1,4 +1,4 @@
-use Rattle.gq_chunks.specs.Machines.{chunks}
+use Rattle.gq_chunks.specs.Having.{chunks_of}
 use Rattle.gq_chunks.proofs.Taken.{on_ok, waits_takes}
 use Rattle.gq_chunks.proofs.machine.ChunkMachine.hear_none.Goals as goal
 
@@ -6,4 +6,4 @@ pub returns-clause-took : goal.returns-clause-took
 returns-clause-took g c =
     let m = c.args.self.now in
     let n = c.settled.new.self in
-    on_ok c.settled.result (waits_takes (chunks m.plan m.node m.lost m.depots.losses m.depots.depots.items (g.S.Shelf.noted m.depots.shelf)) (chunks n.plan n.node n.lost n.depots.losses n.depots.depots.items (g.S.Shelf.noted n.depots.shelf)) c.args.tenant c.args.facts.now.items c.args.told.now.items c.settled.new.told.items c.settled.ensures.same) c.settled.ensures.asks
+    on_ok c.settled.result (waits_takes (chunks_of g.S.Shelf.noted m) (chunks_of g.S.Shelf.noted n) c.args.tenant c.args.facts.now.items c.args.told.now.items c.settled.new.told.items c.settled.ensures.same) c.settled.ensures.asks

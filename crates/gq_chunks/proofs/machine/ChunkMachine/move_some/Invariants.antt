@@ -1,6 +1,7 @@
 -- Chunks were moved so far, and their facts stand there.
-use Rattle.gq_chunks.specs.Machines.{chunks, MovedSoFar}
+use Rattle.gq_chunks.specs.Having.{chunks_of}
+use Rattle.gq_chunks.specs.Machines.{MovedSoFar}
 use Rattle.gq_chunks.proofs.machine.ChunkMachine.move_some.Given as goal
 
 abbrev pub invariant-loop : goal.invariant-loop
-invariant-loop g l = MovedSoFar (chunks l.fn.self.plan l.fn.self.node l.fn.self.lost l.fn.self.depots.losses l.fn.self.depots.depots.items (g.S.Shelf.noted l.fn.self.depots.shelf)) l.fn.facts.items l.facts.items (chunks l.self.plan l.self.node l.self.lost l.self.depots.losses l.self.depots.depots.items (g.S.Shelf.noted l.self.depots.shelf))
+invariant-loop g l = MovedSoFar (chunks_of g.S.Shelf.noted l.fn.self) l.fn.facts.items l.facts.items (chunks_of g.S.Shelf.noted l.self)
