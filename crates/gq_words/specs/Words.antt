@@ -1,5 +1,5 @@
 -- What is wrong with the words of a command line, and what is shown for it, by the rules that clap states for its commands.
-use Rattle.std.specs.Prelude.{◌≡◌, ◌⊎◌, ◌∷◌, ⊤, List, [], Some, true, pos, codes, drop}
+use Rattle.std.specs.Prelude.{◌≡◌, ◌⊎◌, ◌∷◌, ⊤, ℕ, List, [], Some, true, pos, codes, drop}
 use Rattle.clap.specs.Faults.{fault_of}
 use Rattle.clap.specs.Kinds.{IsAmong}
 use Rattle.clap.specs.Simple.{App, new_rule}
@@ -8,6 +8,7 @@ use Rattle.clap.specs.Walk.{Rule, Text}
 use Rattle.clap.specs.declared.builder.action.ArgAction.TheVariants.{Set}
 use Rattle.clap.specs.declared.builder.value_parser.ValueParser.TheVariants.{Signed}
 use Rattle.clap.specs.declared.error.kind.ErrorKind.{ErrorKind}
+use Rattle.clap.specs.declared.error.kind.ErrorKind.TheVariants.{DisplayHelp, DisplayVersion}
 use Rattle.gq_words.specs.declared.reading.Usage.{Usage}
 use Rattle.gq_words.specs.declared.reading.Usage.TheVariants.{Shown, Memory}
 
@@ -36,3 +37,15 @@ IsMemory Memory = ⊤
 abbrev pub Shows : ErrorKind → Usage → Type 0
 Shows kind (Shown error) = kind_of error ≡ kind
 Shows kind Memory = ⊤
+
+-- ---- the status of words that ask for nothing to be run
+
+-- 0 for help and the version, which were asked for; else 2
+abbrev pub status_of_kind : ErrorKind → ℕ
+status_of_kind DisplayHelp = 0
+status_of_kind DisplayVersion = 0
+status_of_kind _ = 2
+
+abbrev pub status_of : Usage → ℕ
+status_of (Shown error) = status_of_kind (kind_of error)
+status_of Memory = 3
