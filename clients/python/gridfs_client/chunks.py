@@ -132,7 +132,7 @@ class Line:
             self.begun = min(self.begun, self.chunks.carrier.now())
         return left + self.pause
 
-    def was_held(self, seconds: float) -> None:
+    def note_held(self, seconds: float) -> None:
         self.pause += seconds
         self.held += seconds
 
@@ -146,7 +146,7 @@ class Line:
         node = self.chunks.node_at(self.place)
         if carrier.would_lose(node, len(self.body)):
             return False
-        self.has_room = self.has_room or uplink_of(carrier).may_wait(len(self.body))
+        self.has_room = self.has_room or uplink_of(carrier).begin_waiting(len(self.body))
         if self.has_room:
             if self.first:
                 self.chunks.ahead.look_for_nodes(carrier)
@@ -158,11 +158,11 @@ class Line:
 
     def end(self, is_answered: bool = False) -> None:
         if is_answered and self.first:
-            self.way.has_left(self.chunks.carrier.now(), self.first.end)
+            self.way.note_left(self.chunks.carrier.now(), self.first.end)
             if not self.is_answered and self.size > LONG:
                 self.chunks.ahead.learn(self.way, (self.chunks.carrier.now() - self.begun - self.held) * self.chunks.pace.rate / self.size)
         if self.has_room:
-            uplink_of(self.chunks.carrier).is_answered(len(self.body))
+            uplink_of(self.chunks.carrier).end_waiting(len(self.body))
         self.has_room, self.is_answered = False, is_answered
 
 
@@ -572,7 +572,7 @@ class Chunks:
                     begun = self.carrier.now()
                     yield first.content
                     for getting in under_way:
-                        getting.line.was_held(self.carrier.now() - begun)
+                        getting.line.note_held(self.carrier.now() - begun)
                     continue
                 self.turn_of_gets(box, known, under_way)
         finally:
@@ -679,7 +679,7 @@ class Keeper:
         if told.word == "kept":
             keeping.take(place, told.numbers[0])
             if keeping.is_kept():
-                self.is_kept(at, keeping)
+                self.note_kept(at, keeping)
         elif told.word == "refused room":
             self.leave([at], f"node {told.node} has room for {told.numbers[0]} bytes of chunks more", NoRoom)
         elif told.word == "refused full":
@@ -693,7 +693,7 @@ class Keeper:
             self.chunks.begin_above(told.key[1] + IN_A_MOMENT)
             self.again(at)
 
-    def is_kept(self, at: int, keeping: Keeping) -> None:
+    def note_kept(self, at: int, keeping: Keeping) -> None:
         keeping.end()
         self.window.done(self.chunks.carrier.now() - keeping.begun)
         self.places[at] = keeping.column, self.chunks.number, keeping.number
