@@ -228,7 +228,7 @@ class Getting:
             raise Damaged(f"no node has {self.name()}: {'; '.join(f'{word} at {listed(self.nodes(word))}' for word in sorted(set(self.told.values())))}")
         old = self.line
         if is_silent:
-            self.chunks.silent.add(old.place)
+            self.chunks.give_up(old.place)
         while self.places[0] not in left:
             self.places.rotate(-1)
         old.end()
@@ -353,6 +353,11 @@ class Chunks:
     def is_silent(self, place: int) -> bool:
         """Whether the node did not answer when it was asked last, whoever asked."""
         return place in self.silent or self.carrier.is_unheard(self.node_at(place))
+
+    def give_up(self, place: int) -> None:
+        """Its node did not answer: others are asked."""
+        self.silent.add(place)
+        self.carrier.given_up[self.node_at(place)] += 1
 
     def moment(self) -> int:
         """The clock's number."""
@@ -707,7 +712,7 @@ class Keeper:
         waited, line = max(((line.waited(), line) for keeping in self.under_way.values() for line in keeping.open_lines()), key=lambda each: each[0])
         timeout = self.chunks.pace.timeout
         if waited > max(timeout / SHARE, 2 * self.window.longest) and self.column not in self.left or waited > timeout:
-            self.chunks.silent.add(line.place)
+            self.chunks.give_up(line.place)
             told = f"node {self.chunks.node_at(line.place)} of column {self.column} did not keep a chunk in {round(waited, 1):g} s"
             if line.place in self.refusing:
                 told += ", and told `refused bad`"
