@@ -19,6 +19,7 @@ import growing
 import looking
 import outages
 import planted
+import recipes
 import registers
 import rolls
 import splitting
