@@ -203,7 +203,7 @@ class Steps:
     def walks(self, place, session):
         asked = ways.request_of(session.walk)
         if asked is None:
-            self.has_looked(place, session)
+            self.end_look(place, session)
             return
         grid, request = asked
         sessions = self.world.sessions
@@ -239,7 +239,7 @@ class Steps:
             return {}
         return dict(ops=at(self.world.ops, op, self.world.ops[op]._replace(end=self.world.now, **changes)), now=self.world.now + 1)
 
-    def has_looked(self, place, session):
+    def end_look(self, place, session):
         kind, op, value, known = session.task
         walk, world = session.walk, self.world
         found = ways.greatest(walk)

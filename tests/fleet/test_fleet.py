@@ -581,7 +581,7 @@ def unordered(self, grids):
 def unconfirmed(self, name, lines):
     """A listing tells a line of an old grid without another look at it."""
     grids = list(self.way(slice_of(name), lambda grid: self.shown_to(name, grid)))
-    if self.is_in_order(grids):
+    if self.note_order(grids):
         held = held_of(max((line for line in lines if line.grid in grids), key=ways.version_in, default=None))
         self.done[name] = Told(held, 1, 1) if held else None
 
@@ -632,7 +632,7 @@ class Listings(unittest.TestCase):
 
     def test_looks_in_order(self):
         self.assertEqual(self.copied_amid(), hashlib.sha256(b"x").hexdigest())
-        with mock.patch.object(Listing, "is_in_order", unordered):
+        with mock.patch.object(Listing, "note_order", unordered):
             self.assertIsNone(self.copied_amid())
 
     def test_ways_in_other_orders(self):

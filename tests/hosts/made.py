@@ -39,7 +39,7 @@ def anew(path, room, change):
     return out
 
 
-def is_later(room):
+def make_later(room):
     """Makes the package a later version, whose program has other bytes."""
     path = f"{room}/DEBIAN/control"
     with open(path, encoding="utf-8") as file:
@@ -51,7 +51,7 @@ def is_later(room):
             out.write(b"later")
 
 
-def later(folder, found, change=is_later):
+def later(folder, found, change=make_later):
     """A later package of the program."""
     return {"gridfs": anew(found["gridfs"], f"{folder}.later", change)}
 

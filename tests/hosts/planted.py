@@ -55,7 +55,7 @@ def packages_are(change):
 
     def plant(grid):
         def changed(room):
-            made.is_later(room)
+            made.make_later(room)
             change(room)
 
         grid.later = made.later(f"{grid.folder}.changed", grid.packages, changed)

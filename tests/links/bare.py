@@ -51,7 +51,7 @@ def client(*words, given=None):
     return done.stdout
 
 
-def is_bare(folder, program, carry):
+def walk(folder, program, carry):
     """(In the namespace.) What it is set up by, refuses, and keeps."""
     links = os.path.join(folder, "links")
     shutil.copy(os.path.join(folder, "plan"), links)
@@ -120,4 +120,4 @@ def told(program, carry):
 
 if __name__ == "__main__":
     del os.environ["PYTHONPATH"]  # (the client has its own)
-    is_bare(*sys.argv[1:])
+    walk(*sys.argv[1:])

@@ -162,7 +162,7 @@ def is_refused(come_in):
         return True
 
 
-def has_ended(made):
+def meets_end(made):
     """Whether the other end ends this connection, and says nothing before."""
     try:
         return made.recv(1) == b""
@@ -229,7 +229,7 @@ def who_may_come(program, folder):
             set_up(folder, PLAN, "--deny", "ann")
             old = context_of(carry.links, "ann")  # (the new one)
             carry.process.send_signal(signal.SIGHUP)
-            check(has_ended(ann), "who is denied stays")
+            check(meets_end(ann), "who is denied stays")
             with come(carry, None, context=old) as again:
                 again.sendall(b"again\n")
                 carry.gets(b"0 ann again")
@@ -272,7 +272,7 @@ def who_is_gone_is_told(program, folder):
             ann.sendall(b"plan\n")
             carry.gets(b"0 ann plan")
             bob.settimeout(1)
-            check(not is_told_more(bob), "he is told so again")
+            check(not hears_more(bob), "he is told so again")
     finally:
         check(carry.end() == 0, carry.told())
 
@@ -287,7 +287,7 @@ def taken_of(made, data, seconds):
     return count
 
 
-def is_told_more(made):
+def hears_more(made):
     try:
         return bool(made.recv(100))
     except TimeoutError:
@@ -495,7 +495,7 @@ def an_older_journal(program, folder):
         check("older journal" not in carry.told(), carry.told())
         for operation, last in ((3073, "ask 3 1"), (4096, "store 7 1 -")):
             says(made, letter("ann", 2, 901), letter("ann", 1, operation, last), letter("ann", 2, 902))
-            check(has_ended(made), "it is heard")
+            check(meets_end(made), "it is heard")
             check(is_refused(linked), "it is heard when it comes again")
             carry.tells(path, lambda told: older(told) == 1, "it is not told")
             told = f"node 1 goes on from an older journal: session 1 of ann is at operation {operation}, and was at 4097"
@@ -512,7 +512,7 @@ def an_older_journal(program, folder):
         made.sendall(letter("ann", 1, 5122)[:9])
         time.sleep(0.2)
         says(made, letter("ann", 1, 5122)[9:], letter("ann", 1, 5121))
-        check(has_ended(made), "it is heard behind a line that came in parts")
+        check(meets_end(made), "it is heard behind a line that came in parts")
         other.close()
     finally:
         carry.end()
@@ -539,7 +539,7 @@ def a_number_that_is_held_twice(program, folder):
         wait_for(lambda: "node 0 is linked to node 1" in carry.told(), carry.told())
         first.settimeout(5)
         second = named(late)
-        check(has_ended(first), "who has the earlier certificate stays")
+        check(meets_end(first), "who has the earlier certificate stays")
         check("held twice" not in carry.told(), f"a renewed certificate is told: {carry.told()}")
         check(is_refused(lambda: named(early)), "who has the earlier certificate takes over")
         wait_for(lambda: "node 1 is held twice: one with an earlier certificate is refused, at " in carry.told(), carry.told())
@@ -893,7 +893,7 @@ def another_authority(program, folder):
             for what in ("ca.crt", "secret/0.crt", "secret/0.key"):
                 shutil.copy(os.path.join(other, what), os.path.join(carry.links, what))
             carry.process.send_signal(signal.SIGHUP)
-            check(has_ended(ann), "one whom an authority before made stays")
+            check(meets_end(ann), "one whom an authority before made stays")
     finally:
         carry.end()
 
@@ -1017,7 +1017,7 @@ def what_a_denied_one_said(program, folder):
             time.sleep(0.3)
             set_up(folder, PLAN, "--deny", "ann")
             carry.process.send_signal(signal.SIGHUP)
-            check(has_ended(ann), "who is denied stays")
+            check(meets_end(ann), "who is denied stays")
             os.kill(cat, signal.SIGCONT)
             wait_for(lambda: carry.lines().count(b"0 bob of bob's") == 3, "bob's lines are lost")
             time.sleep(1)

@@ -235,9 +235,9 @@ def nodes_are_copied():
     check(came < 1_000_000, f"all came again: {again}")
     typed = re.search("gridfs-journals (get .*) reads names", again)[1]
     words = shlex.split(typed.replace("TENANT", "ann").replace("FOLDER", "out"))
-    has_all(contents, [*words[:3], *sorted(glob.glob(words[3]))])
+    expect_all(contents, [*words[:3], *sorted(glob.glob(words[3]))])
     for row in (("0", "1"), ("2", "3")):
-        has_all(contents, ["get", "ann", "out", *(f"kept/{node}/journal" for node in row)])
+        expect_all(contents, ["get", "ann", "out", *(f"kept/{node}/journal" for node in row)])
     os.rename("/var/lib/gridfs/0/journal", "/var/lib/gridfs/0/away")
     status, told, why = asked("copy", "desk", "kept")
     check(status == 0 and "node 0 is left out" in why, why)
@@ -247,7 +247,7 @@ def nodes_are_copied():
         os.rename(f"/var/lib/gridfs/{node}/away", f"/var/lib/gridfs/{node}/journal")
 
 
-def has_all(contents, words):
+def expect_all(contents, words):
     shutil.rmtree("out", ignore_errors=True)
     done = subprocess.run([JOURNALS, *words], capture_output=True, text=True)
     check(done.returncode == 0, f"{words}: {done.stdout} {done.stderr}")
@@ -301,7 +301,7 @@ def a_node_moves():
     client("ann", "put", "-", "behind", given=contents["behind"])
     check(all(client("ann", "get", name) == content for name, content in contents.items()), "another content")
     check(os.path.exists(f"/run/other/lib/{MOVED}/journal.lock"), "it was not started at the new machine")
-    is_whole()
+    wait_until_whole()
 
 
 def a_move_that_fails(node="3"):
@@ -310,7 +310,7 @@ def a_move_that_fails(node="3"):
     client("ann", "put", "-", "amid", given=content)
     write("/run/fails", "/coming/journal*")
     refuses(1, f"node {node} goes on at 127.0.0.1. Move it again", "move", "desk", node, "127.0.0.2")
-    is_whole()
+    wait_until_whole()
     with open("desk/hosts", encoding="ascii") as file:
         check(f"\n{node} 127.0.0.1:" in file.read(), "hosts has a host to which it did not move")
     write("/run/fails", "gridfs-machine")
@@ -318,7 +318,7 @@ def a_move_that_fails(node="3"):
     refuses(1, f"Go on by `operate {shlex.join(arrived)}`", *arrived[:1], *arrived[2:])
     write("/run/fails", NEVER)
     does(*arrived)
-    is_whole()
+    wait_until_whole()
     check(client("ann", "get", "amid") == content, "another content")
 
 
@@ -328,11 +328,11 @@ def a_disk_arrives(node="1"):
     refuses(1, "ended with status", "move", "--arrived", "desk", node, "127.0.0.2")
     subprocess.run(["cp", "-a", f"/var/lib/gridfs/{node}", "/run/other/lib"], check=True)
     does("move", "--arrived", "desk", node, "127.0.0.2")
-    is_whole()
+    wait_until_whole()
     check(client("ann", "get", "amid"), "no content")
 
 
-def is_whole():
+def wait_until_whole():
     until = time.monotonic() + 100
     while (told := json.loads(client("ann", "status", "--json")))["columns_up"] != [0, 1]:
         check(time.monotonic() < until, f"some node does not go on: {told}")
@@ -344,7 +344,7 @@ STEPS = [
 ]  # fmt: skip
 
 
-def is_operated(folder, program, carry):
+def walk(folder, program, carry):
     """(In the namespace.)"""
     for path in ("/run/systemd/system", "/run/root", "/usr/local/bin", "desk", "/run/gridfs"):
         os.makedirs(path)
@@ -379,4 +379,4 @@ def told(program, carry):
 
 if __name__ == "__main__":
     del os.environ["PYTHONPATH"]  # (the client has its own)
-    is_operated(*sys.argv[1:])
+    walk(*sys.argv[1:])

@@ -14,7 +14,9 @@ RULES = os.path.join(TOP, "deploy", "prometheus", "rules.yml")
 DASHBOARD = os.path.join(TOP, "deploy", "prometheus", "dashboard.json")
 WIDTH = 24  # of a dashboard
 PARTS = re.compile(r"_(?:bucket|sum|count)\Z")  # of a histogram
-OTHERS = {"up", "node_textfile_mtime_seconds", "node_filesystem_avail_bytes", "node_filesystem_size_bytes"}  # what the node exporter and Prometheus tell
+# What the node exporter and Prometheus tell.
+OTHERS = {"up", "node_textfile_mtime_seconds", "node_filesystem_avail_bytes", "node_filesystem_size_bytes"}
+OTHERS |= {f"node_disk_{name}_total" for name in ("flush_requests", "flush_requests_time_seconds", "writes_completed", "write_time_seconds")}
 RULE = re.compile(
     r"      - alert: (Gridfs\w+)\n        expr: (.+)\n(?:        for: \d+[mh]\n)?        annotations:\n          summary: ([A-Z].*\.)\n          todo: (.*\.)\n"
 )

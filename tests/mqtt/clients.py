@@ -84,7 +84,7 @@ class Clients:
             done = subprocess.run(words, stdin=subprocess.DEVNULL, stdout=subprocess.PIPE, stderr=subprocess.PIPE, text=True, timeout=30)
             self.held(name, (done.returncode, told in done.stderr, done.stdout), (status, True, ""))
 
-    def is_silent(self):
+    def passes_a_silent_home(self):
         """A session's home stands still: another session is taken, unless it is the one that was named."""
         os.kill(self.grid.node(1), signal.SIGSTOP)
         try:
@@ -163,7 +163,7 @@ def tried(program, carry):
     clients = Clients(program, carry)
     try:
         clients.grid.start()
-        for part in (clients.asks, clients.starts, clients.is_silent, clients.gone, clients.loads):
+        for part in (clients.asks, clients.starts, clients.passes_a_silent_home, clients.gone, clients.loads):
             part()
     finally:
         clients.grid.end()

@@ -371,7 +371,7 @@ class Commands:
             held.put(content, status == 0)
             told = self.run("get", "torn")
             self.held(f"status of a get after interrupt {number}", told[0], 1 if told[0] == 1 and held.content is None else 0)
-            self.held(f"what is held after interrupt {number} may be so", held.may_be(told[1] if told[0] == 0 else held.content), True)
+            self.held(f"what is held after interrupt {number} may be so", held.take(told[1] if told[0] == 0 else held.content), True)
         self.held("some were interrupted", any(seen), True)
         self.told("put of nothing in its place", ["put", "-", "torn"], b"", given=b"")
         self.told("rm of it", ["rm", "torn"], b"")

@@ -90,7 +90,7 @@ class Held:
     def put(self, content, is_done):
         self.content, self.coming = (content, []) if is_done else (self.content, [*self.coming, content])
 
-    def may_be(self, told):
+    def take(self, told):
         """Whether a get may tell this, which it does."""
         if told in self.coming:
             self.content, self.coming = told, self.coming[self.coming.index(told) + 1 :]

@@ -19,6 +19,7 @@ import growing
 import looking
 import outages
 import planted
+import recipes
 import registers
 import rolls
 import splitting
@@ -274,13 +275,18 @@ def installs_unproved():
     expect(1, "of other sources")
     shutil.copy(os.path.join(TOP, "HANDLES"), "tree/HANDLES")
     expect(0, "whole/bin/gridfs-journals")
+    for command, word in (("gridfs-plan", "names"), ("gridfs-journals", "journals"), ("gridfs-watch", "browser"), ("gridfs-operate", "bundles")):
+        wrong += helped(f"whole/bin/{command}", word)
     return wrong
 
 
-def helped(command):
-    """What is wrong of an installed command, which has to tell its words."""
-    told = subprocess.run([os.path.abspath(command), "--help"], stdout=subprocess.PIPE)
-    return [] if told.returncode == 0 and b"put" in told.stdout else [f"{command} --help: status {told.returncode}"]
+def helped(command, word="put"):
+    """What is wrong of an installed command, which has to tell what it does; that has this word."""
+    try:
+        told = subprocess.run([os.path.abspath(command), "--help"], capture_output=True, text=True, cwd="/")
+    except OSError as fault:
+        return [f"{command}: {fault.strerror}"]
+    return [] if told.returncode == 0 and word in told.stdout else [f"{command} --help: status {told.returncode}: {told.stdout[:200]}{told.stderr[-300:]}"]
 
 
 def in_a_room(job):

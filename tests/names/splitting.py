@@ -253,7 +253,7 @@ class Steps:
         elif not client.task:
             self.begins(number, session, client)
         else:
-            self.has_looked(number, session, client)
+            self.end_look(number, session, client)
 
     def asks(self, number, session, client):
         (which, request), world = asked(client), self.world
@@ -316,7 +316,7 @@ class Steps:
         if world.splits < self.bounds.splits and not is_reader:
             to("begins to split", ("split", None, None, None), splits=world.splits + 1)
 
-    def has_looked(self, number, session, client):
+    def end_look(self, number, session, client):
         """The look of an operation has ended: it chooses, or tells."""
         kind, op, name, value = client.task
         where = NEW if client.stage == "ready at the new bucket" else OLD

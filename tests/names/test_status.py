@@ -378,6 +378,22 @@ class Waiting(unittest.TestCase):
             with contextlib.closing(self.opened(Played(play), folder, session="1")) as sessions, self.assertRaises(Unanswered):
                 sessions.first()
 
+    def test_how_often_a_node_was_given_up(self):
+        """A home that is dead is waited for once, whatever is asked then; that is told."""
+        homes = [Home(node) for node in range(4)]
+
+        def play(node, body):
+            return [(str(node), PLAN)] if body == "plan" else homes[node](node, body) if node else []
+
+        carrier = Played(play)
+        with tempfile.TemporaryDirectory() as folder, contextlib.closing(self.opened(carrier, folder)) as sessions:
+            sessions.numbers.sort()
+            session = sessions.first()
+            self.assertEqual(sessions.in_words(), "session 2 of node 1; silent: 0 (given up 1 time)")
+            self.assertEqual({each.number for each in sessions.helpers()}, {3, 4})
+            self.assertEqual({sessions.another(home, carrier.now() + 10) is None for home in (session.home, 2)}, {False})
+            self.assertEqual(carrier.given_up, {0: 1, 1: 1, 2: 1})
+
     def test_another_session(self):
         """In place of one whose home died of what it was asked: others, each home once, in the time that is left."""
         homes = [Home(node) for node in range(4)]

@@ -120,7 +120,7 @@ def kill_clients(seen, moments, name="2 MB"):
         put.communicate()
         held.put(content, put.returncode == 0)
         status, told = run("get", name)
-        seen.held(f"what is held after a client was killed, {number}", (status, held.may_be(told)), (0, True))
+        seen.held(f"what is held after a client was killed, {number}", (status, held.take(told)), (0, True))
 
 
 def kill_nodes(nodes, seen, numbers, name="2 MB"):

@@ -145,7 +145,7 @@ class Steps:
         match core.request_of(state):
             case None:
                 if session.task:
-                    self.has_looked(number, session)
+                    self.end_look(number, session)
                 else:
                     self.begins(number, session)
             case ListPages():
@@ -203,7 +203,7 @@ class Steps:
             new = session._replace(client=core.look_for_change(session.client), task=("change", None, None, None))
             self.to("begins a change of no name", number, new, anew=world.anew + 1)
 
-    def has_looked(self, number, session):
+    def end_look(self, number, session):
         """The look of an operation has ended: it chooses, or tells."""
         kind, op, name, value = session.task
         pages = core.view(session.client, range(1, self.bounds.sessions + 1))

@@ -212,7 +212,7 @@ class Machine:
         status, why = start.status(), r"grid: \S+/grid: a grid runs there \(processes [\d, ]+\)\n"
         return status, re.fullmatch(why, start.told()) is not None
 
-    def is_killed(self):
+    def starts_behind_a_killed_one(self):
         """A grid that is killed itself, whose processes run on."""
         grid = Command(self)
         self.held("a start again", grid.says(UP), True)
@@ -259,7 +259,7 @@ def told(machine):
     """Tries all; how much that was, and what is wrong."""
     try:
         machine.starts()
-        machine.is_killed()
+        machine.starts_behind_a_killed_one()
         machine.goes_on()
     finally:
         machine.end()

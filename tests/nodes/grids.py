@@ -185,7 +185,7 @@ class Grids:
             grid.kill()
             grid.communicate()
 
-    def is_alone(self, folder):
+    def refuses_a_second(self, folder):
         """A second grid is refused in a folder that is in use, also where all nodes are dead, and changes nothing; nobody else may read what is
         there; and no traceback comes of a socket that was removed."""
         with self.served(folder, "--plan", PLAN) as (grid, told):
@@ -205,7 +205,7 @@ class Grids:
             _, told = grid.communicate(timeout=SECONDS)
             self.held("an end without its socket", (grid.returncode, told), (130, ""))
 
-    def is_damaged(self, folder):
+    def bears_damage(self, folder):
         """A journal that is damaged: the other nodes go on, a new one can take its place, and once all are dead a grid for clients ends."""
         with open(os.path.join(folder, "node3.journal"), "r+b") as file:
             text = bytearray(file.read())
@@ -235,7 +235,7 @@ class Grids:
         status, answers, _ = self.run(folder, given="wait 67\nann read 3 0 0\nann read 4 0 1\n")
         self.held("a new node in its place", (status, sorted(line.split()[-1] for line in answers.splitlines())), (0, ["6869", "ff"]))
 
-    def is_interrupted(self, folder, number):
+    def ends_by(self, folder, number):
         """A signal ends it, also a script's background job, and with it its nodes: another grid starts in the folder at once."""
         pipes = dict.fromkeys(["stdin", "stdout", "stderr"], subprocess.PIPE)
         grid = subprocess.Popen([GRID, folder], text=True, env=self.environment, preexec_fn=ignore_interrupt, **pipes)
@@ -261,8 +261,8 @@ def tell_grid(program):
         grids.takes_large_lines(folder)
         grids.refuses(folder)
         for number in (signal.SIGINT, signal.SIGTERM, signal.SIGKILL):
-            grids.is_interrupted(folder, number)
-        grids.is_alone(folder + ".alone")
+            grids.ends_by(folder, number)
+        grids.refuses_a_second(folder + ".alone")
         grids.takes_lines(folder + ".damaged")
-        grids.is_damaged(folder + ".damaged")
+        grids.bears_damage(folder + ".damaged")
     return grids.tried, grids.wrong

@@ -43,7 +43,7 @@ class Lives:
             self.carrier.turn(0.05)
         return is_so()
 
-    def is_killed_amid_a_line(self):
+    def killed_amid_a_line(self):
         """The half line of a life that was killed is no part of the next one's first line."""
         self.start(HALF + LASTS)
         began = self.goes_until(lambda: self.heard and self.node.begun.length)
@@ -58,7 +58,7 @@ class Lives:
         self.start(HALF)
         return self.goes_until(lambda: self.fallen) and (self.heard, self.fallen) == ([b"ann 0 one"], [0])
 
-    def does_not_read(self):
+    def reads_late(self):
         """The tail of a line that a life took in part is not given to the next one, which is sent another line."""
         self.start("os.write(1, b' ?\\n')\n" + LASTS)
         ready = self.goes_until(lambda: self.node.is_ready)
@@ -89,7 +89,7 @@ class Lives:
 
 def tell_lives(folder):
     """How many were tried, and what is wrong."""
-    tried = ["is_killed_amid_a_line", "ends_amid_a_line", "does_not_read", "greets"]
+    tried = ["killed_amid_a_line", "ends_amid_a_line", "reads_late", "greets"]
     wrong = []
     for name in tried:
         lives = Lives(folder)

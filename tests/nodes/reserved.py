@@ -53,7 +53,7 @@ class Numbers:
             if words[0] == b"%d" % node and words[2:3] in ([b"write"], [b"read"], [b"list"]) and words[4:] and words[4].isdigit():
                 self.asked[node].add((words[1], words[3], int(words[4])))
 
-    def is_last(self, node, session, number):
+    def take_last(self, node, session, number):
         """Whether that is the session's last number. Operations of which no letter has left the node may have begun, if they were asked for."""
         last = self.last[node].get(session, 0)
         while last < number and (*session, last + 1) in self.asked[node]:
@@ -68,7 +68,7 @@ class Numbers:
         elif words[2:3] == [b"done"]:
             self.see_end(node, words)
         elif words[2:3] == [b"refused"] and words[3:4] in ([b"old"], [b"early"], [b"busy"]):
-            if not self.is_last(node, (words[0], words[4]), int(words[6])):
+            if not self.take_last(node, (words[0], words[4]), int(words[6])):
                 raise Wrong(f"node {node} says {line!r}, and {self.last[node].get((words[0], words[4]), 0)} is the session's last number")
 
     def see_end(self, node, words):

@@ -10,7 +10,7 @@ from code_of_s3 import CLIENT, CODE, HERE
 LONGEST = 900  # seconds of a test: some take two minutes on free cores
 # What is planted: the test that finds it, with its words; then a file, its text, and the text in its place.
 BUGS = {
-    "a get ends with bytes whose digest is wrong": ("test_steps.py Contents.test_spoilt", "reading.py", "len(data) != span.length or not so_far.is_right(span.part, span.begin - begin_of_part, data)", "len(data) != span.length"),
+    "a get ends with bytes whose digest is wrong": ("test_steps.py Contents.test_spoilt", "reading.py", "len(data) != span.length or not so_far.take(span.part, span.begin - begin_of_part, data)", "len(data) != span.length"),
     "a get takes what a slot holds, whatever it is": ("test_steps.py Contents.test_replaced_while_it_is_read", "reading.py", "without_head(held.version.session, span.part.put, span.place, self.session.read(span.slot.volume, span.slot.file).content)", 'self.session.read(span.slot.volume, span.slot.file).content.partition(b"\\n")[2]'),
     "the ETag of parts has no number": ("test_forms.py Places.test_etag", "places.py", '(f"-{count}" if count else "")', '""'),
     "times are those of the machine's clock": ("test_steps.py Times", "shared.py", "told = max(now, least, before + 1)", "told = now"),
@@ -43,7 +43,7 @@ BUGS = {
     "pages that are read later have their lines in another order": ("test_index.py Pages.test_pages_that_are_read_later", "later.py", "reversed(self.by_name))", "self.by_name)"),
     "any page of the index will do for a get": ("histories_in_memory.py 0 60", "reading.py", "row.tag == index.tag(page, each) for", "index.tag(page, each).number for"),
     "a page goes on by a journal that is not in force": ("histories_in_memory.py 0 150", "shared.py", "        own = index.known(self.number, self.me) if carried else None\n        if own is None or own.tag != carried:\n", "        own = index.known(self.number, self.me)\n        if own is None:\n"),
-    "listings mind no others who had the sessions": ("test_going_on.py GoingOn.test_a_gateway_that_was_stopped", "gateway.py", "if not (pool.all_pages.is_exact() and await pool.all_pages.has_sessions()):", "if not pool.all_pages.is_exact():"),
+    "listings mind no others who had the sessions": ("test_going_on.py GoingOn.test_a_gateway_that_was_stopped", "gateway.py", "if not (pool.all_pages.is_exact() and await pool.all_pages.find_sessions()):", "if not pool.all_pages.is_exact():"),
     "anybody reads what no policy names": ("test_policies.py Anybody.test_all_else_wants_a_key", "policies.py", "if not (any(each.has(asked.key) for each in found.keys) if asked.key", "if not (found.keys if asked.key"),
     "a policy with a condition is taken": ("test_policies.py Policies.test_what_is_not_taken", "policies.py", '"Action", "Resource"}', '"Action", "Resource", "Condition"}'),
     "anybody asks by words that want a signature": ("test_policies.py Anybody.test_all_else_wants_a_key", "policies.py", "if words := sorted(asked.query.keys() - OF_ANYBODY - known):", "if words := []:"),
@@ -113,7 +113,7 @@ BUGS = {
     "what is old by a clock that nobody agrees with goes": ("test_lifecycle.py Looks.test_clock", "clocks.py", "if self.agreed is None or abs(", "if self.agreed is not None and abs("),
     "what is old by a clock that nodes do not have goes": ("test_lifecycle.py Looks.test_clocks_of_nodes", "clocks.py", "if 2 * len(others) >= many > 0:", "if False:"),
     "a clock that is two hours off is taken for the same one": ("test_lifecycle.py Rules.test_clocks_of_nodes", "clocks.py", "if abs(ahead) >= SET)", "if abs(ahead) >= 9 * SET)"),
-    "a client that corrects its clock by the gateway's is believed": ("test_lifecycle.py Looks.test_a_clock_that_is_ahead", "routes.py", "                    self.gateway.clock.is_refuted()", "                    pass"),
+    "a client that corrects its clock by the gateway's is believed": ("test_lifecycle.py Looks.test_a_clock_that_is_ahead", "routes.py", "                    self.gateway.clock.note_disagreement()", "                    pass"),
     "a put takes away what was there when versions were enabled": ("test_versions.py Versions.test_what_was_begun_before", "aims.py", "        if (state := self.gateway.state_now(self.bucket, store)) != self.state:\n            self.state, self.target", "        if not (state := self.state):\n            self.state, self.target"),
     "a bucket has the rules of an earlier one": ("test_lifecycle.py Looks.test_what_was_given", "given.py", '"b") == made else None', '"b") >= 0 else None'),
     "a removal leaves no marker": ("test_versions.py Versions.test_random", "objects.py", "        if place.version is None:\n            aim", "        if False:\n            aim"),
@@ -148,7 +148,7 @@ BUGS = {
     "a note says of a session with pages that are not settled that all are": ("test_going_on.py HowFar.test_what_is_noted_of_a_session_that_is_lent", "sessions.py", "settled=len(carried) if isinstance(settled, AllBut) else 0", "settled=2"),
     "a note is settled that nobody said to be": ("test_going_on.py HowFar.test_what_a_command_notes", "../gridfs_client/ends.py", "return self.end.written if self.end.settled == pages else None", "return self.end.written"),
     "an index that was begun anew is taken to have what was settled": ("test_going_on.py HowFar.test_what_a_note_leaves", "all_pages.py", "            if worker.index_when_lent == self.pool.shared.index.beginnings:\n", "            if True:\n"),
-    "amid a command's end listings look at all pages": ("test_going_on.py HowFar.test_what_a_note_leaves", "sessions.py", "            worker.store.has_back(carried, read_end(path))\n            worker.settled_when_lent = ()", "            worker.settled_when_lent = ()\n            worker.store.has_back(carried, read_end(path))\n            #"),
+    "amid a command's end listings look at all pages": ("test_going_on.py HowFar.test_what_a_note_leaves", "sessions.py", "            worker.store.take_back(carried, read_end(path))\n            worker.settled_when_lent = ()", "            worker.settled_when_lent = ()\n            worker.store.take_back(carried, read_end(path))\n            #"),
     "what came back amid a listing is taken for unknown": ("test_going_on.py HowFar.test_what_a_note_leaves", "all_pages.py", "                return settled_by(worker.store)\n", "                return ()\n"),
     "a note stays that can't be kept": ("test_going_on.py HowFar.test_what_a_command_notes", "../gridfs_client/ends.py", "                if not write_end(path, None):\n                    raise\n", "                pass\n"),
     "a note goes on behind who had the session since": ("test_going_on.py HowFar.test_what_a_command_notes", "../gridfs_client/ends.py", " or not end.is_of(session):", ":"),
@@ -233,8 +233,8 @@ BUGS = {
 }
 
 
-def is_found(what, folder):
-    """Whether the test finds the bug; why not."""
+def missed(what, folder):
+    """Why the test does not find the bug; None where it does."""
     test, name, old, new = BUGS[what]
     code = os.path.join(folder, "".join(letter if letter.isalnum() else "-" for letter in what))
     shutil.copytree(CODE, code, ignore=shutil.ignore_patterns("__pycache__"))

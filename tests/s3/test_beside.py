@@ -232,7 +232,7 @@ def pages_of(told, looks, sessions=3, far=()):
     async def run(worker, work, is_soon=False):
         return work(types.SimpleNamespace(look_at=lambda volumes: [looks(volume) for volume in volumes]))
 
-    async def has_sessions():
+    async def find_sessions():
         return True
 
     async def ask_all(key, known):
@@ -244,7 +244,7 @@ def pages_of(told, looks, sessions=3, far=()):
         pages.questions.append((session, known(start)))
         return peers.Told(start, *rest) if rest else None
 
-    pool.lease, pool.run, pages.has_sessions = lease, run, has_sessions
+    pool.lease, pool.run, pages.find_sessions = lease, run, find_sessions
     pages.remote = types.SimpleNamespace(ask_all=ask_all)
     peers.ask = ask
     return pages

@@ -596,14 +596,14 @@ class Clock(Case):
         turns = Turns()
         with mock.patch("time.time_ns", lambda: 5_000_000_000):
             self.assertEqual([turns.time_after(0), turns.time_after(0), turns.time_after(9_000), turns.time_after(0)], [5_000, 5_001, 9_001, 9_002])
-            turns.is_later_than(20_000)
+            turns.advance_past(20_000)
             self.assertEqual(turns.time_after(0), 20_001)
 
     def test_it_is_not_led_astray(self):
         """A time that is far ahead, since somebody's clock was wrong, is that of its name alone; and so it is where one's own clock was."""
         turns, far, now = Turns(), 3_000_000_000_000, 2_000_000_000_000
         with mock.patch("time.time_ns", lambda: now * 1_000_000):
-            turns.is_later_than(far)
+            turns.advance_past(far)
             self.assertEqual([turns.time_after(0), turns.time_after(far), turns.time_after(far + 1), turns.time_after(0)], [now, far + 1, far + 2, now + 3])
             self.assertEqual([turns.time_after(9_999_999_999_999), turns.time_after(now + 60_000), turns.time_after(0)], [9_999_999_999_999, now + 60_001, now + 60_002])
         with mock.patch("time.time_ns", lambda: far * 1_000_000):
@@ -614,7 +614,7 @@ class Clock(Case):
     def test_numbers(self):
         """Each is above those that had their turn since it looked, and that may still take effect."""
         turns = Turns()
-        turns.is_unsure("a", 7)
+        turns.note_unsure("a", 7)
         self.assertEqual((turns.number_for("a", 3), turns.number_for("a", 9), turns.number_for("b", 3)), (8, 9, 3))
         with turns.under_way("c"):
             with turns.under_way("c"):

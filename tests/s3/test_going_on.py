@@ -599,8 +599,8 @@ class HowFar(unittest.TestCase):
             self.assertEqual(pages.settled_in_note(worker), ())
             pool.shared.index.beginnings, settled = 0, {1: Tag(6, 1)}
             worker.store = types.SimpleNamespace(settled={}, writer=types.SimpleNamespace(has_settled_all=lambda: False))
-            worker.store.has_back = lambda *_: (self.assertTrue(worker.settled_when_lent), vars(worker.store).update(settled=settled))
-            pool.have_back(worker, settled)
+            worker.store.take_back = lambda *_: (self.assertTrue(worker.settled_when_lent), vars(worker.store).update(settled=settled))
+            pool.take_back(worker, settled)
             self.assertEqual((worker.settled_when_lent, pages.settled_in_note(worker), path.exists()), ((), settled, False))
 
     def test_notes(self):

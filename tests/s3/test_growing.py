@@ -333,7 +333,7 @@ class Steps(unittest.TestCase):
         put(one, NAMES[0], b"x")
         memory.layout = whole
         later = client(memory, shared=one.shared)
-        later.writer.has_more_pages(one.writer.carried)
+        later.writer.take_carried(one.writer.carried)
         self.assertTrue(later.writer.has_settled_all())
         later.writer.split(later.writer.bucket(0))
         self.assertTrue(later.writer.has_settled_all())
@@ -395,10 +395,10 @@ class Looks(unittest.TestCase):
                 index.split[0] = {1}
             told.append("ended")
 
-        async def has_sessions():
+        async def find_sessions():
             return True
 
-        pool.lease, pool.run, pages.has_sessions = lease, run, has_sessions
+        pool.lease, pool.run, pages.find_sessions = lease, run, find_sessions
         asyncio.run(pages.look())
         new = [volume for volume in second if any(pool.layout.before(page) == 0 for page in pool.layout.pages_in(volume))]
         self.assertEqual(told, [first, "ended", new, "ended"])

@@ -348,14 +348,14 @@ def pages_of(settled, looks):
     async def lease():
         return None
 
-    async def has_sessions():
+    async def find_sessions():
         return True
 
     async def run(worker, work, is_soon=False):
         await asyncio.sleep(0)
         return work(types.SimpleNamespace(look_at=lambda volumes: [looks[volume]() for volume in volumes]))
 
-    pool.lease, pool.run, pages.has_sessions = lease, run, has_sessions
+    pool.lease, pool.run, pages.find_sessions = lease, run, find_sessions
     return pages
 
 

@@ -259,7 +259,7 @@ class Collected(unittest.TestCase):
 class LentMeanwhile(unittest.TestCase):
     def test_nobody_waits_for_it(self):
         """Who looks whether sessions are there, or settles a page, waits for none that is given to a command right then."""
-        for work, others in ((lambda pool: AllPages(pool, {}).has_sessions(), True), (lambda pool: pool.settle(0), None)):
+        for work, others in ((lambda pool: AllPages(pool, {}).find_sessions(), True), (lambda pool: pool.settle(0), None)):
             self.assertEqual(asyncio.run(asyncio.wait_for(self.lent_amid(work), 10)), (others, [2]))
 
     async def lent_amid(self, work):

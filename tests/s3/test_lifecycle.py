@@ -37,12 +37,12 @@ QUIET = 2.0  # seconds in which several looks are taken
 SLOW = """
 import asyncio, sys
 from gridfs_s3 import expiring, program
-expiring.SURE_FOR, is_removed = 0, expiring.Lifecycles.is_removed
+expiring.SURE_FOR, remove = 0, expiring.Lifecycles.remove
 async def slowly(self, going):
     print("goes", going.held.name, file=sys.stderr, flush=True)
     await asyncio.sleep(1)
-    return await is_removed(self, going)
-expiring.Lifecycles.is_removed = slowly
+    return await remove(self, going)
+expiring.Lifecycles.remove = slowly
 program.main(sys.argv[1:])
 """
 YEAR = 365 * 86_400
@@ -175,7 +175,7 @@ class Rules(unittest.TestCase):
         """More than half of those that tell theirs have to agree; others are told."""
         for told, differ, is_doubted in (({}, 0, False), ({"node 0": 899, "node 1": -899}, 0, False), ({"node 0": 900}, 1, True), ({"node 0": -900, "node 1": 0}, 1, True), ({"node 0": 900, "node 1": 0, "node 2": 5}, 1, False)):
             clock = clocks.Clock(nodes=lambda told=told: told)
-            clock.is_confirmed()
+            clock.note_agreement()
             self.assertEqual((len(clock.others()), clock.doubt() is not None), (differ, is_doubted), told)
         self.assertEqual(clocks.Clock(nodes=lambda: {"a: node 3": 4 * clocks.DAY, "b: node 1": -5_400}).others(), ["that of a: node 3 is 4 days ahead", "that of b: node 1 is 90 minutes behind"])
 
@@ -186,22 +186,22 @@ class Rules(unittest.TestCase):
         clock = clocks.Clock(lambda: at["wall"], lambda: at["steady"])
         clock.look([an_object(time=1_000).held])
         self.assertIn("no client", clock.doubt())
-        clock.is_confirmed()
+        clock.note_agreement()
         self.assertIsNone(clock.doubt())
         pass_by(1_000_000)
         self.assertIsNone(clock.doubt())
         at.update(wall=at["wall"] + 1_000)
         self.assertIn("no client", clock.doubt())
-        clock.is_confirmed()
+        clock.note_agreement()
         self.assertIsNone(clock.doubt())
-        clock.is_refuted()
-        clock.is_confirmed()
+        clock.note_disagreement()
+        clock.note_agreement()
         self.assertIn("another one", clock.doubt())
         pass_by(clocks.DAY)
         self.assertIsNone(clock.doubt())
         for age, is_old in ((365 * clocks.DAY, True), (clocks.DAY / 2, False)):
             clock = clocks.Clock(lambda: at["wall"], lambda: at["steady"])
-            clock.is_confirmed()
+            clock.note_agreement()
             times = (clock.began - age, clock.began + 5, 1_000)  # (the second was put since, by this clock)
             clock.look([an_object(time=int(1_000 * each)).held for each in times])
             self.assertEqual(clock.doubt() is not None, is_old)

@@ -132,7 +132,7 @@ class Line:
             self.begun = min(self.begun, self.chunks.carrier.now())
         return left + self.pause
 
-    def was_held(self, seconds: float) -> None:
+    def note_held(self, seconds: float) -> None:
         self.pause += seconds
         self.held += seconds
 
@@ -146,7 +146,7 @@ class Line:
         node = self.chunks.node_at(self.place)
         if carrier.would_lose(node, len(self.body)):
             return False
-        self.has_room = self.has_room or uplink_of(carrier).may_wait(len(self.body))
+        self.has_room = self.has_room or uplink_of(carrier).begin_waiting(len(self.body))
         if self.has_room:
             if self.first:
                 self.chunks.ahead.look_for_nodes(carrier)
@@ -158,11 +158,11 @@ class Line:
 
     def end(self, is_answered: bool = False) -> None:
         if is_answered and self.first:
-            self.way.has_left(self.chunks.carrier.now(), self.first.end)
+            self.way.note_left(self.chunks.carrier.now(), self.first.end)
             if not self.is_answered and self.size > LONG:
                 self.chunks.ahead.learn(self.way, (self.chunks.carrier.now() - self.begun - self.held) * self.chunks.pace.rate / self.size)
         if self.has_room:
-            uplink_of(self.chunks.carrier).is_answered(len(self.body))
+            uplink_of(self.chunks.carrier).end_waiting(len(self.body))
         self.has_room, self.is_answered = False, is_answered
 
 
@@ -228,7 +228,7 @@ class Getting:
             raise Damaged(f"no node has {self.name()}: {'; '.join(f'{word} at {listed(self.nodes(word))}' for word in sorted(set(self.told.values())))}")
         old = self.line
         if is_silent:
-            self.chunks.silent.add(old.place)
+            self.chunks.give_up(old.place)
         while self.places[0] not in left:
             self.places.rotate(-1)
         old.end()
@@ -353,6 +353,11 @@ class Chunks:
     def is_silent(self, place: int) -> bool:
         """Whether the node did not answer when it was asked last, whoever asked."""
         return place in self.silent or self.carrier.is_unheard(self.node_at(place))
+
+    def give_up(self, place: int) -> None:
+        """Its node did not answer: others are asked."""
+        self.silent.add(place)
+        self.carrier.given_up[self.node_at(place)] += 1
 
     def moment(self) -> int:
         """The clock's number."""
@@ -572,7 +577,7 @@ class Chunks:
                     begun = self.carrier.now()
                     yield first.content
                     for getting in under_way:
-                        getting.line.was_held(self.carrier.now() - begun)
+                        getting.line.note_held(self.carrier.now() - begun)
                     continue
                 self.turn_of_gets(box, known, under_way)
         finally:
@@ -679,7 +684,7 @@ class Keeper:
         if told.word == "kept":
             keeping.take(place, told.numbers[0])
             if keeping.is_kept():
-                self.is_kept(at, keeping)
+                self.note_kept(at, keeping)
         elif told.word == "refused room":
             self.leave([at], f"node {told.node} has room for {told.numbers[0]} bytes of chunks more", NoRoom)
         elif told.word == "refused full":
@@ -693,7 +698,7 @@ class Keeper:
             self.chunks.begin_above(told.key[1] + IN_A_MOMENT)
             self.again(at)
 
-    def is_kept(self, at: int, keeping: Keeping) -> None:
+    def note_kept(self, at: int, keeping: Keeping) -> None:
         keeping.end()
         self.window.done(self.chunks.carrier.now() - keeping.begun)
         self.places[at] = keeping.column, self.chunks.number, keeping.number
@@ -707,7 +712,7 @@ class Keeper:
         waited, line = max(((line.waited(), line) for keeping in self.under_way.values() for line in keeping.open_lines()), key=lambda each: each[0])
         timeout = self.chunks.pace.timeout
         if waited > max(timeout / SHARE, 2 * self.window.longest) and self.column not in self.left or waited > timeout:
-            self.chunks.silent.add(line.place)
+            self.chunks.give_up(line.place)
             told = f"node {self.chunks.node_at(line.place)} of column {self.column} did not keep a chunk in {round(waited, 1):g} s"
             if line.place in self.refusing:
                 told += ", and told `refused bad`"

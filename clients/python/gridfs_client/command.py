@@ -316,7 +316,7 @@ def put_one(opened: Opened | OpenedFleet, args: argparse.Namespace, path: str, n
             entry = opened.by_sessions(lambda names: names.put(name, content), partial(go_to, content, content.tell()) if content.seekable() else None)
         except NoRoom as fault:
             raise NoRoom(f"{fault}; where clients were killed, gridfs-client sweep gives some back") from None
-    is_done(opened, args, "put", entry)
+    tell_done(opened, args, "put", entry)
     return entry
 
 
@@ -326,7 +326,7 @@ def expect_all(opened: Opened | OpenedFleet, sizes: dict[str, int]) -> None:
         opened.progress.expect(len(sizes), sum(sizes.values()))
 
 
-def is_done(opened: Opened | OpenedFleet, args: argparse.Namespace, word: str, entry: Entry) -> None:
+def tell_done(opened: Opened | OpenedFleet, args: argparse.Namespace, word: str, entry: Entry) -> None:
     """A content is moved, of one or several."""
     if opened.progress and opened.progress.files:
         opened.progress.next(word, entry.size)
@@ -364,7 +364,7 @@ def get_range(opened: Opened | OpenedFleet, args: argparse.Namespace) -> None:
         tell(args, told_of(get_to(content)) | {"content": base64.b64encode(content.getvalue()).decode()})
         return
     entry = to_target(in_folder(path, name), get_to)
-    is_done(opened, args, "got of", entry)
+    tell_done(opened, args, "got of", entry)
     if args.json:
         tell(args, told_of(entry))
 
@@ -390,7 +390,7 @@ def get_one(opened: Opened | OpenedFleet, args: argparse.Namespace, name: str, p
         return opened.by_sessions(lambda names: names.get_to(name, target), nothing if start is None else partial(cut, target, start))
 
     entry = to_target(in_folder(path, name), get_to, time_put)
-    is_done(opened, args, "got", entry)
+    tell_done(opened, args, "got", entry)
     return entry
 
 

@@ -48,8 +48,8 @@ class SoFar:
         self.part: Part | None = None
         self.digest, self.at = Digest(), 0
 
-    def is_right(self, part: Part, at: int, data: bytes, is_whole: bool = True) -> bool:
-        """Takes these bytes at this place of a part. No where they are its last ones, and all of it has another digest."""
+    def take(self, part: Part, at: int, data: bytes, is_whole: bool = True) -> bool:
+        """Takes these bytes at this place of a part; False where they are its last ones, and all of it has another digest."""
         if at == 0:
             self.part, self.digest, self.at = part if is_whole else None, Digest(), 0
         if part != self.part or at != self.at:
@@ -121,7 +121,7 @@ class ReadContents:
                     raise Gone
                 cut = coming[0]
                 at = cut.first if at is None else at
-                if not checked.is_right(cut.part, at, piece, cut.is_whole):
+                if not checked.take(cut.part, at, piece, cut.is_whole):
                     raise Damaged("its chunks don't hold it")
                 at += len(piece)
                 if at == cut.end:

@@ -72,7 +72,7 @@ class Listing:
                 self.seen[grid], self.latest[grid] = seen, self.count
         self.signposts = {grid: {each for client in seen.buckets.values() for known in client.seen for each in known.page.signposts} for grid, seen in self.seen.items()}
         for first in self.firsts() - self.followed:
-            if self.is_in_order(list(self.way(first, self.signposts.__getitem__))):
+            if self.note_order(list(self.way(first, self.signposts.__getitem__))):
                 self.followed.add(first)
         for name, lines in self.by_name().items():
             if name not in self.done:
@@ -95,7 +95,7 @@ class Listing:
         seen = set[Signpost]().union(*self.signposts.values())
         return {each.first for each in self.map.ranges} | {each.first for each in seen} | {each.last + 1 for each in seen if each.last + 1 < ways.SLICES}
 
-    def is_in_order(self, grids: Sequence[str]) -> bool:
+    def note_order(self, grids: Sequence[str]) -> bool:
         """Whether each grid of a way was looked at after the one before; else the first that was not is wanted."""
         for number, grid in enumerate(grids):
             if grid in self.silent:
@@ -120,7 +120,7 @@ class Listing:
         found = max((line for line in lines if line.grid in grids), key=ways.version_in, default=None)
         confirmed, since = self.confirms.pop(name, (None, 0))
         if found is None or found != confirmed or self.latest[found.grid] <= since:
-            if not self.is_in_order(grids):
+            if not self.note_order(grids):
                 return
             if found and found.grid != grids[-1]:
                 self.confirms[name] = found, self.count

@@ -133,7 +133,7 @@ class Look:
     def has_ended(self) -> bool:
         return not self.left or not self.waits_for()
 
-    def is_late(self) -> None:
+    def note_late(self) -> None:
         """Nobody is waited for any more: who did not answer is silent."""
         for node in self.waits_for():
             self.carrier.note_unheard(node)
@@ -201,7 +201,7 @@ def run(looks: Sequence[Look], rate: float) -> None:
                 told = carrier.receive(box, left)
             if isinstance(told, LookTold) and (look := under_way.get(told.number)):
                 look.take(told, begun)
-                uplink.has_left(carrier.now(), sent.end)
+                uplink.note_left(carrier.now(), sent.end)
                 if look.has_ended():
                     del under_way[look.number]
             elif told is None and left > 0:
@@ -209,7 +209,7 @@ def run(looks: Sequence[Look], rate: float) -> None:
             elif left <= 0:
                 now = carrier.now()
                 for look in [look for look in under_way.values() if sent.left() <= 0 or look.until <= now]:
-                    look.is_late()
+                    look.note_late()
                     del under_way[look.number]
     finally:
         carrier.detach_looks(box)

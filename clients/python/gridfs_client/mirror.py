@@ -368,7 +368,7 @@ class ToGrid(Mirror):
         if self.removes and not self.files:
             raise BadFile(f"{self.folder}: no file is there, so no name is removed")
         entries = self.entries()
-        self.move({name: size_of(self.local(path)) for name, path in self.files.items() if self.is_other(name, entries)}, self.put)
+        self.move({name: size_of(self.local(path)) for name, path in self.files.items() if self.choose(name, entries)}, self.put)
         if self.removes:
             self.remove_all([name for name in entries if self.is_extra(name)])
         return self.report
@@ -390,8 +390,8 @@ class ToGrid(Mirror):
         self.unread.append(path)
         self.skip(self.local(path), fault)
 
-    def is_other(self, name: str, entries: dict[str, Entry]) -> bool:
-        """Whether the name has to be put. One whose file can't be read is skipped."""
+    def choose(self, name: str, entries: dict[str, Entry]) -> bool:
+        """Whether the name has to be put; one that is the same is counted. One whose file can't be read is skipped."""
         if name not in entries:
             return True
         path = self.local(self.files[name])
@@ -443,7 +443,7 @@ class ToFolder(Mirror):
         if not entries:
             raise NoSuchName(f"{GRID}{self.prefix}: no name begins so")
         self.paths = self.find_paths(entries)
-        self.move({name: entries[name].size for name in self.paths if self.is_other(entries[name])}, self.get)
+        self.move({name: entries[name].size for name in self.paths if self.choose(entries[name])}, self.get)
         if self.removes and kind_of(self.folder) is not None:
             tree = Tree(self.folder, lambda path, fault: self.skip(self.local(path), fault), self.excludes)
             for path in [path for path in tree.files() if self.is_extra(path, entries)]:
@@ -465,8 +465,8 @@ class ToFolder(Mirror):
             del found[name]
         return found
 
-    def is_other(self, entry: Entry) -> bool:
-        """Whether the name has to be got. One whose file can't be read, or is none, is skipped."""
+    def choose(self, entry: Entry) -> bool:
+        """Whether the name has to be got; one that is the same is counted. One whose file can't be read, or is none, is skipped."""
         path = self.local(self.paths[entry.name])
         if kind_of(path) is None:
             return True

@@ -34,17 +34,17 @@ class Uplink:
         try:
             yield
         finally:
-            self.is_answered(size)
+            self.end_waiting(size)
 
-    def may_wait(self, size: int) -> bool:
-        """Whether a line of so many bytes may be sent now: then it waits for its answer, until that `is_answered`."""
+    def begin_waiting(self, size: int) -> bool:
+        """Whether a line of so many bytes may be sent now: then it waits for its answer, until `end_waiting`."""
         with self.change:
             if self.waiting and self.waiting + size > self.most:
                 return False
             self.waiting += size
             return True
 
-    def is_answered(self, size: int) -> None:
+    def end_waiting(self, size: int) -> None:
         with self.change:
             self.waiting -= size
             self.change.notify_all()
@@ -60,14 +60,14 @@ class Uplink:
         """When a turn comes, by the carrier's clock."""
         return turn - self.forward
 
-    def has_left(self, now: float, end: float) -> None:
+    def note_left(self, now: float, end: float) -> None:
         """What has its turn before this one has left."""
         with self.change:
             self.forward = max(self.forward, end - now)
 
-    def is_broken(self, now: float) -> None:
+    def note_broken(self, now: float) -> None:
         """The connection has ended, and what waited is lost. From now on one long line waits at a time: two may have been too much for it."""
-        self.has_left(now, self.free)
+        self.note_left(now, self.free)
         self.most = FEW
 
 

@@ -153,7 +153,7 @@ class Session:
         """The home was started again since the request was sent, and goes on behind this number. The request is gone; what changes nothing is
         asked for again, unless it was given up."""
         request, self.going, self.last = self.going, None, last
-        self.is_gone(request, self.session)
+        self.note_gone(request, self.session)
 
     def go_on_at(self, node):
         """Where this node stands in the place of the home, which was lost, the session goes on there. It begins anew, since an earlier client may
@@ -165,9 +165,9 @@ class Session:
         self.waiting = collections.deque(it for it in self.waiting if it.tell)  # (what begins anew is told to nobody)
         self.last, self.going, self.is_nobodys = None, self.first_request(), False
         if request and request.tell:
-            self.is_gone(request, session)
+            self.note_gone(request, session)
 
-    def is_gone(self, request, session):
+    def note_gone(self, request, session):
         if request.kind != b"write" and not request.is_given_up:
             self.waiting.appendleft(Request(request.kind, request.words, tell=request.tell))
         elif request.tell:

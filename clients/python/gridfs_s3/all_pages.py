@@ -71,7 +71,7 @@ class AllPages:
         into their pages."""
         return self.pool.has_all and all(worker.store.writer.has_settled_all() for worker in self.pool.workers.values())
 
-    async def has_sessions(self) -> bool:
+    async def find_sessions(self) -> bool:
         """Whether all sessions are still this gateway's, as each of them was found to be in the last two seconds. (It may have been stopped, and replaced by
         another one, which nobody tells it.)"""
         async with self.asking_all:
@@ -95,7 +95,7 @@ class AllPages:
     async def settled_now(self) -> list[Pages]:
         """Of each session that is here the pages into which nothing has come but changes of this gateway, at some moment of the call. Of one that is lent these are those of
         which its note says nothing. Of others that this gateway has no more, none."""
-        if not await self.has_sessions():
+        if not await self.find_sessions():
             return [()]
         lent = {number: worker for number, worker in self.pool.workers.items() if worker.settled_when_lent}
         left = await asyncio.gather(*(self.pool.loop.run_in_executor(self.pool.threads, self.settled_in_note, each) for each in lent.values()))

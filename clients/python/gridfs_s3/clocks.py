@@ -33,11 +33,11 @@ class Clock:
         self.refused: float | None = None  # when a client was refused last, since its clock is another one
         self.last_put: float | None = None  # before the start
 
-    def is_confirmed(self) -> None:
+    def note_agreement(self) -> None:
         """A client has signed a request by a time that is near the clock's."""
         self.agreed = self.wall() - self.steady()
 
-    def is_refuted(self) -> None:
+    def note_disagreement(self) -> None:
         """A client's key has signed one by another time."""
         self.refused = self.doubted = self.steady()
 

@@ -124,7 +124,7 @@ class Lifecycles(Operations):
         wanted = await self.gateway.all(lambda every: list(self.expired(every, in_force, now)))
         try:
             for each in wanted:
-                if await self.is_still_in_force(each.bucket, in_force) and await self.is_removed(each):
+                if await self.look_again(each.bucket, in_force) and await self.remove(each):
                     gone[each.bucket, each.what] += 1
         finally:
             for (bucket, what), count in gone.items():
@@ -168,7 +168,7 @@ class Lifecycles(Operations):
             except S3Error:
                 pass  # (another client wrote a line that has no key)
 
-    async def is_still_in_force(self, bucket: str, in_force: dict[str, InForce]) -> bool:
+    async def look_again(self, bucket: str, in_force: dict[str, InForce]) -> bool:
         """Whether the bucket and its rules are as they were when it was seen what has expired; that may be some seconds ago."""
         found = in_force.get(bucket)
         if found and time.monotonic() - found.seen > SURE_FOR:
@@ -183,7 +183,7 @@ class Lifecycles(Operations):
                 in_force.pop(bucket)
         return bucket in in_force
 
-    async def is_removed(self, going: Going) -> bool:
+    async def remove(self, going: Going) -> bool:
         """Has an object go, or a version, if it is as it was seen, or an upload."""
         name, mark = going.held.name, going.mark
         if name.startswith(UPLOADS):

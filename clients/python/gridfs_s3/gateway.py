@@ -179,7 +179,7 @@ class Gateway:
         are under way. Else all pages that others may have changed are looked at first; over several grids along the ways of all names."""
         if not self.grids.map:
             return await self.listing_by(self.grids.pool(""), work)
-        if not (self.grids.is_exact() and all(await asyncio.gather(*(pool.all_pages.has_sessions() for pool in self.grids.pools.values())))):
+        if not (self.grids.is_exact() and all(await asyncio.gather(*(pool.all_pages.find_sessions() for pool in self.grids.pools.values())))):
             return await self.all(lambda every: work(Few(every)))
         names = Union([pool.shared.index for pool in self.grids.pools.values()])
         return await asyncio.get_running_loop().run_in_executor(None, lambda: work(names))
@@ -188,7 +188,7 @@ class Gateway:
         """The same of one grid. Others may look meanwhile: a page may come into the index whose line went because of one that is not there yet. Then it is begun anew."""
         index = pool.shared.index
         for _ in range(TURNS):
-            if not (pool.all_pages.is_exact() and await pool.all_pages.has_sessions()):
+            if not (pool.all_pages.is_exact() and await pool.all_pages.find_sessions()):
                 await pool.all_pages.look()
             is_whole, before = not index.open, index.times_open
             told = await pool.loop.run_in_executor(pool.threads, lambda: work(index))

@@ -96,7 +96,7 @@ class Growing:
         if worker.store.layout is not self.pool.layout:
             carried = worker.store.writer.carried  # (its pages stay where they are)
             self.pool.renew(worker)
-            worker.store.writer.has_more_pages(carried)
+            worker.store.writer.take_carried(carried)
 
     async def split_on(self) -> None:
         """Has pages split wholly that have begun to, by each session that is here: else each look at their names is one at the old pages, too."""

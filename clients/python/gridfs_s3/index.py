@@ -442,7 +442,7 @@ class Index:
         if told is None:
             return None
         known = Known(told[1], later_page(told[2]))
-        self.is_recent(page, session, known, len(told[2]))
+        self.note_recent(page, session, known, len(told[2]))
         return known
 
     def texts_at(self, where: str, *words: int) -> Iterator[tuple[int, Tag, bytes]]:
@@ -464,7 +464,7 @@ class Index:
                     break
         return max(lines, key=version_in) if lines else None
 
-    def is_recent(self, page: int, session: int, known: Known, length: int) -> None:
+    def note_recent(self, page: int, session: int, known: Known, length: int) -> None:
         _, before = self.recent.pop((page, session), (None, 0))
         self.recent[page, session] = known, length
         self.recent_bytes += length - before
@@ -488,7 +488,7 @@ class Index:
                 self.note_split(first, session)  # (else nobody had written this one)
             self.leads.update(leads_of(known.page))
             self.note_open(page)
-            self.is_recent(page, session, known, len(text))
+            self.note_recent(page, session, known, len(text))
             self.fullest = max(self.fullest, len(text))
             self.changes += 1
             if self.is_kept and time.monotonic() - self.committed > COMMIT:

@@ -62,16 +62,16 @@ class Cut:
             if not wanted:
                 continue
             if group is not None:
-                if group.encode() > self.limit and self.has_room(group):
+                if group.encode() > self.limit and self.take(group):
                     self.groups.append(group)
                 self.place = f"{self.base}{group}".encode() + b"\xff"
                 return
             for row in wanted:
-                if not self.has_room(key):
+                if not self.take(key):
                     return
                 self.rows.append(row._replace(key=key))
 
-    def has_room(self, last: str) -> bool:
+    def take(self, last: str) -> bool:
         """Whether one more is told, which is now the last one."""
         if len(self.rows) + len(self.groups) >= self.most:
             self.is_cut = self.most > 0

@@ -185,7 +185,7 @@ class Reader(NamedFiles):
             data = without_head(held.version.session, span.part.put, span.place, self.session.read(span.slot.volume, span.slot.file).content)
             if data is None:
                 raise Replaced(f"{held.name}: replaced while it was read")
-            if len(data) != span.length or not so_far.is_right(span.part, span.begin - begin_of_part, data):
+            if len(data) != span.length or not so_far.take(span.part, span.begin - begin_of_part, data):
                 raise Damaged(f"{held.name}: its slots don't hold it")
             yield data[max(0, first - span.begin) : end - span.begin]
 

@@ -162,7 +162,7 @@ class Endpoint:
         if asked.method in READS and asked.bucket and not self.is_signed(asked):
             return await self.read_by_anybody(asked)
         asked.signed = self.signed_by(asked)
-        self.is_told_who(asked)
+        self.name_asker(asked)
         self.expect_known(asked)
         operation = self.operation_of(asked)
         asked.operation = "".join(word.capitalize() for word in getattr(operation, "__name__").split("_"))
@@ -181,11 +181,11 @@ class Endpoint:
                 with suppress(S3Error):
                     seconds = signing.seconds_of(asked.headers["x-amz-date"], fault.code)
                     signing.check(*words, now=seconds)
-                    self.gateway.clock.is_refuted()  # (a key signed it, at that time)
+                    self.gateway.clock.note_disagreement()  # (a key signed it, at that time)
                     self.tell_clock(seconds)
             raise
         if not asked.by_anybody:
-            self.gateway.clock.is_confirmed()
+            self.gateway.clock.note_agreement()
         return signed
 
     def tell_clock(self, seconds: float) -> None:
@@ -199,7 +199,7 @@ class Endpoint:
     def is_signed(self, asked: Asked) -> bool:
         return "authorization" in asked.headers or "X-Amz-Signature" in asked.query or "Signature" in asked.query
 
-    def is_told_who(self, asked: Asked) -> None:
+    def name_asker(self, asked: Asked) -> None:
         """Whoever asks by one access key has a share of the sessions, and of that who has one URL or form that it signed."""
         who_asks.set((asked.signed.key.access, asked.by_anybody))
 
@@ -209,7 +209,7 @@ class Endpoint:
         connection = asked.request.protocol
         with connection.unknown() if isinstance(connection, Connection) else nullcontext():
             form = await self.forms.read(asked)
-        self.is_told_who(asked)
+        self.name_asker(asked)
         self.expect_known(asked)
         self.expect_headers(asked, {BY})
         asked.signed.key.expect(asked.bucket, True)

@@ -305,7 +305,7 @@ class Pool:
                     with suppress(OSError):  # (which is told elsewhere)
                         lock = None if self.settings.is_wanted(worker.number) else self.settings.lock(worker.number)
                 worker.lock = lock
-                await self.loop.run_in_executor(self.threads, self.have_back, worker, carried)
+                await self.loop.run_in_executor(self.threads, self.take_back, worker, carried)
                 self.release(worker)
             except Unanswered:
                 pass
@@ -313,11 +313,11 @@ class Pool:
                 worker.is_lent = False
                 self.lends.discard(worker.number)
 
-    def have_back(self, worker: Worker, carried: dict[int, Tag]) -> None:
+    def take_back(self, worker: Worker, carried: dict[int, Tag]) -> None:
         """(A thread's.) Goes on by a session that was lent."""
         path = self.settings.end_path(worker.number)
         with worker.asking:
-            worker.store.has_back(carried, read_end(path))
+            worker.store.take_back(carried, read_end(path))
             worker.settled_when_lent = ()  # (not before: else a listing amid that would look at all pages)
             write_end(path, None)
 

@@ -63,7 +63,7 @@ class Turns:
             self.last = told if told <= now + AHEAD else max(now, least)
             return min(told, LATEST)
 
-    def is_later_than(self, before: int) -> None:
+    def advance_past(self, before: int) -> None:
         """Times that are given from now on are after this one, unless it is far ahead of the clock."""
         with self.guard:
             if before <= time.time_ns() // 1_000_000 + AHEAD:
@@ -78,7 +78,7 @@ class Turns:
                 self.numbers[name] = number
             return number
 
-    def is_unsure(self, name: str, number: int) -> None:
+    def note_unsure(self, name: str, number: int) -> None:
         """A change got no answer: later ones have to be greater, so that it is over once one of them has ended."""
         with self.guard:
             if len(self.unsure) > 10_000:
@@ -296,21 +296,21 @@ class SharedWriter(Writer):
             if bucket.number not in self.carried:
                 bucket.carry_for_later(bucket.journal)
         if not was_signed:
-            self.were_never_written(bucket.number)
+            self.note_never_written(bucket.number)
 
-    def has_more_pages(self, carried: dict[int, Tag]) -> None:
+    def take_carried(self, carried: dict[int, Tag]) -> None:
         """These were carried by an earlier plan, which had fewer pages."""
         self.carried = carried
         for page in list(carried):
             if self.me not in self.shared.index.split.get(page, ()):
-                self.were_never_written(page)
+                self.note_never_written(page)
 
-    def were_never_written(self, page: int) -> None:
+    def note_never_written(self, page: int) -> None:
         """Of those of the next levels that have parts of a page's names nothing was written: the own page had no signpost. (A client writes one only once that was carried.)"""
         if self.layout.level_of(page) + 1 < len(self.layout.levels):
             for part in self.layout.parts_of(page):
                 self.carried.setdefault(part, NEVER)
-                self.were_never_written(part)
+                self.note_never_written(part)
 
     def journals(self) -> Iterable[Page]:
         return self.shared.index.pages_of(self.me) if self.has_settled_all() else super().journals()

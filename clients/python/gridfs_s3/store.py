@@ -197,7 +197,7 @@ class Store(Reader):
         try:
             self.writer.change(bucket, journal)
         except (Unanswered, SessionTaken, CarrierFault):
-            self.shared.turns.is_unsure(subject, version.number)
+            self.shared.turns.note_unsure(subject, version.number)
             self.writer.carried.clear()
             raise
         return Held(name, version, content or Inline(b""), words)
@@ -246,17 +246,17 @@ class Store(Reader):
         if seen.version.grid != self.grid:
             return None
 
-        def is_the_same(held: Held | None) -> None:
+        def expect_unchanged(held: Held | None) -> None:
             if condition:
                 condition(held)
             expect_same(held, seen)
 
         def in_place(_: Bucket, held: Held | None) -> Content:
-            is_the_same(held)
+            expect_unchanged(held)
             return seen.content
 
         try:
-            return self.change(name, in_place, values, is_the_same)
+            return self.change(name, in_place, values, expect_unchanged)
         except Changed:
             return None
 
@@ -270,7 +270,7 @@ class Store(Reader):
             bucket = self.writer.bucket(page)
             self.writer.settle(bucket)
             times = (number_of(of_words(line.words), "t") for known in bucket.client.seen for line in known.page.lines)
-            self.shared.turns.is_later_than(max(times, default=0))
+            self.shared.turns.advance_past(max(times, default=0))
 
     def split(self, page: int) -> None:
         """Has the page split wholly; what earlier clients left under way there ends before."""
@@ -309,7 +309,7 @@ class Store(Reader):
 
     def go_on(self, end: End | None) -> None:
         """Goes on as it came to an end in an earlier gateway, where nobody had the session since."""
-        self.has_back({page: self.shared.index.tag(page, self.me) for page in self.layout.page_numbers}, end)
+        self.take_back({page: self.shared.index.tag(page, self.me) for page in self.layout.page_numbers}, end)
 
     def go_on_after(self, begun: Begun) -> None:
         """The same where the gateway was killed, and the index has all pages as they are now: what was under way was one operation. Pages to which this gateway wrote
@@ -321,7 +321,7 @@ class Store(Reader):
         but = {self.layout.page_at(*place) for place in places}
         self.writer.carried = {each: self.shared.index.tag(each, self.me) for each in self.layout.page_numbers if each not in but} | self.writer.carried
 
-    def has_back(self, carried: dict[int, Tag], end: End | None) -> None:
+    def take_back(self, carried: dict[int, Tag], end: End | None) -> None:
         """Begins with a session whose pages were as they were carried, but for those that the note tells of; where that is not to be believed, with none."""
         assert isinstance(self.session, Session)
         self.session.forget()
@@ -367,7 +367,7 @@ class Store(Reader):
         assert self.trip
         source, words = cast(Store, self.trip.grid(held.version.grid)), values_beside(held)
 
-        def is_the_same(now: Held | None) -> None:
+        def expect_unchanged(now: Held | None) -> None:
             if not now or now.version != held.version:
                 raise Elsewhere(self.grid)
 
@@ -389,7 +389,7 @@ class Store(Reader):
             words["p"] = parts.words()
             return parts.content()
 
-        return self.change(name, placed, lambda: words, is_the_same)
+        return self.change(name, placed, lambda: words, expect_unchanged)
 
     def put_part(self, name: str, number: int, body: Body, now: int, algorithm: str = "") -> str:
         """Adds a part, or puts another one in its place; its MD5. Its checksum by this algorithm is kept, or the one that it came with. NoSuchUpload (404)."""
