@@ -26,7 +26,7 @@ KEYS = f"carol {endpoint.SECRET}\ncarol.one {endpoint.SECRET} bucket=one\n"
 POLICY = json.dumps({"Statement": {"Effect": "Allow", "Principal": "*", "Action": "s3:GetObject", "Resource": "arn:aws:s3:::open/*"}})
 MIB = 1 << 20
 PATIENCE = 60  # seconds until all of it has come
-AT_ONCE, LATE, AT_MOST = 16, 0.04, 2  # puts; seconds for which a node takes its time; seconds that each put may take
+AT_ONCE, LATE, AT_MOST = 16, 0.04, 2  # puts; seconds for which a node takes its time; seconds that each put may wait
 LONG_PLAN = os.path.join(endpoint.HERE, "..", "..", "deploy", "s3", "plan")  # with many pages
 SOON = 20  # seconds that a small request may take on a machine that does much else
 
@@ -123,7 +123,8 @@ class Slow(unittest.TestCase):
         until = time.monotonic() + PATIENCE
         while (held := endpoint.held_in_files(GATEWAY.process.pid)) < 12 * MIB and time.monotonic() < until:
             time.sleep(0.2)
-        time.sleep(3)
+        for _ in range(2):  # (in which as much could be read for strangers)
+            S3.get_object(Bucket="open", Key="long")["Body"].read()
         self.assertGreaterEqual(held, 12 * MIB)
         self.assertLessEqual(endpoint.held_in_files(GATEWAY.process.pid), 24 * MIB)
         self.served()
@@ -229,7 +230,7 @@ class ManyPages(unittest.TestCase):
     """Nodes that take their time, and a gateway that knows none of its pages yet."""
 
     def test_puts_at_once(self):
-        """None waits for long while the pages of others are settled, by all sessions each."""
+        """None waits for long while the pages of others are settled, by all sessions each: beyond what such puts take on this machine now, once that is over."""
         room = self.enterContext(endpoint.stand_in(LONG_PLAN))
         (gateway,) = self.enterContext(endpoint.gateways(room))
         gateway.client().create_bucket(Bucket="one")
@@ -245,8 +246,9 @@ class ManyPages(unittest.TestCase):
             return time.monotonic() - begun
 
         with ThreadPoolExecutor(AT_ONCE) as pool:
-            took = sorted(pool.map(put_by, range(AT_ONCE)))
-        self.assertLess(took[-1], AT_MOST, took)
+            took, *later = [sorted(pool.map(put_by, range(AT_ONCE))) for _ in range(4)]
+        by_itself = min(each[-1] for each in later)
+        self.assertLess(took[-1] - by_itself, AT_MOST, (took, by_itself))
 
 
 class Places(unittest.IsolatedAsyncioTestCase):
