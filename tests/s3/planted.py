@@ -5,6 +5,7 @@ import shutil
 import subprocess
 import sys
 
+from busy import longer
 from code_of_s3 import CLIENT, CODE, HERE
 
 LONGEST = 900  # seconds of a test: some take two minutes on free cores
@@ -246,11 +247,11 @@ def is_found(what, folder):
     with open(path, "w", encoding="utf-8") as out:
         out.write(text.replace(old, new))
     script, *words = test.split(" ")
-    command = [sys.executable, "-B", "-W", "ignore", os.path.join(HERE, script), *words]
+    command, most = [sys.executable, "-B", "-W", "ignore", os.path.join(HERE, script), *words], longer(LONGEST)
     try:
-        done = subprocess.run(command, cwd=folder, env={**os.environ, "GRIDFS_S3_CODE": code, "PYTHONPATH": CLIENT}, capture_output=True, text=True, timeout=LONGEST)
+        done = subprocess.run(command, cwd=folder, env={**os.environ, "GRIDFS_S3_CODE": code, "PYTHONPATH": CLIENT}, capture_output=True, text=True, timeout=most)
     except subprocess.TimeoutExpired:
-        return f"{test} is not done in {LONGEST} seconds"
+        return f"{test} is not done in {most:.0f} seconds"
     if done.returncode == 0:
         return f"{test} does not find it"
     is_told = "FAILED" in done.stderr or " wrong" in done.stdout

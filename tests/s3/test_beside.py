@@ -14,6 +14,7 @@ import types
 import unittest
 
 sys.path.insert(0, os.path.dirname(os.path.abspath(__file__)))
+from busy import longer
 import code_of_s3  # noqa: F401  (which says where the code is)
 import endpoint
 import test_going_on
@@ -210,7 +211,7 @@ class Asked(unittest.TestCase):
             begun = time.monotonic()
             found = await self.ask()()
             writer.close()
-            return found is not None, time.monotonic() - begun < 20
+            return found is not None, time.monotonic() - begun < longer(20)
 
         self.assertEqual(self.told(idle), (True, True))
 
@@ -362,7 +363,7 @@ class Several(unittest.TestCase):
         return looks_in(endpoint.counts(self.room))
 
     def until_few(self, s3, wanted):
-        until = time.monotonic() + 120
+        until = time.monotonic() + longer(120)
         while self.looks(s3, wanted) > 1:  # (of the bucket)
             self.assertLess(time.monotonic(), until)
             time.sleep(0.3)

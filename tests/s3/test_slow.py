@@ -19,6 +19,7 @@ from urllib.parse import urlsplit
 sys.path.insert(0, os.path.dirname(os.path.abspath(__file__)))
 import endpoint
 import test_malformed
+from busy import longer
 from code_of_s3 import CODE
 from gridfs_s3 import bounds
 
@@ -28,7 +29,7 @@ MIB = 1 << 20
 PATIENCE = 60  # seconds until all of it has come
 AT_ONCE, LATE, AT_MOST = 16, 0.04, 2  # puts; seconds for which a node takes its time; seconds that each put may wait
 LONG_PLAN = os.path.join(endpoint.HERE, "..", "..", "deploy", "s3", "plan")  # with many pages
-SOON = 20  # seconds that a small request may take on a machine that does much else
+SOON = 20  # seconds that a small request may take
 
 
 def setUpModule():
@@ -73,7 +74,7 @@ class Slow(unittest.TestCase):
             told = getattr(S3, call)(Bucket="two", **words)
             if "Body" in told:
                 told["Body"].read()
-            self.assertLess(time.monotonic() - begun, SOON, call)
+            self.assertLess(time.monotonic() - begun, longer(SOON), call)
         return told
 
     def grown(self):
@@ -120,7 +121,7 @@ class Slow(unittest.TestCase):
         """Of what anybody may read little more is on disk than is taken."""
         for _ in range(12):
             self.come(f"GET /open/long HTTP/1.1\r\nHost: 127.0.0.1:{GATEWAY.port}\r\n\r\n".encode(), taken=4_096)
-        until = time.monotonic() + PATIENCE
+        until = time.monotonic() + longer(PATIENCE)
         while (held := endpoint.held_in_files(GATEWAY.process.pid)) < 12 * MIB and time.monotonic() < until:
             time.sleep(0.2)
         for _ in range(2):  # (in which as much could be read for strangers)
@@ -212,12 +213,12 @@ class Strangers(unittest.TestCase):
                 self.assertRegex(file.read(), r"Max open files +4096 +4096")
             forms = []
             for _ in range(40):
-                forms.append(stack.enter_context(socket.create_connection(("127.0.0.1", found.port), timeout=60)))
+                forms.append(stack.enter_context(socket.create_connection(("127.0.0.1", found.port), timeout=longer(60))))
                 forms[-1].sendall(head)
                 time.sleep(0.1)  # (so that each has begun its form when the next one comes)
             begun = time.monotonic()
             found.client(read_timeout=SOON).list_buckets()
-            self.assertLess(time.monotonic() - begun, SOON)
+            self.assertLess(time.monotonic() - begun, longer(SOON))
             with contextlib.suppress(ConnectionResetError):
                 forms[0].settimeout(0.2)  # (it ended when others came, and not since it is slow)
                 self.assertEqual(forms[0].recv(100), b"")
