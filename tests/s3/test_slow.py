@@ -236,7 +236,7 @@ class ManyPages(unittest.TestCase):
         (gateway,) = self.enterContext(endpoint.gateways(room))
         gateway.client().create_bucket(Bucket="one")
         with open(os.path.join(room, "slow"), "w") as out:
-            out.write(str(LATE))
+            out.write(str(longer(LATE)))
         gateway.end()
         gateway.start()
         clients = [gateway.client() for _ in range(AT_ONCE)]
@@ -249,7 +249,7 @@ class ManyPages(unittest.TestCase):
         with ThreadPoolExecutor(AT_ONCE) as pool:
             took, *later = [sorted(pool.map(put_by, range(AT_ONCE))) for _ in range(4)]
         by_itself = min(each[-1] for each in later)
-        self.assertLess(took[-1] - by_itself, AT_MOST, (took, by_itself))
+        self.assertLess(took[-1] - by_itself, longer(AT_MOST), (took, by_itself))
 
 
 class Places(unittest.IsolatedAsyncioTestCase):
