@@ -236,7 +236,7 @@ class ManyPages(unittest.TestCase):
         (gateway,) = self.enterContext(endpoint.gateways(room))
         gateway.client().create_bucket(Bucket="one")
         with open(os.path.join(room, "slow"), "w") as out:
-            out.write(str(longer(LATE)))
+            out.write(str(LATE))
         gateway.end()
         gateway.start()
         clients = [gateway.client() for _ in range(AT_ONCE)]
