@@ -60,7 +60,7 @@ class Gateway:
 
     def start(self):
         words = [*self.program, "--config", self.settings, "--keys", self.keys, "--listen", f"127.0.0.1:{self.port}", *self.words]
-        environment = {"GRIDFS_TIMEOUT": "20", **os.environ, "GRIDFS_SESSION": self.sessions, "GRIDFS_LOCKS": os.path.join(self.room, "locks")}
+        environment = {"GRIDFS_TIMEOUT": f"{longer(20):.0f}", **os.environ, "GRIDFS_SESSION": self.sessions, "GRIDFS_LOCKS": os.path.join(self.room, "locks")}
         with open(self.log, "ab") as log:
             begun = log.tell()
             self.process = subprocess.Popen(words, env=environment, stdin=subprocess.DEVNULL, stdout=log, stderr=log)
