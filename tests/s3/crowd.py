@@ -13,6 +13,7 @@ import time
 import urllib.request
 
 sys.path.insert(0, os.path.dirname(os.path.abspath(__file__)))
+from busy import longer
 import endpoint
 
 from botocore.exceptions import BotoCoreError, ClientError
@@ -101,7 +102,7 @@ def main(seconds):
                 wrong.append(f"{told['Key']} can't be taken away: {told['Code']}")
         gateway.kill()
         gateway.start()
-        until = time.monotonic() + 60
+        until = time.monotonic() + longer(60)
         while (left := left_in(gateway)) < ROOM and time.monotonic() < until:
             time.sleep(0.2)
         wrong += [f"{left:.0f} of {ROOM} bytes are free"] if left != ROOM else []

@@ -11,6 +11,7 @@ import threading
 import time
 
 sys.path.insert(0, os.path.dirname(os.path.abspath(__file__)))
+from busy import longer
 from code_of_s3 import GATEWAY, HERE
 
 import gridfs_client.contents
@@ -18,7 +19,7 @@ import gridfs_client.contents
 SECRET = "a.secret.of.the.tests"
 PLAN = os.path.join(HERE, "plan")
 MAKING = threading.Lock()  # of clients: boto3 makes one at a time
-PATIENCE = 60  # seconds until something is up, on a machine that does much else
+PATIENCE = 60  # seconds until something is up
 
 
 class NotStarted(Exception):
@@ -36,7 +37,7 @@ def free_port():
 
 
 def wait(is_there, process, log):
-    until = time.monotonic() + PATIENCE
+    until = time.monotonic() + longer(PATIENCE)
     while not is_there():
         if process.poll() is not None or time.monotonic() > until:
             with open(log, errors="replace") as file:
@@ -59,7 +60,7 @@ class Gateway:
 
     def start(self):
         words = [*self.program, "--config", self.settings, "--keys", self.keys, "--listen", f"127.0.0.1:{self.port}", *self.words]
-        environment = {"GRIDFS_TIMEOUT": "20", **os.environ, "GRIDFS_SESSION": self.sessions, "GRIDFS_LOCKS": os.path.join(self.room, "locks")}
+        environment = {"GRIDFS_TIMEOUT": f"{longer(20):.0f}", **os.environ, "GRIDFS_SESSION": self.sessions, "GRIDFS_LOCKS": os.path.join(self.room, "locks")}
         with open(self.log, "ab") as log:
             begun = log.tell()
             self.process = subprocess.Popen(words, env=environment, stdin=subprocess.DEVNULL, stdout=log, stderr=log)
@@ -78,7 +79,7 @@ class Gateway:
         """By SIGTERM; the status."""
         self.process.terminate()
         try:
-            return self.process.wait(PATIENCE)
+            return self.process.wait(longer(PATIENCE))
         except subprocess.TimeoutExpired:
             self.kill()
             return None
@@ -90,7 +91,7 @@ class Gateway:
         with MAKING:
             return boto3.client(
                 "s3", endpoint_url=self.url, aws_access_key_id=access, aws_secret_access_key=secret, region_name="us-east-1",
-                config=Config(signature_version="s3v4", s3={"addressing_style": "path"}, retries={"max_attempts": 0}, read_timeout=read_timeout),
+                config=Config(signature_version="s3v4", s3={"addressing_style": "path"}, retries={"max_attempts": 0}, read_timeout=longer(read_timeout)),
             )  # fmt: skip
 
 

@@ -25,6 +25,7 @@ import threading
 import time
 
 sys.path.insert(0, os.path.dirname(os.path.abspath(__file__)))
+from busy import longer
 import code_of_s3
 import endpoint
 import kills
@@ -121,7 +122,7 @@ def tried(kind, count, seconds, kills_of_each, program=None):
                 try:
                     return super().run()
                 finally:
-                    until = time.monotonic() + endpoint.PATIENCE
+                    until = time.monotonic() + longer(endpoint.PATIENCE)
                     while found.moves < 1 and time.monotonic() < until:
                         time.sleep(0.2)
                     found.is_over = True
@@ -239,7 +240,7 @@ class Model:
         told = self.s3.get_bucket_lifecycle_configuration(Bucket="moved")["Rules"]
         self.expect("the rules", [{**each, "Expiration": {"Date": each["Expiration"]["Date"].strftime("%Y-%m-%dT%H:%M:%SZ")}} for each in told], self.rules)
         self.s3.put_object(Bucket="moved", Key=key, Body=b"hello")
-        until = time.monotonic() + endpoint.PATIENCE
+        until = time.monotonic() + longer(endpoint.PATIENCE)
         while (left := "Contents" in self.s3.list_objects_v2(Bucket="moved", Prefix=key)) and time.monotonic() < until:
             time.sleep(0.1)
         self.expect(f"{key} is there", left, False)
@@ -327,7 +328,7 @@ def while_one_is_silent():
                     told(f"a put of {key} at {grid}", lambda key=key: s3.put_object(Bucket="moved", Key=key, Body=key.split()[1].encode()), code)
                 told("a listing", lambda: s3.list_objects_v2(Bucket="moved"), "ServiceUnavailable")
                 found.processes["west"].send_signal(signal.SIGCONT)
-                until = time.monotonic() + 60
+                until = time.monotonic() + longer(60)
                 while time.monotonic() < until:
                     with contextlib.suppress(*kills.FAULTS):
                         if len(s3.list_objects_v2(Bucket="moved")["Contents"]) == len(keys):
@@ -396,7 +397,7 @@ def by_other_maps(program=None):
             for file in ("theirs/dave.ini", "command.ini"):
                 begun, text = len(gateway.told()), f"fleet 1\ngrid east east.ini\ngrid west west.ini\ngrid other {file}\n{slices} other\n"
                 subprocess.run([*client, f"{room}/east.ini", "put", "-", ".fleet"], input=text.encode(), check=True)
-                until = time.monotonic() + 30
+                until = time.monotonic() + longer(30)
                 while " map is not found: .fleet: it has the grid other" not in gateway.told(begun) and time.monotonic() < until:
                     time.sleep(0.2)
                 buckets = [each["Name"] for each in s3.list_buckets()["Buckets"]]

@@ -18,6 +18,7 @@ from pathlib import Path
 
 LONGEST = 600  # seconds of one case, or of Swift's suites together
 MINIO = Path("/usr/share/gocode/src/github.com/minio/minio-go/v7/functional_tests.go")  # of Debian's golang-github-minio-minio-go-v7-dev
+BY_SIGNATURE_2 = ("NewStaticV2", "CredsV2: true")  # words of such a case, in the one suite and in the other
 BUILD = {"GO111MODULE": "off", "GOPATH": "/usr/share/gocode", "CGO_ENABLED": "0"}
 
 NOT_OF_MINIO = {
@@ -73,7 +74,7 @@ def minio_cases(text):
     """All cases by signature 4 of minio-go's tests, which its program does one after another."""
     names = re.findall(r"^\t+(test\w+)\(\)$", text[text.index("\nfunc main() {") :], re.MULTILINE)
     bodies = {name: text[text.index(f"func {name}() {{") :].partition("\n}\n")[0] for name in names}
-    return [name for name in bodies if "NewStaticV2" not in bodies[name]]
+    return [name for name in bodies if not any(word in bodies[name] for word in BY_SIGNATURE_2)]
 
 
 def minio_program(text, cases):

@@ -14,6 +14,7 @@ import types
 import unittest
 
 sys.path.insert(0, os.path.dirname(os.path.abspath(__file__)))
+from busy import longer
 import code_of_s3  # noqa: F401  (which says where the code is)
 import endpoint
 import test_going_on
@@ -25,7 +26,7 @@ from gridfs_s3.peers import NEVER, AllBut, Changes
 from gridfs_s3.shared import Shared
 from gridfs_s3.store import Store
 from memory import Memory, MemorySession
-from test_going_on import Lent, command, listed, looks_in
+from test_going_on import command, listed, looks_in
 
 KEY, OTHER = b"a secret of the tenant", b"a secret of another tenant"
 
@@ -210,7 +211,7 @@ class Asked(unittest.TestCase):
             begun = time.monotonic()
             found = await self.ask()()
             writer.close()
-            return found is not None, time.monotonic() - begun < 20
+            return found is not None, time.monotonic() - begun < longer(20)
 
         self.assertEqual(self.told(idle), (True, True))
 
@@ -342,7 +343,7 @@ class Several(unittest.TestCase):
         self.addCleanup(self.rooms.close)
         folder = self.rooms.enter_context(tempfile.TemporaryDirectory())
         with open(f"{folder}/plan", "w", encoding="ascii") as out:
-            out.write(Lent.plan)
+            out.write(test_going_on.Lent.plan)
         self.room = self.rooms.enter_context(endpoint.stand_in(f"{folder}/plan", f"{folder}/grid"))
         self.one, self.other = (self.gateway(sessions) for sessions in ("1-4", "5-8"))
 
@@ -362,7 +363,7 @@ class Several(unittest.TestCase):
         return looks_in(endpoint.counts(self.room))
 
     def until_few(self, s3, wanted):
-        until = time.monotonic() + 120
+        until = time.monotonic() + longer(120)
         while self.looks(s3, wanted) > 1:  # (of the bucket)
             self.assertLess(time.monotonic(), until)
             time.sleep(0.3)
@@ -389,7 +390,7 @@ class Several(unittest.TestCase):
             self.assertLessEqual(looks_in(endpoint.counts(self.room)), 2)  # (of the page that was changed, and of the bucket)
             self.assertEqual(listed(s3), wanted)
         # By a command to which one of them lends a session.
-        with Lent.command(None, test_going_on.PUTS, self.room, "3", "bucket/lent", "new") as process:
+        with test_going_on.Lent.command(None, test_going_on.PUTS, self.room, "3", "bucket/lent", "new") as process:
             self.assertEqual(process.stdout.readline(), b"it has come so far\n")
             wanted["lent"] = 5
             for s3 in (one, other):

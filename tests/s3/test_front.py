@@ -17,6 +17,7 @@ from pathlib import Path
 from unittest import mock
 
 sys.path.insert(0, os.path.dirname(os.path.abspath(__file__)))
+from busy import longer
 import endpoint
 from gridfs_s3 import cors, policies
 from gridfs_s3.front import instances_of, nginx_conf
@@ -43,7 +44,7 @@ def setUpModule():
         words = [endpoint.GATEWAY, "--config", room / "carol.ini", "--keys", keys, "--listen", f"unix:{sockets[each.name]}"]
         start(room, each.name, words, {"GRIDFS_SESSION": each.sessions, "GRIDFS_LOCKS": str(room / "locks")})
     for each in both:
-        until = time.monotonic() + endpoint.PATIENCE
+        until = time.monotonic() + longer(endpoint.PATIENCE)
         while not os.path.exists(sockets[each.name]):
             if time.monotonic() > until:
                 raise endpoint.NotStarted((room / f"log.{each.name}").read_text())
@@ -144,7 +145,7 @@ class Front(test_operations.Case):
     def told(self, url, data, whence="127.0.0.1"):
         """What is told to these bytes, which come from this address of the machine."""
         host, _, port = url.rpartition("/")[2].partition(":")
-        with socket.create_connection((host, int(port)), timeout=60, source_address=(whence, 0)) as made:
+        with socket.create_connection((host, int(port)), timeout=longer(60), source_address=(whence, 0)) as made:
             made.sendall(data)
             return made.recv(65_536)
 

@@ -16,6 +16,7 @@ import unittest
 from unittest import mock
 
 sys.path.insert(0, os.path.dirname(os.path.abspath(__file__)))
+from busy import longer
 import code_of_s3
 import endpoint
 import over_grids
@@ -117,7 +118,7 @@ def settings_of(room):
 
 
 def command(room, *words, given=None):
-    subprocess.run([*COMMAND, *settings_of(room), *words], input=given, capture_output=True, timeout=60, check=True)
+    subprocess.run([*COMMAND, *settings_of(room), *words], input=given, capture_output=True, timeout=longer(60), check=True)
 
 
 class GoingOn(unittest.TestCase):
@@ -142,7 +143,7 @@ class GoingOn(unittest.TestCase):
 
     def quiet(self, s3):
         """Waits until listings ask for nothing but the bucket: then all pages are settled, and a while for what comes after that."""
-        until = time.monotonic() + 60
+        until = time.monotonic() + longer(60)
         while True:
             listed(s3)  # (which finds that all sessions are the gateway's still, for two seconds)
             endpoint.counts(self.room)
@@ -215,7 +216,7 @@ class GoingOn(unittest.TestCase):
         it.process.send_signal(signal.SIGSTOP)
         locks = self.rooms.enter_context(tempfile.TemporaryDirectory())
         words = ["--config", f"{self.room}/carol.ini", "--locks", locks, "put", "-", "bucket/meanwhile"]
-        subprocess.run([*COMMAND, *words], input=b"1234567", capture_output=True, timeout=60, check=True)
+        subprocess.run([*COMMAND, *words], input=b"1234567", capture_output=True, timeout=longer(60), check=True)
         time.sleep(SURE_FOR)
         it.process.send_signal(signal.SIGCONT)
         self.assertEqual(listed(it.client()), wanted | {"meanwhile": 7})
@@ -430,7 +431,7 @@ class SeveralGrids(unittest.TestCase):
                 done.join()
                 self.assertFalse(read_map(fleet.map).moves)
                 self.assertEqual(listed(s3), wanted, slices)
-                until = time.monotonic() + 90
+                until = time.monotonic() + longer(90)
                 while self.looks_of(lambda: self.assertEqual(listed(s3), wanted, slices), room) > 2:  # (of the bucket alone)
                     self.assertLess(time.monotonic(), until)
                     time.sleep(0.5)

@@ -15,6 +15,7 @@ from unittest import mock
 
 HERE = os.path.dirname(os.path.abspath(__file__))
 sys.path[:0] = [HERE, os.path.join(HERE, "..", "names")]
+from busy import longer
 import code_of_s3  # noqa: F401  (which says where the code is)
 import endpoint
 from bodies_in_memory import Body
@@ -563,7 +564,7 @@ class Running(unittest.TestCase):
         words = [sys.executable, "-B", os.path.join(code_of_s3.CLIENT, "gridfs-client"), "--config", f"{folder}/carol.ini", "--locks", f"{folder}/locks", "grow", "--json"]
         with subprocess.Popen(words, stdout=subprocess.PIPE) as command:
             self.wait(lambda: endpoint.counts(folder).get("write", 0), gateways[0])
-            asked, until = [], time.monotonic() + 90
+            asked, until = [], time.monotonic() + longer(90)
             while any(map(settings.is_growing, range(1, 5))) and time.monotonic() < until:
                 asked.append(self.requests(clients[len(asked) % len(clients)], folder, ("list", "read")))
             told = command.communicate()[0]
@@ -585,7 +586,7 @@ class Running(unittest.TestCase):
         return sum(counts.get(kind, 0) for kind in kinds)
 
     def wait(self, is_so, gateway):
-        until = time.monotonic() + 90
+        until = time.monotonic() + longer(90)
         while not is_so():
             self.assertLess(time.monotonic(), until, gateway.told()[-500:])
             time.sleep(0.3)

@@ -14,6 +14,7 @@ from unittest import mock
 
 HERE = os.path.dirname(os.path.abspath(__file__))
 sys.path[:0] = [HERE, os.path.join(HERE, "..", "chunks"), os.path.join(HERE, "..", "names")]
+from busy import longer
 import code_of_s3
 import endpoint
 from bodies_in_memory import Body
@@ -403,7 +404,7 @@ class Through(unittest.TestCase):
         for key, content in contents.items():
             expect(key, content)
         words = [os.path.join(code_of_s3.CLIENT, "gridfs-client"), "--config", f"{self.room}/carol.ini", "--locks", f"{self.room}/locks", "renew"]
-        done = subprocess.run([sys.executable, "-B", *words], capture_output=True, text=True, timeout=120)
+        done = subprocess.run([sys.executable, "-B", *words], capture_output=True, text=True, timeout=longer(120))
         self.assertEqual((done.stdout, done.stderr), ("contents: 1 moved to chunks, 9000 bytes; 0 left in slots, since their pages are too full\n", ""))
         for key, content in contents.items():
             expect(key, content)
@@ -483,7 +484,7 @@ class Through(unittest.TestCase):
         self.gateway.kill()
         self.counts()
         self.gateway.start()
-        until, forgotten = time.monotonic() + 60, 0
+        until, forgotten = time.monotonic() + longer(60), 0
         while forgotten < 9 and time.monotonic() < until:  # (a floor for each session, and a run)
             time.sleep(0.2)
             forgotten += self.counts().get("forget", 0)

@@ -11,6 +11,7 @@ import sqlite3
 import sys
 import tempfile
 import threading
+import time
 import types
 import unittest
 from unittest import mock
@@ -18,6 +19,7 @@ from unittest import mock
 sys.path.insert(0, os.path.dirname(os.path.abspath(__file__)))
 import code_of_s3  # noqa: F401  (which says where the code is)
 
+from busy import longer
 from gridfs_client.answers import Tag
 from gridfs_client.contents import InChunks, Inline, digest_of
 from gridfs_client.core import Copied, Known, Line, Page, Signpost
@@ -460,6 +462,22 @@ class Looks(unittest.TestCase):
             asyncio.run(pages_of([set()], [look]).look())
 
 
+class Waiting(list):
+    """Those who wait, and how often it was looked whether there are any."""
+
+    looks = 0
+
+    def __bool__(self):
+        self.looks += 1
+        return len(self) > 0
+
+
+async def until(is_so):
+    end = time.monotonic() + longer(5)
+    while not is_so() and time.monotonic() < end:
+        await asyncio.sleep(0.01)
+
+
 class Swept(unittest.TestCase):
     """Chunks that nobody names, of a session whose store is asked for a sweep of three parts."""
 
@@ -490,10 +508,11 @@ class Swept(unittest.TestCase):
             pool = found.pool
             pool.workers[1].is_busy = True
             task = pool.spawn(found.sweep(60))
+            await until(lambda: self.done)
             await asyncio.sleep(0.1)
             self.assertEqual(self.done, ["part"])
-            pool.workers[1].is_busy, pool.waiting = False, ["somebody"]
-            await asyncio.sleep(0.1)
+            pool.workers[1].is_busy, pool.waiting = False, Waiting(["somebody"])
+            await until(lambda: pool.waiting.looks > 1 or len(self.done) > 1)
             self.assertEqual(self.done, ["part"])
             # Who finds no room waits for what is under way, which waits for nobody then.
             self.assertTrue(await found.found_room())

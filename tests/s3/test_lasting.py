@@ -13,6 +13,7 @@ import unittest
 from unittest import mock
 
 sys.path.insert(0, os.path.dirname(os.path.abspath(__file__)))
+from busy import longer
 import endpoint
 from gridfs_client import CarrierFault, Pace, SessionTaken, Unanswered
 from gridfs_client.opening import SOON, turn_of
@@ -51,7 +52,7 @@ class Lasting(unittest.TestCase):
                 with open(plan, "a") as out:
                     out.write("carol chunks 4096\ncarol open 1 1\n")
                 processes[folder].send_signal(signal.SIGHUP)
-                until = time.monotonic() + 60
+                until = time.monotonic() + longer(60)
                 while "the plan has 6 volumes now, 1 more than before" not in found.told():
                     self.assertLess(time.monotonic(), until, found.told())
                     time.sleep(0.2)

@@ -16,6 +16,7 @@ sys.path.insert(0, os.path.dirname(os.path.abspath(__file__)))
 import endpoint
 import test_malformed
 from botocore.exceptions import ClientError
+from busy import longer
 from code_of_s3 import CODE
 from gridfs_client.asking import ask_plan
 from gridfs_client.contents import Inline
@@ -237,7 +238,7 @@ class Common(unittest.TestCase):
             self.s3.put_object(Bucket=bucket, Key=key, Body=b"hello", **more)
 
     def until(self, what):
-        until = time.monotonic() + PATIENCE
+        until = time.monotonic() + longer(PATIENCE)
         while not what():
             self.assertLess(time.monotonic(), until, self.found.told())
             time.sleep(0.1)

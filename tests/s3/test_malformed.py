@@ -16,6 +16,7 @@ import xml.etree.ElementTree as ElementTree
 from urllib.parse import quote
 
 sys.path.insert(0, os.path.dirname(os.path.abspath(__file__)))
+from busy import longer
 import endpoint
 
 from botocore.auth import S3SigV4Auth
@@ -38,7 +39,7 @@ def setUpModule():
 
 def exchange(data, more=()):
     """What is told to these bytes, and to more of them a moment later, until the connection ends or an answer is whole."""
-    with socket.create_connection(("127.0.0.1", GATEWAY.port), timeout=60) as connection:
+    with socket.create_connection(("127.0.0.1", GATEWAY.port), timeout=longer(60)) as connection:
         told = b""
         try:
             connection.sendall(data)
@@ -131,14 +132,14 @@ class Malformed(unittest.TestCase):
         """Many requests at once on one of them; another protocol, and what comes then; first heads that never end."""
         before = self.grown()
         for data in (b"GET / HTTP/1.1\r\nHost: a\r\n\r\n" * 100_000, b"GET / HTTP/1.1\r\nHost: a\r\nConnection: Upgrade\r\nUpgrade: websocket\r\n\r\n" + b"x" * 60_000_000):
-            with socket.create_connection(("127.0.0.1", GATEWAY.port), timeout=60) as connection:
+            with socket.create_connection(("127.0.0.1", GATEWAY.port), timeout=longer(60)) as connection:
                 connection.settimeout(3)
                 with contextlib.suppress(OSError):
                     connection.sendall(data)
                 self.tells(403, "AccessDenied", b"GET / HTTP/1.1\r\nHost: a\r\n\r\n")
                 self.assertLess(self.grown(), before + 40)
         data = b"GET / HTTP/1.1\r\nHost: a\r\n\r\n" * 50
-        with socket.create_connection(("127.0.0.1", GATEWAY.port), timeout=60) as connection:
+        with socket.create_connection(("127.0.0.1", GATEWAY.port), timeout=longer(60)) as connection:
             connection.sendall(data)
             told = b""
             while told.count(b"AccessDenied") < 50:
@@ -225,7 +226,7 @@ class Malformed(unittest.TestCase):
     def test_a_client_that_leaves(self):
         """Amid a body, of any length."""
         for length in (100, 3_000_000):
-            with socket.create_connection(("127.0.0.1", GATEWAY.port), timeout=60) as connection:
+            with socket.create_connection(("127.0.0.1", GATEWAY.port), timeout=longer(60)) as connection:
                 connection.sendall(signed("PUT", "/one/a") + f"Content-Length: {length}\r\n\r\n".encode() + b"x" * (length // 2))
         time.sleep(0.3)
 
@@ -276,7 +277,7 @@ class Malformed(unittest.TestCase):
         """No more is done of them, and no fault is told."""
         body = b"<Delete>" + b"".join(b"<Object><Key>none-%d</Key></Object>" % number for number in range(900)) + b"</Delete>"
         for _ in range(3):
-            with socket.create_connection(("127.0.0.1", GATEWAY.port), timeout=60) as connection:
+            with socket.create_connection(("127.0.0.1", GATEWAY.port), timeout=longer(60)) as connection:
                 connection.sendall(signed("POST", "/one?delete") + f"Content-Length: {len(body)}\r\n\r\n".encode() + body)
                 time.sleep(0.05)
         time.sleep(2)

@@ -26,6 +26,7 @@ from botocore.credentials import Credentials
 from botocore.exceptions import ClientError
 
 sys.path.insert(0, os.path.dirname(os.path.abspath(__file__)))
+from busy import longer
 import endpoint
 from gridfs_client.asking import ask_plan
 from gridfs_client.layout import layout_of
@@ -54,7 +55,7 @@ def setUpModule():
 def client(access=ACCESS, secret=SECRET, retries=0):
     return boto3.client(
         "s3", endpoint_url=URL, aws_access_key_id=access, aws_secret_access_key=secret, region_name="us-east-1",
-        config=Config(signature_version="s3v4", s3={"addressing_style": "path"}, retries={"max_attempts": retries}, read_timeout=120),
+        config=Config(signature_version="s3v4", s3={"addressing_style": "path"}, retries={"max_attempts": retries}, read_timeout=longer(120)),
     )  # fmt: skip
 
 
@@ -722,7 +723,7 @@ class Requests(Case):
 
         if sign:
             Signer(Credentials(access, secret), "s3", "us-east-1").add_auth(request)
-        connection = http.client.HTTPConnection(address.hostname, address.port, timeout=120)
+        connection = http.client.HTTPConnection(address.hostname, address.port, timeout=longer(120))
         connection.request(method, path, data if data is not None else body, dict(request.headers))
         told = connection.getresponse()
         return told.status, told.read(), request
@@ -788,7 +789,7 @@ class Requests(Case):
             at = body.index(b"\r\n") + 2 + spoil
             body = body[:at] + bytes([body[at] ^ 1]) + body[at + 1 :]
         address = urlsplit(URL)
-        connection = http.client.HTTPConnection(address.hostname, address.port, timeout=120)
+        connection = http.client.HTTPConnection(address.hostname, address.port, timeout=longer(120))
         connection.request("PUT", path, body, dict(request.headers))
         told = connection.getresponse()
         return told.status, told.read(), None
@@ -859,7 +860,7 @@ class Requests(Case):
         """The headers of checksums that an object is told with."""
         address, request = urlsplit(URL), AWSRequest("HEAD", f"{URL}/{self.bucket}/{key}", {"x-amz-checksum-mode": "ENABLED"})
         S3SigV4Auth(Credentials(ACCESS, SECRET), "s3", "us-east-1").add_auth(request)
-        connection = http.client.HTTPConnection(address.hostname, address.port, timeout=120)
+        connection = http.client.HTTPConnection(address.hostname, address.port, timeout=longer(120))
         connection.request("HEAD", f"/{self.bucket}/{key}", None, dict(request.headers))
         return {name.lower()[15:]: value for name, value in connection.getresponse().getheaders() if name.lower().startswith("x-amz-checksum-")}
 
@@ -953,7 +954,7 @@ class Requests(Case):
         signer.canonical_request = lambda request: before(request).encode("latin1").decode()  # (what is signed are the bytes)
         signer.add_auth(request)
         address = urlsplit(URL)
-        connection = http.client.HTTPConnection(address.hostname, address.port, timeout=120)
+        connection = http.client.HTTPConnection(address.hostname, address.port, timeout=longer(120))
         connection.request("PUT", f"/{self.bucket}/metadata", b"x", dict(request.headers))
         told = connection.getresponse()
         self.assertEqual((told.status, told.read()), (200, b""))
@@ -985,7 +986,7 @@ class Lent(Case):
     def command(self, *words, given=None):
         client = os.path.join(endpoint.HERE, "..", "..", "clients", "python", "gridfs-client")
         settings = ["--config", f"{ROOM}/carol.ini", "--locks", f"{ROOM}/locks"]
-        return subprocess.run([sys.executable, "-B", client, *settings, *words], input=given, capture_output=True, timeout=60, check=True).stdout
+        return subprocess.run([sys.executable, "-B", client, *settings, *words], input=given, capture_output=True, timeout=longer(60), check=True).stdout
 
     def test_a_command_on_the_same_machine(self):
         """The gateway has all sessions, and lends one; then it judges conditions again."""

@@ -18,23 +18,27 @@ import code_of_s3  # noqa: F401  (which says where the code is)
 import apart
 import endpoint
 import test_beside
+from busy import longer
 from gridfs_client.errors import BadSettings
 from gridfs_client.settings import Settings
 from gridfs_s3 import peers, remote
 from gridfs_s3.all_pages import AllPages
 from gridfs_s3.claims import answer
 from gridfs_s3.grids import Grids
-from gridfs_s3.peers import MOST_ASKING, NEVER, PATIENCE, Told
+from gridfs_s3.peers import MOST_ASKING, NEVER, Told
 from gridfs_s3.remote import Remote
 from gridfs_s3.sessions import Pool
 from test_going_on import listed
 
 KEY, OTHER = b"a secret of the tenant", b"a secret of another tenant"
 TOLD = Told("start", frozenset({5, 6}), 9, frozenset({7}))
+PATIENCE = longer(peers.PATIENCE)  # seconds for an answer, of all that is in this process
 
 
 def setUpModule():
     global SECRET, BEFORE
+    for module in (peers, remote):
+        unittest.enterModuleContext(mock.patch.object(module, "PATIENCE", PATIENCE))
     folder = unittest.enterModuleContext(tempfile.TemporaryDirectory(prefix="gridfs-certificates-"))
     for name in ("before", "now"):
         os.mkdir(f"{folder}/{name}")
@@ -260,7 +264,7 @@ class Between(unittest.TestCase):
             return [*seconds, time.monotonic() - begin]
 
         first, second, third, later = self.beside(work)
-        self.assertTrue(PATIENCE <= first < 5 and second + third < PATIENCE <= later < 5, (first, second, third, later))
+        self.assertTrue(PATIENCE <= first < 5 * PATIENCE and second + third < PATIENCE <= later < 5 * PATIENCE, (first, second, third, later))
         self.assertEqual(len(self.lines), 2)  # (told once)
         self.assertIn("127.0.0.1:1 tells nothing: Connect call failed", "".join(self.lines))
 

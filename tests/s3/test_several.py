@@ -16,6 +16,7 @@ from botocore.exceptions import BotoCoreError, ClientError
 
 sys.path.insert(0, os.path.dirname(os.path.abspath(__file__)))
 import endpoint
+from busy import longer
 from code_of_s3 import GATEWAY
 
 PLAN = "grid 2 2\nroom 3000000\n" + "".join(f"tenant {name} 1400000 8 1000 16384\n" for name in ("carol", "dave")) + "go\n" + "".join(
@@ -54,7 +55,7 @@ def own_memory(pid):
 
 
 def until(told):
-    end = time.monotonic() + PATIENCE
+    end = time.monotonic() + longer(PATIENCE)
     while not (found := told()):
         assert time.monotonic() < end
         time.sleep(0.05)
@@ -226,7 +227,7 @@ class Several(unittest.TestCase):
         self.start()
         pids = list(map(self.pid_of, TENANTS))
         self.process.terminate()
-        self.assertEqual(self.process.wait(PATIENCE), 0)
+        self.assertEqual(self.process.wait(longer(PATIENCE)), 0)
         self.assertFalse(list(filter(is_there, pids)))
         self.start()
         pids = list(map(self.pid_of, TENANTS))
@@ -248,10 +249,10 @@ class Several(unittest.TestCase):
             (other, f"an earlier line listens at 127.0.0.1:{self.ports['carol']}"),
         ):
             self.start(self.line("carol"), line)
-            self.assertEqual(self.process.wait(PATIENCE), 2)
+            self.assertEqual(self.process.wait(longer(PATIENCE)), 2)
             self.assertEqual(self.told(), f"gridfs-s3: {self.file}: line 4: {why}\n")
         self.start("# nobody\n")
-        self.assertEqual((self.process.wait(PATIENCE), self.told()), (2, f"gridfs-s3: {self.file}: no line has a gateway\n"))
+        self.assertEqual((self.process.wait(longer(PATIENCE)), self.told()), (2, f"gridfs-s3: {self.file}: no line has a gateway\n"))
 
     @unittest.skipUnless(os.getuid() == 0, "who is not root can't be another user")
     def test_users(self):

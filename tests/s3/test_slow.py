@@ -19,6 +19,7 @@ from urllib.parse import urlsplit
 sys.path.insert(0, os.path.dirname(os.path.abspath(__file__)))
 import endpoint
 import test_malformed
+from busy import longer
 from code_of_s3 import CODE
 from gridfs_s3 import bounds
 
@@ -26,9 +27,9 @@ KEYS = f"carol {endpoint.SECRET}\ncarol.one {endpoint.SECRET} bucket=one\n"
 POLICY = json.dumps({"Statement": {"Effect": "Allow", "Principal": "*", "Action": "s3:GetObject", "Resource": "arn:aws:s3:::open/*"}})
 MIB = 1 << 20
 PATIENCE = 60  # seconds until all of it has come
-AT_ONCE, LATE, AT_MOST = 16, 0.04, 2  # puts; seconds for which a node takes its time; seconds that each put may take
+AT_ONCE, LATE, AT_MOST = 16, 0.04, 2  # puts; seconds for which a node takes its time; seconds that each put may wait
 LONG_PLAN = os.path.join(endpoint.HERE, "..", "..", "deploy", "s3", "plan")  # with many pages
-SOON = 20  # seconds that a small request may take on a machine that does much else
+SOON = 20  # seconds that a small request may take
 
 
 def setUpModule():
@@ -73,7 +74,7 @@ class Slow(unittest.TestCase):
             told = getattr(S3, call)(Bucket="two", **words)
             if "Body" in told:
                 told["Body"].read()
-            self.assertLess(time.monotonic() - begun, SOON, call)
+            self.assertLess(time.monotonic() - begun, longer(SOON), call)
         return told
 
     def grown(self):
@@ -120,10 +121,11 @@ class Slow(unittest.TestCase):
         """Of what anybody may read little more is on disk than is taken."""
         for _ in range(12):
             self.come(f"GET /open/long HTTP/1.1\r\nHost: 127.0.0.1:{GATEWAY.port}\r\n\r\n".encode(), taken=4_096)
-        until = time.monotonic() + PATIENCE
+        until = time.monotonic() + longer(PATIENCE)
         while (held := endpoint.held_in_files(GATEWAY.process.pid)) < 12 * MIB and time.monotonic() < until:
             time.sleep(0.2)
-        time.sleep(3)
+        for _ in range(2):  # (in which as much could be read for strangers)
+            S3.get_object(Bucket="open", Key="long")["Body"].read()
         self.assertGreaterEqual(held, 12 * MIB)
         self.assertLessEqual(endpoint.held_in_files(GATEWAY.process.pid), 24 * MIB)
         self.served()
@@ -211,12 +213,12 @@ class Strangers(unittest.TestCase):
                 self.assertRegex(file.read(), r"Max open files +4096 +4096")
             forms = []
             for _ in range(40):
-                forms.append(stack.enter_context(socket.create_connection(("127.0.0.1", found.port), timeout=60)))
+                forms.append(stack.enter_context(socket.create_connection(("127.0.0.1", found.port), timeout=longer(60))))
                 forms[-1].sendall(head)
                 time.sleep(0.1)  # (so that each has begun its form when the next one comes)
             begun = time.monotonic()
             found.client(read_timeout=SOON).list_buckets()
-            self.assertLess(time.monotonic() - begun, SOON)
+            self.assertLess(time.monotonic() - begun, longer(SOON))
             with contextlib.suppress(ConnectionResetError):
                 forms[0].settimeout(0.2)  # (it ended when others came, and not since it is slow)
                 self.assertEqual(forms[0].recv(100), b"")
@@ -229,7 +231,7 @@ class ManyPages(unittest.TestCase):
     """Nodes that take their time, and a gateway that knows none of its pages yet."""
 
     def test_puts_at_once(self):
-        """None waits for long while the pages of others are settled, by all sessions each."""
+        """None waits for long while the pages of others are settled, by all sessions each: beyond what such puts take on this machine now, once that is over."""
         room = self.enterContext(endpoint.stand_in(LONG_PLAN))
         (gateway,) = self.enterContext(endpoint.gateways(room))
         gateway.client().create_bucket(Bucket="one")
@@ -245,8 +247,9 @@ class ManyPages(unittest.TestCase):
             return time.monotonic() - begun
 
         with ThreadPoolExecutor(AT_ONCE) as pool:
-            took = sorted(pool.map(put_by, range(AT_ONCE)))
-        self.assertLess(took[-1], AT_MOST, took)
+            took, *later = [sorted(pool.map(put_by, range(AT_ONCE))) for _ in range(4)]
+        by_itself = min(each[-1] for each in later)
+        self.assertLess(took[-1] - by_itself, longer(AT_MOST), (took, by_itself))
 
 
 class Places(unittest.IsolatedAsyncioTestCase):

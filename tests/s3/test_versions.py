@@ -14,6 +14,7 @@ sys.path.insert(0, os.path.dirname(os.path.abspath(__file__)))
 import endpoint
 import test_malformed
 from botocore.exceptions import ClientError
+from busy import longer
 from test_lifecycle import OFTEN, PATIENCE, QUIET, Common
 
 # Keys that are names, and such as are none; one that stands in the page of another name's choice, and one that begins as another does.
@@ -187,7 +188,7 @@ class Versions(Common):
     def slow(self, method, path, first):
         """A request whose body has come but for its last byte."""
         head = test_malformed.signed(method, path) + f"Content-Length: {len(first) + 1}\r\n\r\n".encode()
-        made = self.enterContext(socket.create_connection(("127.0.0.1", self.found.port), timeout=PATIENCE))
+        made = self.enterContext(socket.create_connection(("127.0.0.1", self.found.port), timeout=longer(PATIENCE)))
         made.sendall(head + first)
         return made
 
@@ -208,7 +209,7 @@ class Versions(Common):
         def begin():
             """All three, but for their last byte."""
             posted = "".join(lines).encode()
-            made = self.enterContext(socket.create_connection(("127.0.0.1", self.found.port), timeout=PATIENCE))
+            made = self.enterContext(socket.create_connection(("127.0.0.1", self.found.port), timeout=longer(PATIENCE)))
             head = f"POST /some HTTP/1.1\r\nHost: a\r\nContent-Type: multipart/form-data; boundary=B\r\nContent-Length: {len(posted) + 1}\r\n\r\n"
             made.sendall(head.encode() + posted)
             asked = [self.slow("PUT", "/some/put", b"new"), made]
