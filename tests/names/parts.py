@@ -14,6 +14,7 @@ from histories import HERE
 
 sys.path[:0] = [os.path.join(HERE, "..", "nodes"), os.path.join(HERE, "..")]
 os.environ["PATH"] += ":/usr/sbin"  # (where Debian has mosquitto and nginx)
+import beside
 import commands
 import growing
 import looking
@@ -113,6 +114,20 @@ def bugs_in_splits():
     """Each wrong variant of how pages split is found."""
     missed = [f"{name} is not found" for name in splitting.VARIANTS if not splitting.refuses(name)]
     return f"{len(splitting.VARIANTS)} wrong variants in worlds of pages that split", missed
+
+
+def beside_core(seed, counts):
+    """The client in Rattle, beside the core."""
+    try:
+        return beside.compare(beside.built(), counts, seed), []
+    except (beside.Differs, worlds.Wrong) as fault:
+        return f"seed {seed}", ["differs: " + "; ".join(str(each)[:500] for each in fault.args)]
+
+
+def bugs_beside():
+    """Each bug of the core makes it differ from the client in Rattle."""
+    missed = [f"{name} is not found" for name in beside.PLANTED if not beside.is_found(beside.built(), name)]
+    return f"{len(beside.PLANTED)} bugs of the core, beside the client in Rattle", missed
 
 
 def search_splits(bounds):

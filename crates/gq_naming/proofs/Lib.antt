@@ -1,0 +1,9 @@
+pub mod Found
+pub mod Kept
+pub mod ChangesStep
+pub mod Numbers
+pub mod ChangedPages
+pub mod Closed
+pub mod Telling
+pub mod ClientSteps
+pub mod LookSteps

@@ -1,0 +1,4 @@
+pub mod Form
+pub mod Page
+pub mod Text
+pub mod Laws
