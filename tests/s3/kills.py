@@ -28,6 +28,7 @@ import time
 from dataclasses import replace
 
 sys.path.insert(0, os.path.dirname(os.path.abspath(__file__)))
+from busy import longer
 import code_of_s3
 import apart
 import endpoint
@@ -270,6 +271,16 @@ class Growing(Indexed):
         super().look_at_last()
 
 
+def killed_after(seconds, process, does):
+    """What is done, amid which a process is killed after so many seconds."""
+    timer = threading.Timer(seconds, process.kill)
+    timer.start()
+    try:
+        return does()
+    finally:
+        timer.cancel()
+
+
 class Lent(Indexed):
     """Beside it a client of names, to which it lends a session for each operation, is killed again and again. Listings mind its note, amid what it does and behind that."""
 
@@ -288,10 +299,8 @@ class Lent(Indexed):
             number += 1
             words = [sys.executable, "-B", os.path.join(HERE, "beside_client.py"), gateway.settings, os.path.join(gateway.room, "locks"), self.bucket, KEYS, number]
             with subprocess.Popen(list(map(str, words)), env={**os.environ, "PYTHONPATH": CODE}, stdout=subprocess.PIPE, text=True) as process:
-                timer = threading.Timer(self.draw.uniform(2, 6), process.kill)
-                timer.start()
-                self.note_lines(process.stdout)
-                timer.cancel()
+                first = killed_after(longer(10), process, process.stdout.readline)  # (its time begins once it does something, however slowly it starts)
+                killed_after(self.draw.uniform(2, 6), process, lambda: self.note_lines(itertools.chain([first], process.stdout)))
 
     def note_lines(self, lines):
         """What such a client did, as its lines tell it."""

@@ -213,9 +213,9 @@ class CarriedGrid:
         """Waits until each of these nodes, since it was started, has read its journal and its carrier is connected. Those whose journal is damaged,
         which end. NotStarted where another one ends, or is not ready in time."""
         until = time.monotonic() + sum(seconds_to_start(journal_of(self.folder, number)) for number in numbers)
-        return [number for number in numbers if not self.wait_until_ready(number, until)]
+        return [number for number in numbers if not self.wait_for_node(number, until)]
 
-    def wait_until_ready(self, number, until):
+    def wait_for_node(self, number, until):
         """Whether the node is ready, and not ended since its journal is damaged."""
         while True:
             status, told = self.processes[number].poll(), self.told_since_start(number)
