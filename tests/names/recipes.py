@@ -15,7 +15,7 @@ from with_room import Seen, run
 
 TENANT, NEW = with_room.TENANT, "erin"
 MOVED = 3  # the node that moves; its row is read from while the other row is not whole
-NAMES, BYTES = 6, 30_000  # of each step
+NAMES, BYTES = 3, 30_000  # of each step
 
 
 class Names:
